@@ -1,0 +1,59 @@
+-- What document 01 says of each operation code. Assumes nothing.
+use mathlib.Core.Bool.{Bool, true, false, not, _&&_, _||_, cond}
+use Prim.Native.Nat.{ℕ, zero, suc, _+_, _-_, _*_, _/_, _%_}
+use mathlib.Core.List.{List, [], _∷_, _++_, map}
+use lib.ListN.{length, getD}
+use lib.Dec.{eqb, leb, ltb}
+use Rattle.plank_core.specs.Lists.{mem}
+
+abbrev pub between : ℕ → ℕ → ℕ → Bool
+between lo hi c = leb lo c && leb c hi
+
+-- the operand counts of a code, (inputs, outputs), where they are fixed
+abbrev pub arity : ℕ → ℕ × ℕ
+arity c =
+    cond (eqb c 0 || between 27 33 c || between 36 42 c || between 44 46 c || between 48 51 c) (2, 1)
+    (cond (mem c (1 ∷ 2 ∷ 5 ∷ 13 ∷ 21 ∷ 22 ∷ 43 ∷ 47 ∷ 52 ∷ 84 ∷ 85 ∷ []) || between 8 11 c) (1, 1)
+    (cond (mem c (15 ∷ 34 ∷ 35 ∷ [])) (3, 1)
+    (cond (eqb c 16) (4, 1)
+    (cond (mem c (17 ∷ 18 ∷ [])) (7, 1)
+    (cond (mem c (19 ∷ 20 ∷ [])) (6, 1)
+    (cond (mem c (3 ∷ 4 ∷ 7 ∷ 23 ∷ [])) (3, 0)
+    (cond (eqb c 6) (4, 0)
+    (cond (mem c (12 ∷ 14 ∷ 24 ∷ 76 ∷ 78 ∷ [])) (2, 0)
+    (cond (between 71 75 c) (2 + (c - 71), 0)
+    (cond (eqb c 80) (1, 0)
+    (cond (mem c (77 ∷ 79 ∷ 89 ∷ [])) (0, 0)
+    (0, 1))))))))))))
+
+-- are these operand counts right for the code? 25 takes any to any, 26 any to 0
+abbrev pub arityOk : ℕ → ℕ → ℕ → Bool
+arityOk c i o =
+    cond (eqb c 25) true
+    (cond (eqb c 26) (eqb o 0)
+    (eqb i (arity c .0) && eqb o (arity c .1)))
+
+abbrev pub isStaticAlloc : ℕ → Bool
+isStaticAlloc c = eqb c 82 || eqb c 83
+
+abbrev pub isDynamicAlloc : ℕ → Bool
+isDynamicAlloc c = eqb c 21 || eqb c 22
+
+abbrev pub isAlloc : ℕ → Bool
+isAlloc c = isStaticAlloc c || isDynamicAlloc c
+
+abbrev pub derives : ℕ → Bool
+derives c = between 27 37 c || between 44 51 c || eqb c 85
+
+-- is input position k of the code an escaping operand?
+abbrev pub escaping : ℕ → ℕ → Bool
+escaping c k =
+    cond (eqb c 0 || eqb c 24) (eqb k 1)
+    (cond (mem c (3 ∷ 4 ∷ 7 ∷ [])) (mem k (1 ∷ 2 ∷ []))
+    (cond (eqb c 6) (mem k (0 ∷ 2 ∷ 3 ∷ []))
+    (cond (eqb c 15) (mem k (0 ∷ 2 ∷ []))
+    (cond (eqb c 16) (mem k (0 ∷ 2 ∷ 3 ∷ []))
+    (cond (mem c (17 ∷ 18 ∷ [])) (mem k (0 ∷ 1 ∷ 2 ∷ 4 ∷ 6 ∷ []))
+    (cond (mem c (19 ∷ 20 ∷ [])) (mem k (0 ∷ 1 ∷ 3 ∷ 5 ∷ []))
+    (cond (eqb c 23) (eqb k 2)
+    (mem c (1 ∷ 2 ∷ 5 ∷ 21 ∷ 22 ∷ 25 ∷ 26 ∷ []) || between 8 14 c))))))))

@@ -1,0 +1,6 @@
+pub mod Pages
+pub mod Records
+pub mod Codes
+pub mod Rules
+pub mod WellFormed
+pub mod laws

@@ -1,0 +1,2 @@
+// Layer 2: the image.
+pub mod pages;

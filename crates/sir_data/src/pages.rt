@@ -1,0 +1,5 @@
+use plank_core::index::BlockId;
+
+pub fn twice(b: BlockId) -> u32 {
+    b.0 / 2
+}
