@@ -1,1 +1,3 @@
 pub mod Lists
+pub mod Bits
+pub mod DenseIndexSet

@@ -1,3 +1,5 @@
-// Layer 1: typed numbers, spans and sets of numbers below 512.
+// Layer 1: typed numbers, spans, and sets of numbers below 512, one by one and as rows of a table.
+pub mod dense_index_set;
 pub mod index;
+pub mod rows;
 pub mod span;

@@ -1,13 +1,15 @@
 -- Laws of tests and of the small functions on lists. Assumes nothing.
 use mathlib.Core.Path.{_≡_, refl, sym, ap, _∙_, subst}
 use mathlib.Core.Logic.{_↔_, ⊎-elim, _⊎_, inl, inr}
-use mathlib.Core.Bool.{Bool, true, false, not, _&&_, _||_, cond}
+use mathlib.Core.Bool.{Bool, true, false, not, _&&_, _||_, cond, or-false, or-assoc}
+use native.Mathlib.Nat.{add-zero, add-suc, suc-add}
 use Prim.Native.Nat.{ℕ, zero, suc, _+_, _-_, _≤_, _<_}
 use native.Mathlib.Omega.{arith}
 use mathlib.Core.List.{List, [], _∷_, _++_, map, reverse, reverseAux, List·Memᴰ, List·Memᴰ·head, List·Memᴰ·tail, List·Memᴰ·not-nil, List·Memᴰ·cases-cons, List·Memᴰ·append-cases, Memᴰ·append-left, Memᴰ·append-right}
+use lib.ListN.{length, getD}
 use lib.Dec.{eqb, T}
 use borrow.Author.Tests.{eqb-true, eqb-false, eq-eqb}
-use Rattle.plank_core.specs.Lists.{count, range, upto, bind, all, mem, distinct}
+use Rattle.plank_core.specs.Lists.{count, range, upto, bind, all, any, keep, mem, distinct}
 
 -- ---- tests
 
@@ -170,3 +172,83 @@ bit-most false = omega arith
 pub bit-some : (t : Bool) → 1 ≤ bit t → t ≡ true
 bit-some true h = refl
 bit-some false h = absurd (omega arith)
+
+-- ---- numbers in turn
+
+pub split : (a b : ℕ) → (a < b) ⊎ (b ≤ a)
+split a zero = inr (omega arith)
+split zero (suc b) = inl (omega arith)
+split (suc a) (suc b) = ⊎-elim (λ (p : a < b). inl (omega arith)) (λ (q : b ≤ a). inr (omega arith)) (split a b)
+
+module _ {A : Type 0} where
+  pub length-count : (f : ℕ → A) (s n : ℕ) → length (map f (count s n)) ≡ n
+  length-count f s zero = refl
+  length-count f s (suc n) = ap suc (length-count f (suc s) n)
+
+  pub getD-map-count : (d : A) (f : ℕ → A) (s n j : ℕ) → j < n → getD (map f (count s n)) j d ≡ f (s + j)
+  getD-map-count d f s zero j h = absurd (omega arith)
+  getD-map-count d f s (suc n) zero h = ap f (omega arith)
+  getD-map-count d f s (suc n) (suc j) h = getD-map-count d f (suc s) n j (omega arith) ∙ ap f (omega arith)
+
+pub length-upto : (n : ℕ) → length (upto n) ≡ n
+length-upto n = go 0 n
+  where
+    go : (s n : ℕ) → length (count s n) ≡ n
+    go s zero = refl
+    go s (suc n) = ap suc (go (suc s) n)
+
+pub any-some : (p : ℕ → Bool) (s n i : ℕ) → s ≤ i → i < s + n → p i ≡ true → any p (count s n) ≡ true
+any-some p s zero i a b h = absurd (omega arith)
+any-some p s (suc n) i a b h = go (eqb i s) refl (any-some p (suc s) n i)
+  where
+    go : (t : Bool) → eqb i s ≡ t → (suc s ≤ i → i < suc s + n → p i ≡ true → any p (count (suc s) n) ≡ true) → (p s || any p (count (suc s) n)) ≡ true
+    go true e rest = let q : p s ≡ true = ap p (sym (eqb-true i s e)) ∙ h in rw q
+    go false e rest = let ne : ¬ (i ≡ s) = eqb-false i s e in or-true-right (p s) _ (rest (omega arith) (omega arith) h)
+
+pub any-none : (p : ℕ → Bool) (s n : ℕ) → ((i : ℕ) → s ≤ i → i < s + n → p i ≡ false) → any p (count s n) ≡ false
+any-none p s zero h = refl
+any-none p s (suc n) h = rw (h s (omega arith) (omega arith)) (any-none p (suc s) n (λ i a b. h i (omega arith) (omega arith)))
+
+pub any-find : (p : ℕ → Bool) (s n : ℕ) → any p (count s n) ≡ true → (i : ℕ) × (s ≤ i) × (i < s + n) × (p i ≡ true)
+any-find p s zero h = none false h refl
+any-find p s (suc n) h = ⊎-elim (λ (e : p s ≡ true). (s, omega arith, omega arith, e)) (λ (e : any p (count (suc s) n) ≡ true). let r = any-find p (suc s) n e in (r .0, omega arith, omega arith, r .3)) (or-cases (p s) (any p (count (suc s) n)) h)
+
+-- none of them, so not this one
+pub any-not : (p : ℕ → Bool) (s n i : ℕ) → any p (count s n) ≡ false → s ≤ i → i < s + n → p i ≡ false
+any-not p s n i h a b = ⊎-elim (λ (e : p i ≡ true). none _ (any-some p s n i a b e) h) (λ (e : p i ≡ false). e) (bool-or (p i))
+
+pub any-next : (p : ℕ → Bool) (s n : ℕ) → any p (count s (n + 1)) ≡ (any p (count s n) || p (s + n))
+any-next p s zero = rw add-zero (or-false (p s))
+any-next p s (suc n) = rw (suc-add, any-next p (suc s) n, suc-add, add-suc) (sym (or-assoc (p s) _ _))
+
+-- ---- keeping some of a list
+
+keep-length : (t u : Bool) (x : ℕ) (xs ys : List ℕ) → (t ≡ true → u ≡ true) → length xs ≤ length ys → length (cond t (x ∷ xs) xs) ≤ length (cond u (x ∷ ys) ys)
+keep-length true u x xs ys h l = rw (h refl) (omega arith)
+keep-length false true x xs ys h l = omega arith
+keep-length false false x xs ys h l = l
+
+-- what keeps more is no shorter, and is longer where it keeps a member that the other leaves
+pub keep-le : (p q : ℕ → Bool) (xs : List ℕ) → ((x : ℕ) → p x ≡ true → q x ≡ true) → length (keep p xs) ≤ length (keep q xs)
+keep-le p q [] h = omega arith
+keep-le p q (x ∷ xs) h = keep-length (p x) (q x) x (keep p xs) (keep q xs) (h x) (keep-le p q xs h)
+
+pub keep-lt : (p q : ℕ → Bool) (x : ℕ) {xs : List ℕ} → ((y : ℕ) → p y ≡ true → q y ≡ true) → p x ≡ false → q x ≡ true → List·Memᴰ x xs → length (keep p xs) < length (keep q xs)
+keep-lt p q x h n y (List·Memᴰ·head {x = z} {xs = xs} e) =
+    let a : p z ≡ false = ap p (sym e) ∙ n in
+    let b : q z ≡ true = ap q (sym e) ∙ y in
+    rw (a, b) (omega (arith, keep-le p q xs h))
+keep-lt p q x h n y (List·Memᴰ·tail {x = z} {xs = xs} m) = go (p z) (q z) (h z) (keep-lt p q x h n y m)
+  where
+    go : (t u : Bool) → (t ≡ true → u ≡ true) → length (keep p xs) < length (keep q xs) → length (cond t (z ∷ keep p xs) (keep p xs)) < length (cond u (z ∷ keep q xs) (keep q xs))
+    go true u g l = rw (g refl) (omega arith)
+    go false true g l = omega arith
+    go false false g l = l
+
+pub keep-most : (p : ℕ → Bool) (xs : List ℕ) → length (keep p xs) ≤ length xs
+keep-most p [] = omega arith
+keep-most p (x ∷ xs) = go (p x) (keep-most p xs)
+  where
+    go : (t : Bool) → length (keep p xs) ≤ length xs → length (cond t (x ∷ keep p xs) (keep p xs)) ≤ suc (length xs)
+    go true l = omega arith
+    go false l = omega arith
