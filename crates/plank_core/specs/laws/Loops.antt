@@ -4,9 +4,9 @@ use mathlib.Core.Bool.{Bool, true, false, _&&_, _||_}
 use Prim.Native.Nat.{ℕ, zero, suc, _+_, _-_, _≤_, _<_}
 use native.Mathlib.Numerals.{add-one}
 use native.Mathlib.Omega.{arith}
-use mathlib.Core.List.{List, [], _∷_, _++_, map, append-assoc}
-use lib.ListN.{length, getD, drop, set, length-append, length-drop, length-map}
-use lib.Seq.{drop-cons, set-at}
+use mathlib.Core.List.{List, [], _∷_, _++_, map, append-assoc, append-nil}
+use lib.ListN.{length, getD, take, drop, set, drop-of-length-le, length-append, length-drop, length-map}
+use lib.Seq.{drop-cons, set-at, take-all, take-at, drop-at, drop-drop}
 use Rattle.plank_core.specs.Lists.{count, range, upto, all, any, sum}
 
 -- ---- the numbers of a loop
@@ -129,3 +129,19 @@ module _ {A : Type 0} (f : ℕ → A) where
 
   pub getD-map-upto : (n i : ℕ) (d : A) → i < n → getD (map f (upto n)) i d ≡ f i
   getD-map-upto n i d h = getD-map-count 0 n i d h ∙ ap f (omega arith)
+
+-- ---- the end of a slice from a on, lent: all that was there is lent, and nothing stands after it
+
+module _ {A : Type 0} (a : ℕ) (xs : List A) where
+  pub lent-end : take (length xs - a) (drop a xs) ≡ drop a xs
+  lent-end = take-all (length xs - a) (drop a xs) (rw length-drop (omega arith))
+
+  pub after-end : drop (length xs - a) (drop a xs) ≡ []
+  after-end = drop-of-length-le (drop a xs) {i = length xs - a} (rw length-drop (omega arith))
+
+-- f 0, .., f (n - 1) stand at the front of xs, and the end from n on is lent to store the next m
+pub fill-part : {A : Type 0} (f : ℕ → A) (n m : ℕ) (d : List A) {xs part : List A} → xs ≡ map f (upto n) ++ drop n d → part ≡ map (λ i. f (n + i)) (upto m) ++ drop m (take (length xs - n) (drop n xs)) → take n xs ++ (part ++ drop (length xs - n) (drop n xs)) ≡ map f (upto (n + m)) ++ drop (n + m) d
+fill-part {A} f n m d {xs} {part} e h =
+    let front : take n xs ≡ map f (upto n) = rw e (take-at (map f (upto n)) (drop n d) n (length-map-upto f n)) in
+    let end : drop n xs ≡ drop n d = rw e (drop-at (map f (upto n)) (drop n d) n (length-map-upto f n)) in
+    rw (h, after-end n xs, lent-end n xs, front, end, append-nil, drop-drop m n d, map-add f n m, append-assoc)

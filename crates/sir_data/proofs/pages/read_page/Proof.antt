@@ -1,62 +1,72 @@
+-- `read_page` meets its contract. The loop's invariant: k payload words are stored, and the rest is as it was.
+use mathlib.Core.Path.{_≡_, refl, sym, ap, _∙_}
+use mathlib.Core.Bool.{Bool, not}
+use mathlib.Core.List.{List, _++_, map}
+use Prim.Native.Nat.{ℕ, _+_, _*_, _-_, _/_, _%_, _≤_}
+use native.Mathlib.Omega.{arith}
+use borrow.Author.Needs.{needs}
+use borrow.Author.Tests.{eq-eqb, ne-eqb}
+use lib.Dec.{eqb}
+use lib.ListN.{length, drop, length-set}
+use Rattle.plank_core.specs.Lists.{upto}
+use Rattle.plank_core.specs.laws.Loops.{fill-step}
+use Rattle.sir_data.specs.Pages.{pageWord}
 use Rattle.sir_data.proofs.pages.read_page.Statement.{statement}
 use Rattle.sir_data.proofs.pages.read_page.Tie as tie
 use Rattle.sir_data.proofs.pages.read_page.Reads as reads
 use Rattle.sir_data.proofs.pages.read_page.Lts as lts
 use Rattle.sir_data.proofs.pages.word_at.Reads as word-at-reads
 
+-- payload word k of a page
+abbrev taken : List ℕ → ℕ → ℕ → ℕ
+taken s p k = pageWord s p (1 + k)
+
 abbrev Inv-loop : tie.InvT-loop
-Inv-loop image page words₀ k₀ words k = ?
+Inv-loop image page words₀ k₀ words k = (k ≤ 126) × (length words ≡ length words₀) × (words ≡ map (taken image page) (upto k) ++ drop k words₀)
 
 abbrev μ-loop : tie.MeasureT-loop
-μ-loop image page words₀ k₀ words k = ?
+μ-loop image page words₀ k₀ words k = 126 - k
 
--- src/pages.rt:107:5
 loop-holds : tie.Need-loop-holds Inv-loop μ-loop
-loop-holds c = ?
+loop-holds c = (omega arith, refl, refl)
 
--- src/pages.rt:108:35
 mul-word-at : tie.Need-mul-word-at Inv-loop μ-loop
-mul-word-at c = ?
+mul-word-at c = omega arith
 
--- src/pages.rt:108:49
 add-word-at : tie.Need-add-word-at Inv-loop μ-loop
-add-word-at c = ?
+add-word-at c = omega arith
 
--- src/pages.rt:108:35
 add-word-at-2 : tie.Need-add-word-at-2 Inv-loop μ-loop
-add-word-at-2 c = ?
+add-word-at-2 c = omega arith
 
--- src/pages.rt:108:20
 word-at-requires : tie.Need-word-at-requires Inv-loop μ-loop
-word-at-requires c κs = ?
+word-at-requires c κs = omega arith
 
--- src/pages.rt:108:9
 mul-words : tie.Need-mul-words Inv-loop μ-loop
-mul-words c = ?
+mul-words c = omega arith
 
--- src/pages.rt:108:9
 slice-write-words : tie.Need-slice-write-words Inv-loop μ-loop
-slice-write-words c = ?
+slice-write-words c = omega arith
 
--- src/pages.rt:109:9
 add-k : tie.Need-add-k Inv-loop μ-loop
-add-k c = ?
+add-k c = omega arith
 
--- src/pages.rt:107:5
 loop-less : tie.Need-loop-less Inv-loop μ-loop
-loop-less c = ?
+loop-less c = omega arith
 
--- src/pages.rt:107:5
 loop-again : tie.Need-loop-again Inv-loop μ-loop
-loop-again c = ?
+loop-again c = 
+    let start = c .before .before .before .before .before in
+    let at-loop = c .before .before .loop in
+    let f = taken (start .args .image .now) (start .args .page) in
+    (omega arith, simp length-set (omega arith), rw (at-loop .inv .2, c .word-at .ensures) (fill-step f (at-loop .k) (start .args .words .now) (omega arith)))
 
--- src/pages.rt:101:1
 same-length : tie.Need-same-length Inv-loop μ-loop
-same-length c = ?
+same-length c = omega arith
 
--- src/pages.rt:101:1
 returns : tie.Need-returns Inv-loop μ-loop
-returns c = ?
+returns c = 
+    let e : c .before .loop .k ≡ 126 = omega arith in rw e at (c .before .loop .inv .2)
 
 pub read-page-spec : {M : Type 1} → statement M
 read-page-spec =
