@@ -53,8 +53,16 @@ module _ (w : ℕ → ℕ) where
   twice (suc n) =
       let e : 2 * suc n + 1 ≡ 2 * n + 1 + 2 = omega arith in
       let last : w (suc n) * (2 * suc n + 1 - 2 * suc n) ≡ w (suc n) * 1 = ap (λ (k : ℕ). w (suc n) * k) (omega arith) in
-      omega (arith, total-suc (λ i. total w (suc i)) (suc n), total-suc w (suc n), total-suc (λ i. w i * (2 * suc n + 1 - 2 * i)) (suc n),
-        twice n, two-more (2 * n + 1) (suc n) (omega arith), ap (λ (m : ℕ). weighed m (suc n)) e, last)
+      omega (
+        arith,
+        total-suc (λ i. total w (suc i)) (suc n),
+        total-suc w (suc n),
+        total-suc (λ i. w i * (2 * suc n + 1 - 2 * i)) (suc n),
+        twice n,
+        two-more (2 * n + 1) (suc n) (omega arith),
+        ap (λ (m : ℕ). weighed m (suc n)) e,
+        last,
+      )
 
 -- wrapped sums: what was wrapped before can be wrapped after
 add-wrapped : {a b : ℕ} (x y : ℕ) → a ≡ x % 2 ^ 32 → b ≡ y % 2 ^ 32 → (a + b) % 2 ^ 32 ≡ (x + y) % 2 ^ 32

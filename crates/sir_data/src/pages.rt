@@ -19,7 +19,10 @@ fn word_at(image: &[u8], i: usize) -> u32
     requires { ⌜ 4 * i + 4 ≤ length (now image) ⌝ }
     ensures { λ r. ⌜ r ≡ wordAt (now (image .entry)) i ⌝ }
 {
-    wide(image[4 * i]) + 256 * wide(image[4 * i + 1]) + 65536 * wide(image[4 * i + 2]) + 16777216 * wide(image[4 * i + 3])
+    wide(image[4 * i])
+        + 256 * wide(image[4 * i + 1])
+        + 65536 * wide(image[4 * i + 2])
+        + 16777216 * wide(image[4 * i + 3])
 }
 
 // The check of a page by two running sums: twice the sum of the sums so far, less the sum, weighs the words 253, 251, .., 1.

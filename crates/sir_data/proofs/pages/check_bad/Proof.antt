@@ -1,22 +1,16 @@
 -- `check_bad` meets its contract. The loop's invariant: the pages that are left decide.
-use mathlib.Core.Path.{_≡_, refl, sym, ap, _∙_}
+use mathlib.Core.Path.{_≡_, sym, _∙_}
 use mathlib.Core.Bool.{Bool, true, false, not}
-use mathlib.Core.List.{List, _++_, map}
-use Prim.Native.Nat.{ℕ, _+_, _*_, _-_, _/_, _%_, _≤_}
+use mathlib.Core.List.{List}
+use Prim.Native.Nat.{ℕ, _-_, _≤_}
 use native.Mathlib.Omega.{arith}
-use borrow.Author.Needs.{needs}
 use borrow.Author.Tests.{eq-eqb, ne-eqb}
 use lib.Dec.{eqb}
-use lib.ListN.{length, drop, length-set}
 use Rattle.plank_core.specs.Lists.{upto, range, any}
 use Rattle.plank_core.specs.laws.Loops.{range-all, any-step, any-stop, any-end}
 use Rattle.sir_data.specs.Pages.{pages, pageWord, checkOf}
 use Rattle.sir_data.proofs.pages.check_bad.Statement.{statement}
 use Rattle.sir_data.proofs.pages.check_bad.Tie as tie
-use Rattle.sir_data.proofs.pages.check_bad.Reads as reads
-use Rattle.sir_data.proofs.pages.check_bad.Lts as lts
-use Rattle.sir_data.proofs.pages.page_check.Reads as page-check-reads
-use Rattle.sir_data.proofs.pages.word_at.Reads as word-at-reads
 
 -- page p has a wrong check
 abbrev wrong : List ℕ → ℕ → Bool
@@ -44,7 +38,7 @@ page-check-requires : tie.Need-page-check-requires Inv-loop μ-loop
 page-check-requires c κs = omega arith
 
 returns : tie.Need-returns Inv-loop μ-loop
-returns c = 
+returns c =
     let s = c .before .before .before .before .before .before .args .image .now in
     let l = c .before .before .before .before .loop in
     let e : wrong s (l .p) ≡ true = rw (← c .before .before .word-at .ensures, ← c .before .page-check .ensures, ne-eqb _ _ (c .if1 .taken)) in
@@ -57,14 +51,14 @@ loop-less : tie.Need-loop-less Inv-loop μ-loop
 loop-less c = omega arith
 
 loop-again : tie.Need-loop-again Inv-loop μ-loop
-loop-again c = 
+loop-again c =
     let s = c .before .before .before .before .before .before .args .image .now in
     let l = c .before .before .before .before .loop in
     let e : wrong s (l .p) ≡ false = rw (← c .before .before .word-at .ensures, ← c .before .page-check .ensures, eq-eqb _ _ (c .if1 .left)) in
     (omega arith, any-step (wrong s) (l .p) (pages s) (omega arith) e ∙ l .inv .1)
 
 returns-2 : tie.Need-returns-2 Inv-loop μ-loop
-returns-2 c = 
+returns-2 c =
     let l = c .before .loop in
     sym (any-end _ (l .p) _ (omega arith)) ∙ l .inv .1
 

@@ -1,14 +1,7 @@
 -- `length_bad` meets its contract: each test of the definition in turn.
-use mathlib.Core.Path.{_≡_, sym, _∙_}
-use Prim.Native.Nat.{ℕ, _+_, _*_, _-_, _%_, _^_, _≤_}
-use native.Mathlib.Omega.{arith}
-use borrow.Author.Needs.{needs}
 use borrow.Author.Tests.{eq-eqb, ne-eqb}
-use lib.ListN.{length}
 use Rattle.sir_data.proofs.pages.length_bad.Statement.{statement}
 use Rattle.sir_data.proofs.pages.length_bad.Tie as tie
-use Rattle.sir_data.proofs.pages.length_bad.Reads as reads
-use Rattle.sir_data.proofs.pages.length_bad.Lts as lts
 
 returns : tie.Need-returns
 returns c = simp (eq-eqb _ _ (c .if1 .taken))

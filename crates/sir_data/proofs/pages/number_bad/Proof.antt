@@ -1,10 +1,9 @@
 -- `number_bad` meets its contract. The loop's invariant: the pages that are left decide.
 use mathlib.Core.Path.{_≡_, sym, _∙_}
-use Prim.Native.Nat.{ℕ, _+_, _*_, _-_, _%_, _^_, _≤_}
+use Prim.Native.Nat.{ℕ, _+_, _*_, _-_, _≤_}
 use native.Mathlib.Omega.{arith}
 use borrow.Author.Needs.{needs}
 use borrow.Author.Tests.{eq-eqb, ne-eqb}
-use lib.ListN.{length}
 use Rattle.plank_core.specs.Lists.{upto, range, any}
 use Rattle.plank_core.specs.laws.Loops.{range-all, any-step, any-stop, any-end}
 use Rattle.sir_data.specs.Pages.{wordAt, pages, pageWord}
@@ -13,9 +12,6 @@ use mathlib.Core.List.{List}
 use lib.Dec.{eqb}
 use Rattle.sir_data.proofs.pages.number_bad.Statement.{statement}
 use Rattle.sir_data.proofs.pages.number_bad.Tie as tie
-use Rattle.sir_data.proofs.pages.number_bad.Reads as reads
-use Rattle.sir_data.proofs.pages.number_bad.Lts as lts
-use Rattle.sir_data.proofs.pages.word_at.Reads as word-at-reads
 
 -- page p has a wrong number
 abbrev wrong : List ℕ → ℕ → Bool
@@ -43,7 +39,7 @@ cast-if1 : tie.Need-cast-if1 Inv-loop μ-loop
 cast-if1 c = search needs
 
 returns : tie.Need-returns Inv-loop μ-loop
-returns c = 
+returns c =
     let s = c .before .before .before .before .before .args .image .now in
     let l = c .before .before .before .loop in
     sym (any-stop (wrong s) (l .p) (pages s) (omega arith) (wrong-is s (l .p) _ (c .before .word-at .ensures) ∙ rw (ne-eqb _ _ (c .if1 .taken)))) ∙ l .inv .1
@@ -55,13 +51,13 @@ loop-less : tie.Need-loop-less Inv-loop μ-loop
 loop-less c = omega arith
 
 loop-again : tie.Need-loop-again Inv-loop μ-loop
-loop-again c = 
+loop-again c =
     let s = c .before .before .before .before .before .args .image .now in
     let l = c .before .before .before .loop in
     (omega arith, any-step (wrong s) (l .p) (pages s) (omega arith) (wrong-is s (l .p) _ (c .before .word-at .ensures) ∙ rw (eq-eqb _ _ (c .if1 .left))) ∙ l .inv .1)
 
 returns-2 : tie.Need-returns-2 Inv-loop μ-loop
-returns-2 c = 
+returns-2 c =
     let l = c .before .loop in
     sym (any-end _ (l .p) _ (omega arith)) ∙ l .inv .1
 

@@ -1,19 +1,12 @@
 -- `page_check` meets its contract. The loop keeps the sum of the words so far and the sum of those sums, both wrapped.
-use mathlib.Core.Path.{_≡_, sym, _∙_}
-use Prim.Native.Nat.{ℕ, _+_, _*_, _-_, _%_, _^_, _≤_}
+use mathlib.Core.Path.{_≡_, _∙_}
+use Prim.Native.Nat.{_-_, _%_, _^_, _≤_}
 use native.Mathlib.Omega.{arith}
 use borrow.Author.Needs.{needs}
-use borrow.Author.Tests.{eq-eqb, ne-eqb}
-use lib.ListN.{length}
 use Rattle.sir_data.specs.Pages.{pageWord}
 use Rattle.sir_data.proofs.PageCheck.{total, running, total-none, turn-a, turn-b, check-is}
 use Rattle.sir_data.proofs.pages.page_check.Statement.{statement}
 use Rattle.sir_data.proofs.pages.page_check.Tie as tie
-use Rattle.sir_data.proofs.pages.page_check.Reads as reads
-use Rattle.sir_data.proofs.pages.page_check.Lts as lts
-use Rattle.sir_data.proofs.pages.word_at.Reads as word-at-reads
-use Rattle.std.proofs.num.wrapping_add_u32.Reads as wrapping-add-u32-reads
-use Rattle.std.proofs.num.wrapping_sub_u32.Reads as wrapping-sub-u32-reads
 
 abbrev Inv-loop : tie.InvT-loop
 Inv-loop image page a₀ b₀ i₀ a b i = (i ≤ 127) × (a ≡ total (pageWord image page) i % 2 ^ 32) × (b ≡ running (pageWord image page) i % 2 ^ 32)
@@ -46,7 +39,7 @@ loop-less : tie.Need-loop-less Inv-loop μ-loop
 loop-less c = omega arith
 
 loop-again : tie.Need-loop-again Inv-loop μ-loop
-loop-again c = 
+loop-again c =
     let start = c .before .before .before .before .before .before in
     let at-loop = c .before .before .before .before .loop in
     let w = pageWord (start .args .image .now) (start .args .page) in
@@ -60,7 +53,7 @@ wrapping-sub-u32-requires : tie.Need-wrapping-sub-u32-requires Inv-loop μ-loop
 wrapping-sub-u32-requires c κs = search needs
 
 returns : tie.Need-returns Inv-loop μ-loop
-returns c = 
+returns c =
     let start = c .before .before .before .before .before in
     let at-loop = c .before .before .before .loop in
     let e : at-loop .i ≡ 127 = omega arith in

@@ -1,21 +1,14 @@
 -- `read_page` meets its contract. The loop's invariant: k payload words are stored, and the rest is as it was.
-use mathlib.Core.Path.{_≡_, refl, sym, ap, _∙_}
-use mathlib.Core.Bool.{Bool, not}
+use mathlib.Core.Path.{_≡_, refl}
 use mathlib.Core.List.{List, _++_, map}
-use Prim.Native.Nat.{ℕ, _+_, _*_, _-_, _/_, _%_, _≤_}
+use Prim.Native.Nat.{ℕ, _+_, _-_, _≤_}
 use native.Mathlib.Omega.{arith}
-use borrow.Author.Needs.{needs}
-use borrow.Author.Tests.{eq-eqb, ne-eqb}
-use lib.Dec.{eqb}
 use lib.ListN.{length, drop, length-set}
 use Rattle.plank_core.specs.Lists.{upto}
 use Rattle.plank_core.specs.laws.Loops.{fill-step}
 use Rattle.sir_data.specs.Pages.{pageWord}
 use Rattle.sir_data.proofs.pages.read_page.Statement.{statement}
 use Rattle.sir_data.proofs.pages.read_page.Tie as tie
-use Rattle.sir_data.proofs.pages.read_page.Reads as reads
-use Rattle.sir_data.proofs.pages.read_page.Lts as lts
-use Rattle.sir_data.proofs.pages.word_at.Reads as word-at-reads
 
 -- payload word k of a page
 abbrev taken : List ℕ → ℕ → ℕ → ℕ
@@ -55,7 +48,7 @@ loop-less : tie.Need-loop-less Inv-loop μ-loop
 loop-less c = omega arith
 
 loop-again : tie.Need-loop-again Inv-loop μ-loop
-loop-again c = 
+loop-again c =
     let start = c .before .before .before .before .before in
     let at-loop = c .before .before .loop in
     let f = taken (start .args .image .now) (start .args .page) in
@@ -65,7 +58,7 @@ same-length : tie.Need-same-length Inv-loop μ-loop
 same-length c = omega arith
 
 returns : tie.Need-returns Inv-loop μ-loop
-returns c = 
+returns c =
     let e : c .before .loop .k ≡ 126 = omega arith in rw e at (c .before .loop .inv .2)
 
 pub read-page-spec : {M : Type 1} → statement M

@@ -1,21 +1,14 @@
 -- `read_payload` meets its contract. The loop's invariant: the payload of p pages is stored, and the rest is as it was.
-use mathlib.Core.Path.{_≡_, refl, sym, ap, _∙_}
-use mathlib.Core.Bool.{Bool, not}
+use mathlib.Core.Path.{_≡_, refl, sym, _∙_}
 use mathlib.Core.List.{List, _++_, map}
 use Prim.Native.Nat.{ℕ, _+_, _*_, _-_, _/_, _%_, _≤_, _<_}
 use native.Mathlib.Omega.{arith}
-use borrow.Author.Needs.{needs}
-use borrow.Author.Tests.{eq-eqb, ne-eqb}
-use lib.Dec.{eqb}
-use lib.ListN.{length, drop, length-set}
+use lib.ListN.{length, drop}
 use Rattle.plank_core.specs.Lists.{upto}
 use Rattle.plank_core.specs.laws.Loops.{map-same, length-map-upto, fill-part}
 use Rattle.sir_data.specs.Pages.{pageWord, pages, payload}
 use Rattle.sir_data.proofs.pages.read_payload.Statement.{statement}
 use Rattle.sir_data.proofs.pages.read_payload.Tie as tie
-use Rattle.sir_data.proofs.pages.read_payload.Reads as reads
-use Rattle.sir_data.proofs.pages.read_payload.Lts as lts
-use Rattle.sir_data.proofs.pages.read_page.Reads as read-page-reads
 
 -- payload word k
 abbrev taken : List ℕ → ℕ → ℕ
@@ -68,8 +61,7 @@ loop-again : tie.Need-loop-again Inv-loop μ-loop
 loop-again c =
     let first = c .before .before .before .before .before .before .before .before .args in
     let l = c .before .before .before .before .before .loop in
-    let s = first .image .now in
-    (
+    let s = first .image .now in (
       omega arith,
       omega arith,
       omega arith,
