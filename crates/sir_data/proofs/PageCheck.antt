@@ -72,6 +72,7 @@ add-wrapped x y ea eb = rw (ea, eb) (sym (add-mod x y (2 ^ 32)))
 sub-wrapped : (r w a : ℕ) → (r + a) % 2 ^ 32 ≡ (w + a) % 2 ^ 32 → r < 2 ^ 32 → r ≡ w % 2 ^ 32
 sub-wrapped r w a e fits = omega arith
 
+-- the weights of the definition are those of the sums
 opened : (w : ℕ → ℕ) → weighed w 253 127 % 2 ^ 32 ≡ checkOf w
 unfolding total checkOf
 opened w = refl
