@@ -1,3 +1,4 @@
 pub mod Lists
+pub mod Loops
 pub mod Bits
 pub mod DenseIndexSet

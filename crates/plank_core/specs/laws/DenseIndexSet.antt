@@ -15,7 +15,8 @@ use lib.Count.{trailingZeros}
 use borrow.Author.Tests.{eq-eqb, ne-eqb, eqb-true, eqb-false, not-true, not-false}
 use Rattle.plank_core.specs.Lists.{count, upto, any, keep}
 use Rattle.plank_core.specs.DenseIndexSet.{bit, contains, wordOf, setOf, emptySet, added, removed, inRow, rowUnion, rowDifference, grows, rowOf, size}
-use Rattle.plank_core.specs.laws.Lists.{length-count, getD-map-count, split, bool-or, any-some, any-none, any-find, any-not, and-true-left, and-true-right, or-true-right, keep-most, keep-lt, count-mem, length-upto, none}
+use Rattle.plank_core.specs.laws.Lists.{split, bool-or, any-some, any-none, any-find, any-not, and-true-left, and-true-right, or-true-right, keep-most, keep-lt, count-mem, none}
+use Rattle.plank_core.specs.laws.Loops.{length-map-upto, getD-map-upto, length-count}
 use Rattle.plank_core.specs.laws.Bits.{bit-or, bit-and, bit-not, bit-pow, bit-of-zero, bit-ext, wordOf-lt, bit-wordOf, tz-lt, tz-set}
 
 -- every word has at most 64 digits
@@ -26,11 +27,11 @@ Fit ws = (j : ℕ) → getD ws j 0 < 2 ^ 64
 
 pub length-setOf : (m : ℕ) (p : ℕ → Bool) → length (setOf m p) ≡ m
 unfolding setOf
-length-setOf m p = length-count (λ j. wordOf 64 (λ k. p (64 * j + k))) 0 m
+length-setOf m p = length-map-upto (λ j. wordOf 64 (λ k. p (64 * j + k))) m
 
 word-setOf : (m j : ℕ) (p : ℕ → Bool) → j < m → getD (setOf m p) j 0 ≡ wordOf 64 (λ k. p (64 * j + k))
 unfolding setOf
-word-setOf m j p h = getD-map-count 0 (λ j. wordOf 64 (λ k. p (64 * j + k))) 0 m j h ∙ ap (λ (i : ℕ). wordOf 64 (λ k. p (64 * i + k))) (omega arith)
+word-setOf m j p h = getD-map-upto (λ j. wordOf 64 (λ k. p (64 * j + k))) m j 0 h
 
 pub contains-setOf : (m n : ℕ) (p : ℕ → Bool) → n < 64 * m → contains (setOf m p) n ≡ p n
 unfolding contains
@@ -367,7 +368,7 @@ module _ (ws : List ℕ) where
 
 pub size-most : (ws : List ℕ) → size ws ≤ 64 * length ws
 unfolding size
-size-most ws = omega (arith, keep-most (contains ws) (upto (64 * length ws)), length-upto (64 * length ws))
+size-most ws = omega (arith, keep-most (contains ws) (upto (64 * length ws)), length-count 0 (64 * length ws))
 
 more : (ws vs : List ℕ) (i : ℕ) → length vs ≡ length ws → i < 64 * length ws → ((n : ℕ) → contains ws n ≡ true → contains vs n ≡ true) → contains ws i ≡ false → contains vs i ≡ true → size ws < size vs
 unfolding size

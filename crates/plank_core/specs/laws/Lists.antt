@@ -1,12 +1,11 @@
 -- Laws of tests and of the small functions on lists. Assumes nothing.
 use mathlib.Core.Path.{_≡_, refl, sym, ap, _∙_, subst}
 use mathlib.Core.Logic.{_↔_, ⊎-elim, _⊎_, inl, inr}
-use mathlib.Core.Bool.{Bool, true, false, not, _&&_, _||_, cond, or-false, or-assoc}
-use native.Mathlib.Nat.{add-zero, add-suc, suc-add}
+use mathlib.Core.Bool.{Bool, true, false, not, _&&_, _||_, cond}
 use Prim.Native.Nat.{ℕ, zero, suc, _+_, _-_, _≤_, _<_}
 use native.Mathlib.Omega.{arith}
 use mathlib.Core.List.{List, [], _∷_, _++_, map, reverse, reverseAux, List·Memᴰ, List·Memᴰ·head, List·Memᴰ·tail, List·Memᴰ·not-nil, List·Memᴰ·cases-cons, List·Memᴰ·append-cases, Memᴰ·append-left, Memᴰ·append-right}
-use lib.ListN.{length, getD}
+use lib.ListN.{length}
 use lib.Dec.{eqb, T}
 use borrow.Author.Tests.{eqb-true, eqb-false, eq-eqb}
 use Rattle.plank_core.specs.Lists.{count, range, upto, bind, all, any, keep, mem, distinct}
@@ -180,23 +179,6 @@ split a zero = inr (omega arith)
 split zero (suc b) = inl (omega arith)
 split (suc a) (suc b) = ⊎-elim (λ (p : a < b). inl (omega arith)) (λ (q : b ≤ a). inr (omega arith)) (split a b)
 
-module _ {A : Type 0} where
-  pub length-count : (f : ℕ → A) (s n : ℕ) → length (map f (count s n)) ≡ n
-  length-count f s zero = refl
-  length-count f s (suc n) = ap suc (length-count f (suc s) n)
-
-  pub getD-map-count : (d : A) (f : ℕ → A) (s n j : ℕ) → j < n → getD (map f (count s n)) j d ≡ f (s + j)
-  getD-map-count d f s zero j h = absurd (omega arith)
-  getD-map-count d f s (suc n) zero h = ap f (omega arith)
-  getD-map-count d f s (suc n) (suc j) h = getD-map-count d f (suc s) n j (omega arith) ∙ ap f (omega arith)
-
-pub length-upto : (n : ℕ) → length (upto n) ≡ n
-length-upto n = go 0 n
-  where
-    go : (s n : ℕ) → length (count s n) ≡ n
-    go s zero = refl
-    go s (suc n) = ap suc (go (suc s) n)
-
 pub any-some : (p : ℕ → Bool) (s n i : ℕ) → s ≤ i → i < s + n → p i ≡ true → any p (count s n) ≡ true
 any-some p s zero i a b h = absurd (omega arith)
 any-some p s (suc n) i a b h = go (eqb i s) refl (any-some p (suc s) n i)
@@ -216,10 +198,6 @@ any-find p s (suc n) h = ⊎-elim (λ (e : p s ≡ true). (s, omega arith, omega
 -- none of them, so not this one
 pub any-not : (p : ℕ → Bool) (s n i : ℕ) → any p (count s n) ≡ false → s ≤ i → i < s + n → p i ≡ false
 any-not p s n i h a b = ⊎-elim (λ (e : p i ≡ true). none _ (any-some p s n i a b e) h) (λ (e : p i ≡ false). e) (bool-or (p i))
-
-pub any-next : (p : ℕ → Bool) (s n : ℕ) → any p (count s (n + 1)) ≡ (any p (count s n) || p (s + n))
-any-next p s zero = rw add-zero (or-false (p s))
-any-next p s (suc n) = rw (suc-add, any-next p (suc s) n, suc-add, add-suc) (sym (or-assoc (p s) _ _))
 
 -- ---- keeping some of a list
 

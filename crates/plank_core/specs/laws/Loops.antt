@@ -1,0 +1,147 @@
+-- Laws for loops that count up: a step, an early stop and the end of each. Assumes nothing.
+use mathlib.Core.Path.{_≡_, refl, ap, _∙_}
+use mathlib.Core.Bool.{Bool, true, false}
+use Prim.Native.Nat.{ℕ, zero, suc, _+_, _-_, _≤_, _<_}
+use native.Mathlib.Numerals.{add-one}
+use native.Mathlib.Omega.{arith}
+use mathlib.Core.List.{List, [], _∷_, _++_, map, append-assoc, append-nil}
+use lib.ListN.{length, getD, take, drop, set, drop-of-length-le, length-append, length-drop, length-map}
+use lib.Seq.{drop-cons, set-at, take-all, take-at, drop-at, drop-drop}
+use Rattle.plank_core.specs.Lists.{count, range, upto, all, any, sum}
+
+-- ---- the numbers of a loop
+
+pub count-suc : (s n : ℕ) → count s (suc n) ≡ count s n ++ ((s + n) ∷ [])
+count-suc s zero = ap (λ (k : ℕ). k ∷ []) (omega arith)
+count-suc s (suc n) =
+    let e : suc s + n ≡ s + suc n = omega arith in
+    ap (λ (l : List ℕ). s ∷ l) (count-suc (suc s) n ∙ rw e)
+
+pub upto-suc : (n : ℕ) → upto (suc n) ≡ upto n ++ (n ∷ [])
+upto-suc n = let e : 0 + n ≡ n = omega arith in rw e at (count-suc 0 n)
+
+pub upto-more : (n : ℕ) → upto (n + 1) ≡ upto n ++ (n ∷ [])
+upto-more n = rw add-one (upto-suc n)
+
+pub count-add : (s n m : ℕ) → count s (n + m) ≡ count s n ++ count (s + n) m
+count-add s zero m =
+    let e : 0 + m ≡ m = omega arith in
+    let f : s + 0 ≡ s = omega arith in
+    rw (e, f)
+count-add s (suc n) m =
+    let e : suc n + m ≡ suc (n + m) = omega arith in
+    let f : s + suc n ≡ suc s + n = omega arith in
+    rw (e, f, count-add (suc s) n m)
+
+pub length-count : (s n : ℕ) → length (count s n) ≡ n
+length-count s zero = refl
+length-count s (suc n) = ap suc (length-count (suc s) n)
+
+-- all of them are left
+pub range-all : (n : ℕ) → range 0 n ≡ upto n
+range-all n = let e : n - 0 ≡ n = omega arith in rw e
+
+-- i is the next of those left
+pub range-next : (i n : ℕ) → i < n → range i n ≡ i ∷ range (i + 1) n
+range-next i n h =
+    let e : n - i ≡ suc (n - (i + 1)) = omega arith in
+    rw (e, add-one)
+
+-- none is left
+pub range-none : (i n : ℕ) → n ≤ i → range i n ≡ []
+range-none i n h = let e : n - i ≡ 0 = omega arith in rw e
+
+-- ---- a loop that tests each and leaves at the first that decides; the invariant is
+-- `all p (range i n) ≡ all p (upto n)` (or `any`): those left decide
+
+module _ (p : ℕ → Bool) (i n : ℕ) where
+  pub all-step : i < n → p i ≡ true → all p (range (i + 1) n) ≡ all p (range i n)
+  all-step h e = rw (range-next i n h, e)
+
+  pub all-stop : i < n → p i ≡ false → all p (range i n) ≡ false
+  all-stop h e = rw (range-next i n h, e)
+
+  pub all-end : n ≤ i → all p (range i n) ≡ true
+  all-end h = rw (range-none i n h)
+
+  pub any-step : i < n → p i ≡ false → any p (range (i + 1) n) ≡ any p (range i n)
+  any-step h e = rw (range-next i n h, e)
+
+  pub any-stop : i < n → p i ≡ true → any p (range i n) ≡ true
+  any-stop h e = rw (range-next i n h, e)
+
+  pub any-end : n ≤ i → any p (range i n) ≡ false
+  any-end h = rw (range-none i n h)
+
+-- ---- a loop that sums, or stores, f 0, f 1, ..
+
+pub map-append : {A B : Type 0} (f : A → B) (xs ys : List A) → map f (xs ++ ys) ≡ map f xs ++ map f ys
+map-append f [] ys = refl
+map-append f (x ∷ xs) ys = rw (map-append f xs ys)
+
+pub sum-append : (xs ys : List ℕ) → sum (xs ++ ys) ≡ sum xs + sum ys
+sum-append [] ys = omega arith
+sum-append (x ∷ xs) ys = omega (arith, sum-append xs ys)
+
+pub sum-more : (f : ℕ → ℕ) (n : ℕ) → sum (map f (upto (n + 1))) ≡ sum (map f (upto n)) + f n
+sum-more f n = rw (upto-more n, map-append, sum-append) (omega arith)
+
+module _ {A : Type 0} (f : ℕ → A) where
+  pub map-more : (n : ℕ) → map f (upto (n + 1)) ≡ map f (upto n) ++ (f n ∷ [])
+  map-more n = rw (upto-more n, map-append)
+
+  pub length-map-upto : (n : ℕ) → length (map f (upto n)) ≡ n
+  length-map-upto n = length-map (upto n) f ∙ length-count 0 n
+
+  -- the next of them is stored
+  pub fill-step : (n : ℕ) (d : List A) → n < length d → set (map f (upto n) ++ drop n d) n (f n) ≡ map f (upto (n + 1)) ++ drop (n + 1) d
+  fill-step n d h =
+      rw (map-more n, add-one n, drop-cons d n (f n) h, append-assoc)
+      (set-at (map f (upto n)) (getD d n (f n)) (drop (suc n) d) (f n) n (length-map-upto n))
+
+  -- what is stored keeps the length
+  pub fill-length : (n : ℕ) (d : List A) → n ≤ length d → length (map f (upto n) ++ drop n d) ≡ length d
+  fill-length n d h = simp (length-append, length-map-upto, length-drop) (omega arith)
+
+  map-shift : (s n m : ℕ) → map f (count (s + n) m) ≡ map (λ i. f (n + i)) (count s m)
+  map-shift s n zero = refl
+  map-shift s n (suc m) =
+      let e : s + n ≡ n + s = omega arith in
+      let z : suc (s + n) ≡ suc s + n = omega arith in
+      rw (z, map-shift (suc s) n m, e)
+
+  -- the next m of them, in one
+  pub map-add : (n m : ℕ) → map f (upto (n + m)) ≡ map f (upto n) ++ map (λ i. f (n + i)) (upto m)
+  map-add n m = rw (count-add 0 n m, map-append, map-shift 0 n m)
+
+  map-same-count : (g : ℕ → A) (s n : ℕ) → ((i : ℕ) → s ≤ i → i < s + n → f i ≡ g i) → map f (count s n) ≡ map g (count s n)
+  map-same-count g s zero h = refl
+  map-same-count g s (suc n) h =
+      rw (h s (omega arith) (omega arith), map-same-count g (suc s) n (λ i a b. h i (omega arith) (omega arith)))
+
+  pub map-same : (g : ℕ → A) (n : ℕ) → ((i : ℕ) → i < n → f i ≡ g i) → map f (upto n) ≡ map g (upto n)
+  map-same g n h = map-same-count g 0 n (λ i a b. h i (omega arith))
+
+  getD-map-count : (s n i : ℕ) (d : A) → i < n → getD (map f (count s n)) i d ≡ f (s + i)
+  getD-map-count s zero i d h = absurd (omega arith)
+  getD-map-count s (suc n) zero d h = ap f (omega arith)
+  getD-map-count s (suc n) (suc i) d h = getD-map-count (suc s) n i d (omega arith) ∙ ap f (omega arith)
+
+  pub getD-map-upto : (n i : ℕ) (d : A) → i < n → getD (map f (upto n)) i d ≡ f i
+  getD-map-upto n i d h = getD-map-count 0 n i d h ∙ ap f (omega arith)
+
+-- ---- the end of a slice from a on, lent: all that was there is lent, and nothing stands after it
+
+module _ {A : Type 0} (a : ℕ) (xs : List A) where
+  pub lent-end : take (length xs - a) (drop a xs) ≡ drop a xs
+  lent-end = take-all (length xs - a) (drop a xs) (rw length-drop (omega arith))
+
+  pub after-end : drop (length xs - a) (drop a xs) ≡ []
+  after-end = drop-of-length-le (drop a xs) {i = length xs - a} (rw length-drop (omega arith))
+
+-- f 0, .., f (n - 1) stand at the front of xs, and the end from n on is lent to store the next m
+pub fill-part : {A : Type 0} (f : ℕ → A) (n m : ℕ) (d : List A) {xs part : List A} → xs ≡ map f (upto n) ++ drop n d → part ≡ map (λ i. f (n + i)) (upto m) ++ drop m (take (length xs - n) (drop n xs)) → take n xs ++ (part ++ drop (length xs - n) (drop n xs)) ≡ map f (upto (n + m)) ++ drop (n + m) d
+fill-part {A} f n m d {xs} {part} e h =
+    let front : take n xs ≡ map f (upto n) = rw e (take-at (map f (upto n)) (drop n d) n (length-map-upto f n)) in
+    let end : drop n xs ≡ drop n d = rw e (drop-at (map f (upto n)) (drop n d) n (length-map-upto f n)) in
+    rw (h, after-end n xs, lent-end n xs, front, end, append-nil, drop-drop m n d, map-add f n m, append-assoc)
