@@ -2,3 +2,4 @@ pub mod Lists
 pub mod Loops
 pub mod Bits
 pub mod DenseIndexSet
+pub mod Members

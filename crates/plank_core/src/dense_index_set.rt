@@ -1,6 +1,9 @@
 // A set of numbers below 512, by value, and what can be asked of one that is lent as eight words.
-use crate::rows::{row_add, row_contains, row_difference_with, row_remove, row_union_with};
-
+use crate::rows::row_add;
+use crate::rows::row_contains;
+use crate::rows::row_difference_with;
+use crate::rows::row_remove;
+use crate::rows::row_union_with;
 ghost use mathlib.Core.Path.{_≡_};
 ghost use mathlib.Core.Bool.{not};
 ghost use mathlib.Core.List.{_++_};

@@ -5,6 +5,7 @@ use mathlib.Core.Bool.{Bool, true, false, not, _&&_, _||_, cond, or-false, or-co
 use mathlib.Core.List.{List, [], _∷_, map}
 use Prim.Native.Nat.{ℕ, zero, suc, _+_, _-_, _*_, _/_, _%_, _^_, _≤_, _<_}
 use native.Mathlib.Nat.{pos-of-ne-zero, le-refl}
+use native.Mathlib.Numerals.{add-one}
 use native.Mathlib.Omega.{arith}
 use lib.ListN.{length, getD, set, take, drop, length-set, length-drop, List·getD-eq-default}
 use lib.Seq.{getD-set-same, getD-set-other, getD-take, getD-drop, ext-getD, set-out, length-take-le}
@@ -16,7 +17,7 @@ use borrow.Author.Tests.{eq-eqb, ne-eqb, eqb-true, eqb-false, not-true, not-fals
 use Rattle.plank_core.specs.Lists.{count, upto, any, keep}
 use Rattle.plank_core.specs.DenseIndexSet.{bit, contains, wordOf, setOf, emptySet, added, removed, inRow, rowUnion, rowDifference, grows, rowOf, size}
 use Rattle.plank_core.specs.laws.Lists.{split, bool-or, any-some, any-none, any-find, any-not, and-true-left, and-true-right, or-true-right, keep-most, keep-lt, count-mem, none}
-use Rattle.plank_core.specs.laws.Loops.{length-map-upto, getD-map-upto, length-count}
+use Rattle.plank_core.specs.laws.Loops.{upto-more, any-append, length-map-upto, getD-map-upto, length-count}
 use Rattle.plank_core.specs.laws.Bits.{bit-or, bit-and, bit-not, bit-pow, bit-of-zero, bit-ext, wordOf-lt, bit-wordOf, tz-lt, tz-set}
 
 -- every word has at most 64 digits
@@ -162,6 +163,17 @@ module _ (f : ℕ → ℕ → ℕ) (ws : List ℕ) (r : ℕ) (s : List ℕ) wher
           let ne : m ≡ k → ⊥ = eqb-false m k e in
           getD-set-other (rowTo f k ws r s) (8 * r + k) (8 * r + m) _ 0 (λ (q : 8 * r + m ≡ 8 * r + k). ne (omega arith)) ∙ rest (omega arith)
 
+  -- the next word, read from a table under change
+  pub rowTo-next : (k : ℕ) {l : List ℕ} → l ≡ rowTo f k ws r s → set l (8 * r + k) (f (getD l (8 * r + k) 0) (getD s k 0)) ≡ rowTo f (k + 1) ws r s
+  unfolding rowTo
+  rowTo-next k e = rw (add-one, e, rowTo-other k (8 * r + k) (λ a b. omega arith))
+
+  -- once a word is changed it is known that all fit
+  pub rowTo-fit : (k : ℕ) {l : List ℕ} → l ≡ rowTo f k ws r s → (0 < k → Fit ws × Fit s) → Fit l → Fit s → Fit ws × Fit s
+  unfolding rowTo
+  rowTo-fit zero e h a b = (rw e at a, b)
+  rowTo-fit (suc k) e h a b = h (omega arith)
+
   -- digit by digit: g is what f does to each digit
   row-digits : (g : Bool → Bool → Bool) → length s ≡ 8 → 8 * r + 8 ≤ length ws
       → ((a b k : ℕ) → k < 64 → b < 2 ^ 64 → bit (f a b) k ≡ g (bit a k) (bit b k)) → Fit s
@@ -284,6 +296,14 @@ or-same a b ha hb e =
 -- does word j of row r change as s is taken in?
 abbrev pub changes : List ℕ → ℕ → List ℕ → ℕ → Bool
 changes ws r s j = not (eqb (bitOr (getD ws (8 * r + j) 0) (getD s j 0)) (getD ws (8 * r + j) 0))
+
+-- a table under change shows whether its next word changes
+pub changes-next : (ws : List ℕ) (r : ℕ) (s : List ℕ) (k : ℕ) {l : List ℕ} {g : Bool} (t : Bool) → l ≡ rowTo bitOr k ws r s → g ≡ any (changes ws r s) (upto k)
+    → eqb (bitOr (getD l (8 * r + k) 0) (getD s k 0)) (getD l (8 * r + k) 0) ≡ t → (not t || g) ≡ any (changes ws r s) (upto (k + 1))
+changes-next ws r s k {l} {g} t e h q =
+    let here : getD l (8 * r + k) 0 ≡ getD ws (8 * r + k) 0 = rw e (rowTo-other bitOr ws r s k (8 * r + k) (λ a b. omega arith)) in
+    let q′ : eqb (bitOr (getD ws (8 * r + k) 0) (getD s k 0)) (getD ws (8 * r + k) 0) ≡ t = rw here at q in
+    rw (upto-more k, any-append, ← h, q′) (or-comm (not t) g ∙ ap (λ (x : Bool). g || x) (sym (or-false (not t))))
 
 pub grows-words : (ws : List ℕ) (r : ℕ) (s : List ℕ) → Fit ws → Fit s → any (changes ws r s) (upto 8) ≡ grows ws r s
 unfolding grows

@@ -179,6 +179,14 @@ split a zero = inr (omega arith)
 split zero (suc b) = inl (omega arith)
 split (suc a) (suc b) = ⊎-elim (λ (p : a < b). inl (omega arith)) (λ (q : b ≤ a). inr (omega arith)) (split a b)
 
+-- what holds below n and at n holds below n + 1
+pub below-next : (P : ℕ → Type 0) (n : ℕ) → ((j : ℕ) → j < n → P j) → P n → (j : ℕ) → j < n + 1 → P j
+below-next P n h p j l = go (eqb j n) refl
+  where
+    go : (t : Bool) → eqb j n ≡ t → P j
+    go true e = subst P (sym (eqb-true j n e)) p
+    go false e = let ne : ¬ (j ≡ n) = eqb-false j n e in h j (omega arith)
+
 pub any-some : (p : ℕ → Bool) (s n i : ℕ) → s ≤ i → i < s + n → p i ≡ true → any p (count s n) ≡ true
 any-some p s zero i a b h = absurd (omega arith)
 any-some p s (suc n) i a b h = go (eqb i s) refl (any-some p (suc s) n i)
@@ -230,3 +238,24 @@ keep-most p (x ∷ xs) = go (p x) (keep-most p xs)
     go : (t : Bool) → length (keep p xs) ≤ length xs → length (cond t (x ∷ keep p xs) (keep p xs)) ≤ suc (length xs)
     go true l = omega arith
     go false l = omega arith
+
+-- kept are the members that pass
+pub keep-in : (p : ℕ → Bool) (x : ℕ) {xs : List ℕ} → List·Memᴰ x xs → p x ≡ true → List·Memᴰ x (keep p xs)
+keep-in p x (List·Memᴰ·head {x = z} e) t = let q : p z ≡ true = ap p (sym e) ∙ t in rw q (List·Memᴰ·head e)
+keep-in p x (List·Memᴰ·tail {x = z} {xs = xs} m) t = go (p z) (keep-in p x m t)
+  where
+    go : (u : Bool) → List·Memᴰ x (keep p xs) → List·Memᴰ x (cond u (z ∷ keep p xs) (keep p xs))
+    go true k = List·Memᴰ·tail k
+    go false k = k
+
+pub keep-mem : (p : ℕ → Bool) (x : ℕ) (xs : List ℕ) → List·Memᴰ x (keep p xs) → List·Memᴰ x xs × (p x ≡ true)
+keep-mem p x [] m = absurd (List·Memᴰ·not-nil m)
+keep-mem p x (y ∷ ys) m = go (p y) refl m (keep-mem p x ys)
+  where
+    go : (u : Bool) → p y ≡ u → List·Memᴰ x (cond u (y ∷ keep p ys) (keep p ys)) → (List·Memᴰ x (keep p ys) → List·Memᴰ x ys × (p x ≡ true)) → List·Memᴰ x (y ∷ ys) × (p x ≡ true)
+    go true e k rest =
+        ⊎-elim
+        (λ (q : x ≡ y). (List·Memᴰ·head q, ap p q ∙ e))
+        (λ (t : List·Memᴰ x (keep p ys)). (List·Memᴰ·tail (rest t .0), rest t .1))
+        (List·Memᴰ·cases-cons k)
+    go false e k rest = (List·Memᴰ·tail (rest k .0), rest k .1)

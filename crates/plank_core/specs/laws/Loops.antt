@@ -1,6 +1,6 @@
 -- Laws for loops that count up: a step, an early stop and the end of each. Assumes nothing.
-use mathlib.Core.Path.{_≡_, refl, ap, _∙_}
-use mathlib.Core.Bool.{Bool, true, false}
+use mathlib.Core.Path.{_≡_, refl, sym, ap, _∙_}
+use mathlib.Core.Bool.{Bool, true, false, _&&_, _||_, and-assoc, or-assoc}
 use Prim.Native.Nat.{ℕ, zero, suc, _+_, _-_, _≤_, _<_}
 use native.Mathlib.Numerals.{add-one}
 use native.Mathlib.Omega.{arith}
@@ -50,6 +50,15 @@ range-next i n h =
 -- none is left
 pub range-none : (i n : ℕ) → n ≤ i → range i n ≡ []
 range-none i n h = let e : n - i ≡ 0 = omega arith in rw e
+
+module _ (p : ℕ → Bool) where
+  pub any-append : (xs ys : List ℕ) → any p (xs ++ ys) ≡ (any p xs || any p ys)
+  any-append [] ys = refl
+  any-append (x ∷ xs) ys = rw (any-append xs ys) (sym (or-assoc (p x) (any p xs) (any p ys)))
+
+  pub all-append : (xs ys : List ℕ) → all p (xs ++ ys) ≡ (all p xs && all p ys)
+  all-append [] ys = refl
+  all-append (x ∷ xs) ys = rw (all-append xs ys) (sym (and-assoc (p x) (all p xs) (all p ys)))
 
 -- ---- a loop that tests each and leaves at the first that decides; the invariant is
 -- `all p (range i n) ≡ all p (upto n)` (or `any`): those left decide
