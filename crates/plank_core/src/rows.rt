@@ -74,8 +74,8 @@ pub fn row_difference_with(table: &mut [u64], row: usize, set: &[u64])
 {
     let mut k: usize = 0;
     while k < 8 {
-        let at = 8 * row + k;
-        table[at] = table[at] & !set[k];
+        let word = 8 * row + k;
+        table[word] = table[word] & !set[k];
         k += 1;
     }
 }

@@ -19,11 +19,11 @@ loop-holds : tie.Need-loop-holds Inv-loop μ-loop
 unfolding rowTo
 loop-holds c = (omega arith, refl, refl, λ h. absurd (omega arith))
 
-mul-at : tie.Need-mul-at Inv-loop μ-loop
-mul-at c = omega arith
+mul-word : tie.Need-mul-word Inv-loop μ-loop
+mul-word c = omega arith
 
-add-at : tie.Need-add-at Inv-loop μ-loop
-add-at c = omega arith
+add-word : tie.Need-add-word Inv-loop μ-loop
+add-word c = omega arith
 
 mul-table : tie.Need-mul-table Inv-loop μ-loop
 mul-table c = omega arith
@@ -74,8 +74,8 @@ row-difference-with-spec =
     Inv-loop
     μ-loop
     loop-holds
-    mul-at
-    add-at
+    mul-word
+    add-word
     mul-table
     slice-read-table
     mul-table-2
