@@ -1,6 +1,6 @@
 pub mod Pages
 pub mod Records
-pub mod Answers
+pub mod Cases
 pub mod Codes
 pub mod Rules
 pub mod WellFormed

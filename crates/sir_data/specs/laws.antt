@@ -1,2 +1,3 @@
 pub mod WellFormed
 pub mod Records
+pub mod Codes

@@ -11,7 +11,7 @@ ghost use mathlib.Core.Bool.{_||_};
 ghost use lib.Dec.{eqb};
 ghost use lib.ListN.{length, getD};
 ghost use Rattle.sir_data.specs.Records.{functions, blocks, operations, operandWords, caseTargets, locals, initFunction, mainPlusOne, blocksAt, operationsAt, operandsAt, targetsAt, entryBlock, blockWord, opWord, operand, target, run, inputs, outputs, successors, condition, returned, ins, outs, callees};
-ghost use Rattle.sir_data.specs.Answers.{testedLocals, calledFunctions};
+ghost use Rattle.sir_data.specs.Cases.{testedLocals, calledFunctions};
 ghost use Rattle.sir_data.specs.WellFormed.{Sized, InRange};
 
 // The local that a block's control tests, if it tests one.
@@ -26,7 +26,7 @@ pub enum Called {
     Nothing,
 }
 
-// The counts of the head: functions, blocks, operations, operand words, case targets, locals.
+// How many functions there are. This count and the next ones stand at the head of the words.
 pub fn function_count(words: &[u32]) -> u32
     requires { ⌜ 9 ≤ length (now words) ⌝ }
     ensures { λ r. ⌜ r ≡ functions (now (words .entry)) ⌝ }
@@ -34,6 +34,7 @@ pub fn function_count(words: &[u32]) -> u32
     words[1]
 }
 
+// How many blocks there are.
 pub fn block_count(words: &[u32]) -> u32
     requires { ⌜ 9 ≤ length (now words) ⌝ }
     ensures { λ r. ⌜ r ≡ blocks (now (words .entry)) ⌝ }
@@ -41,6 +42,7 @@ pub fn block_count(words: &[u32]) -> u32
     words[2]
 }
 
+// How many operations there are.
 pub fn operation_count(words: &[u32]) -> u32
     requires { ⌜ 9 ≤ length (now words) ⌝ }
     ensures { λ r. ⌜ r ≡ operations (now (words .entry)) ⌝ }
@@ -48,6 +50,7 @@ pub fn operation_count(words: &[u32]) -> u32
     words[3]
 }
 
+// How many operand words there are.
 pub fn operand_count(words: &[u32]) -> u32
     requires { ⌜ 9 ≤ length (now words) ⌝ }
     ensures { λ r. ⌜ r ≡ operandWords (now (words .entry)) ⌝ }
@@ -55,6 +58,7 @@ pub fn operand_count(words: &[u32]) -> u32
     words[4]
 }
 
+// How many case targets there are.
 pub fn target_count(words: &[u32]) -> u32
     requires { ⌜ 9 ≤ length (now words) ⌝ }
     ensures { λ r. ⌜ r ≡ caseTargets (now (words .entry)) ⌝ }
@@ -62,6 +66,7 @@ pub fn target_count(words: &[u32]) -> u32
     words[5]
 }
 
+// How many locals there are: each is below this number.
 pub fn local_count(words: &[u32]) -> u32
     requires { ⌜ 9 ≤ length (now words) ⌝ }
     ensures { λ r. ⌜ r ≡ locals (now (words .entry)) ⌝ }
@@ -85,7 +90,7 @@ pub fn main_plus_one(words: &[u32]) -> u32
     words[8]
 }
 
-// Where the blocks, the operations, the operands and the targets start among the words.
+// Where the blocks start among the words: past the head and the entry blocks.
 fn blocks_at(words: &[u32]) -> usize
     requires { ⌜ Sized (now words) ⌝ }
     ensures { λ r. ⌜ r ≡ blocksAt (now (words .entry)) ⌝ }
@@ -93,6 +98,7 @@ fn blocks_at(words: &[u32]) -> usize
     9 + (function_count(words) as usize)
 }
 
+// Where the operations start: past the blocks, of 11 words each.
 fn operations_at(words: &[u32]) -> usize
     requires { ⌜ Sized (now words) ⌝ }
     ensures { λ r. ⌜ r ≡ operationsAt (now (words .entry)) ⌝ }
@@ -100,6 +106,7 @@ fn operations_at(words: &[u32]) -> usize
     blocks_at(words) + 11 * (block_count(words) as usize)
 }
 
+// Where the operands start: past the operations, of 7 words each.
 fn operands_at(words: &[u32]) -> usize
     requires { ⌜ Sized (now words) ⌝ }
     ensures { λ r. ⌜ r ≡ operandsAt (now (words .entry)) ⌝ }
@@ -107,6 +114,7 @@ fn operands_at(words: &[u32]) -> usize
     operations_at(words) + 7 * (operation_count(words) as usize)
 }
 
+// Where the case targets start: past the operands.
 fn targets_at(words: &[u32]) -> usize
     requires { ⌜ Sized (now words) ⌝ }
     ensures { λ r. ⌜ r ≡ targetsAt (now (words .entry)) ⌝ }

@@ -99,8 +99,11 @@ module _ {A : Type 0} (f : ℕ → A) where
   pub map-more : (n : ℕ) → map f (upto (n + 1)) ≡ map f (upto n) ++ (f n ∷ [])
   map-more n = rw (upto-more n, map-append)
 
+  pub length-map-count : (s n : ℕ) → length (map f (count s n)) ≡ n
+  length-map-count s n = length-map (count s n) f ∙ length-count s n
+
   pub length-map-upto : (n : ℕ) → length (map f (upto n)) ≡ n
-  length-map-upto n = length-map (upto n) f ∙ length-count 0 n
+  length-map-upto n = length-map-count 0 n
 
   -- the next of them is stored
   pub fill-step : (n : ℕ) (d : List A) → n < length d → set (map f (upto n) ++ drop n d) n (f n) ≡ map f (upto (n + 1)) ++ drop (n + 1) d
@@ -131,7 +134,7 @@ module _ {A : Type 0} (f : ℕ → A) where
   pub map-same : (g : ℕ → A) (n : ℕ) → ((i : ℕ) → i < n → f i ≡ g i) → map f (upto n) ≡ map g (upto n)
   map-same g n h = map-same-count g 0 n (λ i a b. h i (omega arith))
 
-  getD-map-count : (s n i : ℕ) (d : A) → i < n → getD (map f (count s n)) i d ≡ f (s + i)
+  pub getD-map-count : (s n i : ℕ) (d : A) → i < n → getD (map f (count s n)) i d ≡ f (s + i)
   getD-map-count s zero i d h = absurd (omega arith)
   getD-map-count s (suc n) zero d h = ap f (omega arith)
   getD-map-count s (suc n) (suc i) d h = getD-map-count (suc s) n i d (omega arith) ∙ ap f (omega arith)

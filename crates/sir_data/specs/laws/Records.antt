@@ -10,6 +10,7 @@ use lib.ListN.{length, getD, take, drop, length-append, List·getD-append}
 use lib.Seq.{drop-cons, getD-append-add}
 use borrow.Author.Tests.{eqb-true, ne-eqb}
 use Rattle.plank_core.specs.Lists.{count}
+use Rattle.plank_core.specs.laws.Loops.{length-map-count, getD-map-count}
 use Rattle.sir_data.specs.Records.{operandsAt, operandWords, target, run, control, field, optional, successors}
 use Rattle.sir_data.specs.WellFormed.{Sized}
 
@@ -25,18 +26,7 @@ count-part w a s (suc n) h =
 pub run-part : (w : List ℕ) (s e : ℕ) → Sized w → s ≤ e → e ≤ operandWords w → run w s e ≡ take (e - s) (drop (operandsAt w + s) w)
 run-part w s e z h k = count-part w (operandsAt w) s (e - s) (omega arith)
 
--- ---- values in turn, and then perhaps one more
-
-pub counted-length : (f : ℕ → ℕ) (s n : ℕ) → length (map f (count s n)) ≡ n
-counted-length f s zero = refl
-counted-length f s (suc n) = ap suc (counted-length f (suc s) n)
-
-pub counted-at : (f : ℕ → ℕ) (s n i : ℕ) → i < n → getD (map f (count s n)) i 0 ≡ f (s + i)
-counted-at f s zero i h = absurd (omega arith)
-counted-at f s (suc n) zero h = let e : s ≡ s + 0 = omega arith in ap f e
-counted-at f s (suc n) (suc i) h =
-    let e : suc s + i ≡ s + suc i = omega arith in
-    counted-at f (suc s) n i (omega arith) ∙ ap f e
+-- ---- one more, perhaps
 
 pub optional-some : (k : ℕ) → ¬ (k ≡ 0) → length (optional k) ≡ 1
 optional-some zero h = absurd (h refl)
@@ -80,13 +70,13 @@ module _ (w : List ℕ) (b : ℕ) where
     targets = map (target w) (count (field w b 1) (field w b 2))
 
     pub switch-count : length (successors w b) ≡ field w b 2 + length (optional (field w b 3))
-    switch-count = rw kind (length-append targets (optional (field w b 3)) ∙ rw counted-length)
+    switch-count = rw kind (length-append targets (optional (field w b 3)) ∙ rw length-map-count)
 
     pub switch-target : (i : ℕ) → i < field w b 2 → getD (successors w b) i 0 ≡ target w (field w b 1 + i)
     switch-target i h =
         rw kind
-        (List·getD-append targets (optional (field w b 3)) 0 i (rw counted-length h)
-        ∙ counted-at (target w) (field w b 1) (field w b 2) i h)
+        (List·getD-append targets (optional (field w b 3)) 0 i (rw length-map-count h)
+        ∙ getD-map-count (target w) (field w b 1) (field w b 2) i 0 h)
 
     pub switch-fallback : (i : ℕ) → field w b 2 ≤ i → i < length (successors w b) → (0 < field w b 3) × (getD (successors w b) i 0 ≡ field w b 3 - 1)
-    switch-fallback i l h = rw kind (optional-last targets (field w b 3) i (rw counted-length l) (rw kind at h))
+    switch-fallback i l h = rw kind (optional-last targets (field w b 3) i (rw length-map-count l) (rw kind at h))
