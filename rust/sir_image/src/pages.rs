@@ -38,11 +38,14 @@ pub fn from_words(words: &[u32]) -> Vec<u8> {
 
 /// Adds one page: the next number, this payload of at most 126 words, zeros, and the check.
 pub fn push_page(pages: &mut Vec<u8>, payload: &[u32]) {
+    assert!(payload.len() <= PAYLOAD_WORDS);
     let mut page = [0; PAGE_WORDS];
     page[NUMBER_AT] = (pages.len() / PAGE_BYTES) as u32;
     page[1..1 + payload.len()].copy_from_slice(payload);
     page[CHECK_AT] = check(&page);
-    pages.extend(page.iter().flat_map(|word| word.to_le_bytes()));
+    for word in page {
+        pages.extend_from_slice(&word.to_le_bytes());
+    }
 }
 
 /// Word `i` of a page.
