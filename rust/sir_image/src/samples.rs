@@ -1,0 +1,84 @@
+//! Images that are known by name.
+
+use crate::{Code, Control, Image, Span};
+use crate::{MAX_BLOCKS, MAX_FUNCTIONS, MAX_LOCALS, MAX_OPERANDS, MAX_OPERATIONS, MAX_TARGETS};
+
+/// The image of `report`'s example: a pointer that block 0 stores through and block 1 loads through.
+pub fn report() -> Image {
+    let mut image = Image::new(4);
+    image.operation(Code::SetSmallConst, &[], &[0]);
+    image.operation_with(Code::StaticAllocZeroed, &[], &[1], [32, 0]);
+    image.operation(Code::MemoryStore, &[1, 0], &[]);
+    image.block(&[], &[1], Span::new(0, 3), Control::ContinuesTo(1));
+    image.operation(Code::MemoryLoad, &[2], &[3]);
+    image.operation(Code::Stop, &[], &[]);
+    image.block(&[2], &[], Span::new(3, 5), Control::LastOpTerminates);
+    image.function(0);
+    image
+}
+
+/// An image with every count at its limit: 14,665 words, on all 117 pages.
+///
+/// Each block holds four operations of four inputs and switches over two targets, so that all blocks are visited, all
+/// operations run and all words are read.
+pub fn largest() -> Image {
+    const OPERATIONS: usize = MAX_OPERATIONS / MAX_BLOCKS;
+    const INPUTS: usize = MAX_OPERANDS / MAX_OPERATIONS;
+    const TARGETS: usize = MAX_TARGETS / MAX_BLOCKS;
+    let block_id = |id: usize| (id % MAX_BLOCKS) as u32;
+    let mut image = Image::new(MAX_LOCALS);
+    for block in 0..MAX_BLOCKS {
+        let first = image.operations.len() as u32;
+        for _ in 0..OPERATIONS {
+            let inputs: [u32; INPUTS] = std::array::from_fn(|i| (image.operands.len() + i) as u32 % MAX_LOCALS);
+            image.operation(Code::Log2, &inputs, &[]);
+        }
+        let targets: [u32; TARGETS] = std::array::from_fn(|i| block_id(2 * block + i));
+        let switch = image.switch(MAX_LOCALS - 1, &targets, Some(block_id(block + 1)));
+        image.block(&[], &[], image.operations_from(first), switch);
+    }
+    for function in 0..MAX_FUNCTIONS {
+        image.function(block_id(function * MAX_BLOCKS / MAX_FUNCTIONS));
+    }
+    image.main = Some(MAX_FUNCTIONS as u32 - 1);
+    image
+}
+
+#[cfg(test)]
+mod tests {
+    use super::*;
+    use crate::pages::{self, MAX_PAGES, PAGE_BYTES};
+
+    #[test]
+    fn report_as_words() {
+        #[rustfmt::skip]
+        let words = [
+            1, 1, 2, 5, 8, 0, 4, 0, 0,
+            0,
+            4, 4, 4, 5, 0, 3, 2, 1, 0, 0, 0,
+            7, 8, 8, 8, 3, 5, 0, 0, 0, 0, 0,
+            86, 0, 0, 0, 1, 0, 0,
+            82, 1, 1, 1, 2, 32, 0,
+            24, 2, 4, 4, 4, 0, 0,
+            84, 5, 6, 6, 7, 0, 0,
+            77, 7, 7, 7, 7, 0, 0,
+            0, 1, 1, 0, 1, 2, 3, 2,
+        ];
+        assert_eq!(report().words(), words);
+        assert_eq!(report().pages().len(), PAGE_BYTES);
+    }
+
+    #[test]
+    fn largest_fills_every_page() {
+        let image = largest();
+        assert_eq!(image.entries.len(), MAX_FUNCTIONS);
+        assert_eq!(image.blocks.len(), MAX_BLOCKS);
+        assert_eq!(image.operations.len(), MAX_OPERATIONS);
+        assert_eq!(image.operands.len(), MAX_OPERANDS);
+        assert_eq!(image.targets.len(), MAX_TARGETS);
+        assert_eq!(image.locals, MAX_LOCALS);
+        assert_eq!(image.word_count(), 14_665);
+        assert_eq!(pages::page_count(image.word_count()), MAX_PAGES);
+        assert_eq!(image.pages().len(), 59_904);
+    }
+}
