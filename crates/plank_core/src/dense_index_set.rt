@@ -133,16 +133,16 @@ pub fn list(set: &[u64], out: &mut [u32]) -> usize
     ensures { λ r. ⌜ (r ≡ length (members (now (set .entry)))) × (now (out .exit) ≡ members (now (set .entry)) ++ drop r (now (out .entry))) ⌝ }
 {
     let mut n: usize = 0;
-    let mut k: usize = 0;
-    while k < 8 {
-        let base = (64 * k) as u32;
-        let mut w = set[k];
+    let mut at: usize = 0;
+    while at < 8 {
+        let base = (64 * at) as u32;
+        let mut w = set[at];
         while w != 0 {
             out[n] = base + u64::trailing_zeros(w);
             n += 1;
             w = w & (w - 1);
         }
-        k += 1;
+        at += 1;
     }
     n
 }

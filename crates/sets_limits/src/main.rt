@@ -1,10 +1,17 @@
 // Sets and rows of sets at their limits; what is printed is held to the file stdout.
 use libc::STDOUT_FILENO;
-use plank_core::dense_index_set::{first, intersects, is_empty, list, DenseIndexSet};
-use plank_core::rows::{row_add, row_difference_with, row_of, row_remove, row_union_with};
-
+use plank_core::dense_index_set::DenseIndexSet;
+use plank_core::dense_index_set::first;
+use plank_core::dense_index_set::intersects;
+use plank_core::dense_index_set::is_empty;
+use plank_core::dense_index_set::list;
+use plank_core::rows::row_add;
+use plank_core::rows::row_difference_with;
+use plank_core::rows::row_of;
+use plank_core::rows::row_remove;
+use plank_core::rows::row_union_with;
 ghost use mathlib.Core.Path.{_≡_};
-ghost use Prim.Native.Nat.{_≤_, _<_};
+ghost use Prim.Native.Nat.{_+_, _*_, _≤_, _<_};
 ghost use lib.ListN.{length};
 
 fn say(text: &[u8]) {
@@ -101,9 +108,15 @@ fn ask_sets() {
     say_if(b"limits is empty", is_empty(&ends.words));
     say_if(b"full without full is empty", is_empty(&gone.words));
     let last = with(empty, 511);
-    say_if(b"511 alone meets limits", intersects(&last.words, &ends.words));
+    say_if(
+        b"511 alone meets limits",
+        intersects(&last.words, &ends.words),
+    );
     let near = with(with(with(empty, 1), 62), 510);
-    say_if(b"1 62 510 meets limits", intersects(&near.words, &ends.words));
+    say_if(
+        b"1 62 510 meets limits",
+        intersects(&near.words, &ends.words),
+    );
     let c = ends.add(511);
     say_if(b"511 is new in limits", c.changed);
     let d = ends.add(1);
@@ -134,6 +147,12 @@ fn show_firsts() {
     show_first(b"first of 511", &last.words);
 }
 
+fn show_row(name: &[u8], table: &[u64], row: usize)
+    requires { ⌜ 8 * row + 8 ≤ length (now table) ⌝ }
+{
+    show(name, row_of(table, row));
+}
+
 // Three rows, the middle one changed at its ends: its neighbours stay.
 fn show_rows() {
     let mut table = [0u64; 24];
@@ -144,16 +163,19 @@ fn show_rows() {
     say_if(b"511 is new in row 1 again", row_add(&mut table, 1, 511));
     let ends = limits();
     say_if(b"row 1 grew", row_union_with(&mut table, 1, &ends.words));
-    say_if(b"row 1 grew again", row_union_with(&mut table, 1, &ends.words));
-    show(b"row 0", row_of(&table, 0));
-    show(b"row 1", row_of(&table, 1));
-    show(b"row 2", row_of(&table, 2));
+    say_if(
+        b"row 1 grew again",
+        row_union_with(&mut table, 1, &ends.words),
+    );
+    show_row(b"row 0", &table, 0);
+    show_row(b"row 1", &table, 1);
+    show_row(b"row 2", &table, 2);
     say_if(b"511 was in row 1", row_remove(&mut table, 1, 511));
     let low = below(64);
     row_difference_with(&mut table, 1, &low.words);
-    show(b"row 0", row_of(&table, 0));
-    show(b"row 1", row_of(&table, 1));
-    show(b"row 2", row_of(&table, 2));
+    show_row(b"row 0", &table, 0);
+    show_row(b"row 1", &table, 1);
+    show_row(b"row 2", &table, 2);
 }
 
 fn main() {

@@ -12,16 +12,16 @@ use Rattle.plank_core.proofs.dense_index_set.list.Statement.{statement}
 use Rattle.plank_core.proofs.dense_index_set.list.Tie as tie
 
 abbrev Inv-loop2 : tie.InvT-loop2
-Inv-loop2 set out₀ n₀ k base w₀ out n w = (w < 2 ^ 64) × (n ≤ 512) × (n₀ ≤ n) × Walked set out₀ out n (digitsFrom 64 (64 * k) w ++ from set (k + 1))
+Inv-loop2 set out₀ n₀ at base w₀ out n w = (w < 2 ^ 64) × (n ≤ 512) × (n₀ ≤ n) × Walked set out₀ out n (digitsFrom 64 (64 * at) w ++ from set (at + 1))
 
 abbrev μ-loop2 : tie.MeasureT-loop2
-μ-loop2 set out₀ n₀ k base w₀ out n w = w
+μ-loop2 set out₀ n₀ at base w₀ out n w = w
 
 abbrev Inv-loop : tie.InvT-loop
-Inv-loop set out₀ n₀ k₀ out n k = (k ≤ 8) × (n ≤ 512) × Walked set out₀ out n (from set k)
+Inv-loop set out₀ n₀ at₀ out n at = (at ≤ 8) × (n ≤ 512) × Walked set out₀ out n (from set at)
 
 abbrev μ-loop : tie.MeasureT-loop
-μ-loop set out₀ n₀ k₀ out n k = 8 - k
+μ-loop set out₀ n₀ at₀ out n at = 8 - at
 
 loop-holds : tie.Need-loop-holds Inv-loop2 μ-loop2 Inv-loop μ-loop
 loop-holds c = (omega arith, omega arith, walk-starts (c .pre .1))
@@ -39,14 +39,14 @@ shared-slice-read-w : tie.Need-shared-slice-read-w Inv-loop2 μ-loop2 Inv-loop �
 shared-slice-read-w c = omega arith
 
 loop2-holds : tie.Need-loop2-holds Inv-loop2 μ-loop2 Inv-loop μ-loop
-loop2-holds c = (c .shared-slice-known .given (c .before .before .loop .k) .fits, c .before .before .loop .inv .1, omega arith, walk-on (from-word _ (c .before .before .loop .k) (c .before .loop-test .taken)) (walk-part (c .before .before .loop .inv .2)))
+loop2-holds c = (c .shared-slice-known .given (c .before .before .loop .at) .fits, c .before .before .loop .inv .1, omega arith, walk-on (from-word _ (c .before .before .loop .at) (c .before .loop-test .taken)) (walk-part (c .before .before .loop .inv .2)))
 
 -- the next member
 next : (c : tie.In-loop2 Inv-loop2 μ-loop2 Inv-loop μ-loop)
     → Walked (c .before .before .before .before .before .args .set .now) (c .before .before .before .before .loop .out) (c .before .loop2 .out) (c .before .loop2 .n)
-    ((64 * c .before .before .before .before .loop .k + trailingZeros 64 (c .before .loop2 .w))
-    ∷ (digitsFrom 64 (64 * c .before .before .before .before .loop .k) (bitAnd (c .before .loop2 .w) (c .before .loop2 .w - 1))
-    ++ from (c .before .before .before .before .before .args .set .now) (c .before .before .before .before .loop .k + 1)))
+    ((64 * c .before .before .before .before .loop .at + trailingZeros 64 (c .before .loop2 .w))
+    ∷ (digitsFrom 64 (64 * c .before .before .before .before .loop .at) (bitAnd (c .before .loop2 .w) (c .before .loop2 .w - 1))
+    ++ from (c .before .before .before .before .before .args .set .now) (c .before .before .before .before .loop .at + 1)))
 next c = walk-on (left-lowest _ _ _ (c .loop2-test .taken) (c .before .loop2 .inv .0)) (c .before .loop2 .inv .3)
 
 add-out : tie.Need-add-out Inv-loop2 μ-loop2 Inv-loop μ-loop
@@ -70,8 +70,8 @@ loop2-less c = cleared-less _ (c .loop2-test .taken)
 loop2-again : tie.Need-loop2-again Inv-loop2 μ-loop2 Inv-loop μ-loop
 loop2-again c = (omega (arith, cleared-less _ (c .loop2-test .taken)), omega (arith, walk-room (c .before .loop2 .inv .1) (next c)), omega arith, walk-step (c .before .loop2 .inv .1) (next c))
 
-add-k : tie.Need-add-k Inv-loop2 μ-loop2 Inv-loop μ-loop
-add-k c = omega arith
+add-at : tie.Need-add-at Inv-loop2 μ-loop2 Inv-loop μ-loop
+add-at c = omega arith
 
 loop-less : tie.Need-loop-less Inv-loop2 μ-loop2 Inv-loop μ-loop
 loop-less c = omega arith
@@ -83,7 +83,7 @@ same-length : tie.Need-same-length Inv-loop2 μ-loop2 Inv-loop μ-loop
 same-length c = c .before .loop .inv .2 .long
 
 returns : tie.Need-returns Inv-loop2 μ-loop2 Inv-loop μ-loop
-returns c = let e : c .before .loop .k ≡ 8 = omega arith in walk-done (c .before .loop .inv .1) (rw e at (c .before .loop .inv .2))
+returns c = let e : c .before .loop .at ≡ 8 = omega arith in walk-done (c .before .loop .inv .1) (rw e at (c .before .loop .inv .2))
 
 pub list-spec : {M : Type 1} → statement M
 list-spec =
@@ -106,7 +106,7 @@ list-spec =
     sub-w
     loop2-less
     loop2-again
-    add-k
+    add-at
     loop-less
     loop-again
     same-length
