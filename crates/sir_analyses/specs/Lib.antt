@@ -4,3 +4,4 @@ pub mod Allocation
 pub mod Answers
 pub mod Claims
 pub mod Walk
+pub mod Examples

@@ -3,5 +3,4 @@ pub mod Records
 pub mod Codes
 pub mod Rules
 pub mod WellFormed
-pub mod Examples
 pub mod laws
