@@ -4,5 +4,4 @@ pub mod Cases
 pub mod Codes
 pub mod Rules
 pub mod WellFormed
-pub mod Examples
 pub mod laws

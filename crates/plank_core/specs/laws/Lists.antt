@@ -2,13 +2,14 @@
 use mathlib.Core.Path.{_≡_, refl, sym, ap, _∙_, subst}
 use mathlib.Core.Logic.{_↔_, ⊎-elim, _⊎_, inl, inr}
 use mathlib.Core.Bool.{Bool, true, false, not, _&&_, _||_, cond}
+use mathlib.Core.Option.{Option, some}
 use Prim.Native.Nat.{ℕ, zero, suc, _+_, _-_, _≤_, _<_}
 use native.Mathlib.Omega.{arith}
-use mathlib.Core.List.{List, [], _∷_, _++_, map, reverse, reverseAux, List·Memᴰ, List·Memᴰ·head, List·Memᴰ·tail, List·Memᴰ·not-nil, List·Memᴰ·cases-cons, List·Memᴰ·append-cases, Memᴰ·append-left, Memᴰ·append-right}
-use lib.ListN.{length}
+use mathlib.Core.List.{List, [], _∷_, _++_, map, reverse, reverseAux, reverse-reverse, List·Memᴰ, List·Memᴰ·head, List·Memᴰ·tail, List·Memᴰ·not-nil, List·Memᴰ·cases-cons, List·Memᴰ·append-cases, Memᴰ·append-left, Memᴰ·append-right, Memᴰ·cast}
+use lib.ListN.{length, getD, getElem?}
 use lib.Dec.{eqb, T}
-use borrow.Author.Tests.{eqb-true, eqb-false, eq-eqb}
-use Rattle.plank_core.specs.Lists.{count, range, upto, bind, all, any, keep, mem, distinct}
+use borrow.Author.Tests.{eqb-true, eqb-false, eq-eqb, ne-eqb, not-true}
+use Rattle.plank_core.specs.Lists.{count, range, upto, foldl, bind, all, any, keep, mem, distinct, _∈_}
 
 -- ---- tests
 
@@ -28,6 +29,14 @@ pub and-true-right : (a b : Bool) → (a && b) ≡ true → b ≡ true
 and-true-right true b h = h
 and-true-right false b h = let z : false ≡ true = h in cc
 
+pub and-true : (a b : Bool) → a ≡ true → b ≡ true → (a && b) ≡ true
+and-true true b h k = k
+and-true false b h k = h
+
+pub or-true-left : (a b : Bool) → a ≡ true → (a || b) ≡ true
+or-true-left true b h = refl
+or-true-left false b h = let z : false ≡ true = h in cc
+
 pub or-true-right : (a b : Bool) → b ≡ true → (a || b) ≡ true
 or-true-right true b h = refl
 or-true-right false b h = h
@@ -39,6 +48,15 @@ or-cases false b h = inr h
 pub bool-or : (t : Bool) → (t ≡ true) ⊎ (t ≡ false)
 bool-or true = inl refl
 bool-or false = inr refl
+
+pub refuted : (t : Bool) → ¬ (t ≡ true) → t ≡ false
+refuted true h = absurd (h refl)
+refuted false h = refl
+
+pub same-tests : (a b : Bool) → (a ≡ true → b ≡ true) → (b ≡ true → a ≡ true) → a ≡ b
+same-tests true b f g = sym (f refl)
+same-tests false true f g = g refl
+same-tests false false f g = refl
 
 -- a test that passes and fails
 pub none : {A : Type 0} (t : Bool) → t ≡ true → t ≡ false → A
@@ -61,14 +79,6 @@ mem-count x s (suc n) m =
 pub mem-range : (x s e : ℕ) → List·Memᴰ x (range s e) → (s ≤ x) × (x < e)
 mem-range x s e m = omega (arith, mem-count x s (e - s) m)
 
-pub all-mem : (p : ℕ → Bool) (xs : List ℕ) → all p xs ≡ true → (x : ℕ) → List·Memᴰ x xs → p x ≡ true
-all-mem p [] h x m = absurd (List·Memᴰ·not-nil m)
-all-mem p (y ∷ ys) h x m =
-    ⊎-elim
-    (λ (e : x ≡ y). ap p e ∙ and-true-left (p y) (all p ys) h)
-    (λ (t : List·Memᴰ x ys). all-mem p ys (and-true-right (p y) (all p ys) h) x t)
-    (List·Memᴰ·cases-cons m)
-
 pub count-mem : (x s n : ℕ) → s ≤ x → x < s + n → List·Memᴰ x (count s n)
 count-mem x s zero a b = absurd (omega arith)
 count-mem x s (suc n) a b = go (eqb x s) refl (count-mem x (suc s) n)
@@ -77,34 +87,122 @@ count-mem x s (suc n) a b = go (eqb x s) refl (count-mem x (suc s) n)
     go true e rest = List·Memᴰ·head (eqb-true x s e)
     go false e rest = let ne : ¬ (x ≡ s) = eqb-false x s e in List·Memᴰ·tail (rest (omega arith) (omega arith))
 
+pub upto-mem : (x n : ℕ) → x < n → x ∈ upto n
+upto-mem x n l = count-mem x 0 n (omega arith) (omega arith)
+
+pub mem-upto : (x n : ℕ) → x ∈ upto n → x < n
+mem-upto x n m = omega (arith, mem-count x 0 n m)
+
+module _ {A : Type 0} where
+  pub all-mem : (p : A → Bool) (xs : List A) → all p xs ≡ true → (x : A) → List·Memᴰ x xs → p x ≡ true
+  all-mem p [] h x m = absurd (List·Memᴰ·not-nil m)
+  all-mem p (y ∷ ys) h x m =
+      ⊎-elim
+      (λ (e : x ≡ y). ap p e ∙ and-true-left (p y) (all p ys) h)
+      (λ (t : List·Memᴰ x ys). all-mem p ys (and-true-right (p y) (all p ys) h) x t)
+      (List·Memᴰ·cases-cons m)
+
+  pub any-mem : {x : A} (p : A → Bool) {xs : List A} → List·Memᴰ x xs → p x ≡ true → any p xs ≡ true
+  any-mem p (List·Memᴰ·head {x = y} {xs = ys} e) h = or-true-left (p y) (any p ys) (ap p (sym e) ∙ h)
+  any-mem p (List·Memᴰ·tail {x = y} {xs = ys} m) h = or-true-right (p y) (any p ys) (any-mem p m h)
+
+  pub any-out : (p : A → Bool) (xs : List A) → any p xs ≡ true → (x : A) × List·Memᴰ x xs × (p x ≡ true)
+  any-out p [] h = none false h refl
+  any-out p (y ∷ ys) h =
+      ⊎-elim
+      (λ (e : p y ≡ true). (y, List·Memᴰ·head refl, e))
+      (λ (e : any p ys ≡ true). let r = any-out p ys e in (r .0, List·Memᴰ·tail (r .1), r .2))
+      (or-cases (p y) (any p ys) h)
+
+  pub keep-mem : {x : A} (p : A → Bool) {xs : List A} → List·Memᴰ x xs → p x ≡ true → List·Memᴰ x (keep p xs)
+  keep-mem p (List·Memᴰ·head {x = y} e) h = let k : p y ≡ true = ap p (sym e) ∙ h in rw k (List·Memᴰ·head e)
+  keep-mem {x} p (List·Memᴰ·tail {x = y} {xs = ys} m) h = go (p y) (keep-mem p m h)
+    where
+      go : (t : Bool) → List·Memᴰ x (keep p ys) → List·Memᴰ x (cond t (y ∷ keep p ys) (keep p ys))
+      go true k = List·Memᴰ·tail k
+      go false k = k
+
+  pub keep-out : {x : A} (p : A → Bool) (xs : List A) → List·Memᴰ x (keep p xs) → List·Memᴰ x xs × (p x ≡ true)
+  keep-out p [] m = absurd (List·Memᴰ·not-nil m)
+  keep-out {x} p (y ∷ ys) m = go (p y) refl (keep-out p ys) m
+    where
+      go : (t : Bool) → p y ≡ t → (List·Memᴰ x (keep p ys) → List·Memᴰ x ys × (p x ≡ true)) → List·Memᴰ x (cond t (y ∷ keep p ys) (keep p ys)) → List·Memᴰ x (y ∷ ys) × (p x ≡ true)
+      go true e k (List·Memᴰ·head h) = (List·Memᴰ·head h, ap p h ∙ e)
+      go true e k (List·Memᴰ·tail h) = (List·Memᴰ·tail (k h .0), k h .1)
+      go false e k h = (List·Memᴰ·tail (k h .0), k h .1)
+
+  reverse-later : {x : A} (xs : List A) {ys : List A} → List·Memᴰ x ys → List·Memᴰ x (reverseAux xs ys)
+  reverse-later [] m = m
+  reverse-later (z ∷ xs) m = reverse-later xs (List·Memᴰ·tail m)
+
+  reverse-first : {x : A} {xs : List A} (ys : List A) → List·Memᴰ x xs → List·Memᴰ x (reverseAux xs ys)
+  reverse-first ys (List·Memᴰ·head {x = z} {xs = xs} e) = reverse-later xs (List·Memᴰ·head e)
+  reverse-first ys (List·Memᴰ·tail {x = z} m) = reverse-first (z ∷ ys) m
+
+  pub reverse-mem : {x : A} {xs : List A} → List·Memᴰ x xs → List·Memᴰ x (reverse xs)
+  reverse-mem m = reverse-first [] m
+
+  pub reverse-out : {x : A} (xs : List A) → List·Memᴰ x (reverse xs) → List·Memᴰ x xs
+  reverse-out xs m = rw (reverse-reverse xs) at (reverse-mem m)
+
+  -- what holds of f x for each x holds of each member of the map
+  pub map-each : {B : Type 0} (P : B → Type 0) (f : A → B) (xs : List A) → ((x : A) → List·Memᴰ x xs → P (f x)) → (y : B) → List·Memᴰ y (map f xs) → P y
+  map-each P f [] h y m = absurd (List·Memᴰ·not-nil m)
+  map-each P f (x ∷ xs) h y m =
+      ⊎-elim
+      (λ (e : y ≡ f x). subst P (sym e) (h x (List·Memᴰ·head refl)))
+      (λ (t : List·Memᴰ y (map f xs)). map-each P f xs (λ z k. h z (List·Memᴰ·tail k)) y t)
+      (List·Memᴰ·cases-cons m)
+
+  pub bind-mem : {B : Type 0} {x : A} {y : B} (f : A → List B) {xs : List A} → List·Memᴰ x xs → List·Memᴰ y (f x) → List·Memᴰ y (bind xs f)
+  bind-mem f (List·Memᴰ·head {x = z} {xs = zs} e) k = Memᴰ·append-left (bind zs f) (rw e at k)
+  bind-mem f (List·Memᴰ·tail {x = z} m) k = Memᴰ·append-right (f z) (bind-mem f m k)
+
+  pub bind-out : {B : Type 0} {y : B} (f : A → List B) (xs : List A) → List·Memᴰ y (bind xs f) → (x : A) × List·Memᴰ x xs × List·Memᴰ y (f x)
+  bind-out f [] m = absurd (List·Memᴰ·not-nil m)
+  bind-out {B} {y} f (z ∷ zs) m =
+      ⊎-elim
+      (λ (h : List·Memᴰ y (f z)). (z, List·Memᴰ·head refl, h))
+      (λ (h : List·Memᴰ y (bind zs f)). let r = bind-out f zs h in (r .0, List·Memᴰ·tail (r .1), r .2))
+      (List·Memᴰ·append-cases (f z) m)
+
+  -- what each step keeps, a fold keeps
+  pub foldl-keeps : {C : Type 0} (I : C → Type 0) (f : C → A → C) (xs : List A) → ((c : C) (x : A) → List·Memᴰ x xs → I c → I (f c x)) → (c : C) → I c → I (foldl f c xs)
+  foldl-keeps I f [] h c i = i
+  foldl-keeps I f (x ∷ xs) h c i = foldl-keeps I f xs (λ d y m. h d y (List·Memᴰ·tail m)) (f c x) (h c x (List·Memᴰ·head refl) i)
+
+  -- ---- the element at a place
+
+  pub elem-getD : (xs : List A) (i : ℕ) (d x : A) → getElem? xs i ≡ some x → getD xs i d ≡ x
+  elem-getD [] i d x e = cc
+  elem-getD (y ∷ ys) zero d x e = cc
+  elem-getD (y ∷ ys) (suc i) d x e = elem-getD ys i d x e
+
+  pub elem-mem : (xs : List A) (i : ℕ) (x : A) → getElem? xs i ≡ some x → List·Memᴰ x xs
+  elem-mem [] i x e = let z : _≡_ {A = ℕ} 0 1 = cc in absurd (omega arith)
+  elem-mem (y ∷ ys) zero x e = let q : x ≡ y = cc in List·Memᴰ·head q
+  elem-mem (y ∷ ys) (suc i) x e = List·Memᴰ·tail (elem-mem ys i x e)
+
+  pub elem-less : (xs : List A) (i : ℕ) (x : A) → getElem? xs i ≡ some x → i < length xs
+  elem-less [] i x e = let z : _≡_ {A = ℕ} 0 1 = cc in absurd (omega arith)
+  elem-less (y ∷ ys) zero x e = omega arith
+  elem-less (y ∷ ys) (suc i) x e = omega (arith, elem-less ys i x e)
+
+  pub mem-elem : {x : A} {xs : List A} → List·Memᴰ x xs → (i : ℕ) × (getElem? xs i ≡ some x)
+  mem-elem (List·Memᴰ·head e) = (0, cc)
+  mem-elem (List·Memᴰ·tail m) = let r = mem-elem m in (suc (r .0), r .1)
+
+  pub getD-mem : (xs : List A) (i : ℕ) (d : A) → i < length xs → List·Memᴰ (getD xs i d) xs
+  getD-mem [] i d h = absurd (omega arith)
+  getD-mem (y ∷ ys) zero d h = List·Memᴰ·head refl
+  getD-mem (y ∷ ys) (suc i) d h = List·Memᴰ·tail (getD-mem ys i d (omega arith))
+
+  pub length-none : (xs : List A) → length xs ≡ 0 → xs ≡ []
+  length-none [] e = refl
+  length-none (x ∷ xs) e = absurd (omega arith)
+
 pub all-upto : (p : ℕ → Bool) (n : ℕ) → all p (upto n) ≡ true → (i : ℕ) → i < n → p i ≡ true
-all-upto p n h i l = all-mem p (upto n) h i (count-mem i 0 n (omega arith) (omega arith))
-
--- ---- members of maps and binds: what holds of each f x holds of each member of the map, and so for the bind
-
-pub map-each : {A : Type 0} (P : A → Type 0) (f : ℕ → A) (xs : List ℕ) → ((x : ℕ) → List·Memᴰ x xs → P (f x)) → (y : A) → List·Memᴰ y (map f xs) → P y
-map-each P f [] h y m = absurd (List·Memᴰ·not-nil m)
-map-each {A} P f (x ∷ xs) h y m =
-    ⊎-elim
-    (λ (e : y ≡ f x). subst P (sym e) (h x (List·Memᴰ·head refl)))
-    (λ (t : List·Memᴰ y (map f xs)). map-each P f xs (λ z k. h z (List·Memᴰ·tail k)) y t)
-    (List·Memᴰ·cases-cons m)
-
-pub bind-each : (P : ℕ → Type 0) (f : ℕ → List ℕ) (xs : List ℕ) → ((x y : ℕ) → List·Memᴰ x xs → List·Memᴰ y (f x) → P y) → (y : ℕ) → List·Memᴰ y (bind xs f) → P y
-bind-each P f [] h y m = absurd (List·Memᴰ·not-nil m)
-bind-each P f (x ∷ xs) h y m =
-    ⊎-elim
-    (h x y (List·Memᴰ·head refl))
-    (bind-each P f xs (λ z u k. h z u (List·Memᴰ·tail k)) y)
-    (List·Memᴰ·append-cases (f x) m)
-
-pub map-mem : {A : Type 0} (f : ℕ → A) {x : ℕ} {xs : List ℕ} → List·Memᴰ x xs → List·Memᴰ (f x) (map f xs)
-map-mem f (List·Memᴰ·head e) = List·Memᴰ·head (ap f e)
-map-mem f (List·Memᴰ·tail m) = List·Memᴰ·tail (map-mem f m)
-
-pub bind-mem : (f : ℕ → List ℕ) {x y : ℕ} {xs : List ℕ} → List·Memᴰ x xs → List·Memᴰ y (f x) → List·Memᴰ y (bind xs f)
-bind-mem f {x} {y} (List·Memᴰ·head {x = z} {xs = zs} e) k = Memᴰ·append-left (bind zs f) (subst (λ (n : ℕ). List·Memᴰ y (f n)) e k)
-bind-mem f (List·Memᴰ·tail {x = z} m) k = Memᴰ·append-right (f z) (bind-mem f m k)
+all-upto p n h i l = all-mem p (upto n) h i (upto-mem i n l)
 
 -- ---- how often a number is in a list
 
@@ -156,6 +254,35 @@ pub in-mem : (x : ℕ) {ys : List ℕ} → List·Memᴰ x ys → mem x ys ≡ tr
 in-mem x (List·Memᴰ·head {x = y} e) = rw (eq-eqb x y e)
 in-mem x (List·Memᴰ·tail {x = y} {xs = ys} m) = or-true-right (eqb x y) (mem x ys) (in-mem x m)
 
+pub mem-not : (x : ℕ) (ys : List ℕ) → ¬ (x ∈ ys) → mem x ys ≡ false
+mem-not x ys n = refuted (mem x ys) (λ h. n (mem-in x ys h))
+
+pub mem-keep : (p : ℕ → Bool) (x : ℕ) (ys : List ℕ) → mem x (keep p ys) ≡ (p x && mem x ys)
+mem-keep p x ys =
+    same-tests (mem x (keep p ys)) (p x && mem x ys)
+    (λ h. let k = keep-out p ys (mem-in x (keep p ys) h) in and-true (p x) (mem x ys) (k .1) (in-mem x (k .0)))
+    (λ h. in-mem x (keep-mem p (mem-in x ys (and-true-right (p x) (mem x ys) h)) (and-true-left (p x) (mem x ys) h)))
+
+-- ---- distinct lists
+
+-- two places of one number are one place
+pub distinct-places : (xs : List ℕ) (i j d : ℕ) → distinct xs ≡ true → i < length xs → j < length xs → getD xs i d ≡ getD xs j d → i ≡ j
+distinct-places [] i j d t h k e = absurd (omega arith)
+distinct-places (x ∷ xs) i j d t h k e = go i j h k e (distinct-places xs)
+  where
+    new : mem x xs ≡ false
+    new = not-true (mem x xs) (and-true-left (not (mem x xs)) (distinct xs) t)
+
+    once : (i : ℕ) → i < length xs → x ≡ getD xs i d → ⊥
+    once i l q = none (mem x xs) (in-mem x (Memᴰ·cast q (getD-mem xs i d l))) new
+
+    go : (i j : ℕ) → i < suc (length xs) → j < suc (length xs) → getD (x ∷ xs) i d ≡ getD (x ∷ xs) j d
+        → ((i j d : ℕ) → distinct xs ≡ true → i < length xs → j < length xs → getD xs i d ≡ getD xs j d → i ≡ j) → i ≡ j
+    go zero zero h k e f = refl
+    go zero (suc j) h k e f = absurd (once j (omega arith) e)
+    go (suc i) zero h k e f = absurd (once i (omega arith) (sym e))
+    go (suc i) (suc j) h k e f = ap suc (f i j d (and-true-right (not (mem x xs)) (distinct xs) t) (omega arith) (omega arith) e)
+
 -- at most once each: distinct
 pub times-distinct : (xs : List ℕ) → ((x : ℕ) → times x xs ≤ 1) → distinct xs ≡ true
 times-distinct [] h = refl
@@ -188,20 +315,14 @@ below-next P n h p j l = go (eqb j n) refl
     go false e = let ne : ¬ (j ≡ n) = eqb-false j n e in h j (omega arith)
 
 pub any-some : (p : ℕ → Bool) (s n i : ℕ) → s ≤ i → i < s + n → p i ≡ true → any p (count s n) ≡ true
-any-some p s zero i a b h = absurd (omega arith)
-any-some p s (suc n) i a b h = go (eqb i s) refl (any-some p (suc s) n i)
-  where
-    go : (t : Bool) → eqb i s ≡ t → (suc s ≤ i → i < suc s + n → p i ≡ true → any p (count (suc s) n) ≡ true) → (p s || any p (count (suc s) n)) ≡ true
-    go true e rest = let q : p s ≡ true = ap p (sym (eqb-true i s e)) ∙ h in rw q
-    go false e rest = let ne : ¬ (i ≡ s) = eqb-false i s e in or-true-right (p s) _ (rest (omega arith) (omega arith) h)
+any-some p s n i a b h = any-mem p (count-mem i s n a b) h
 
 pub any-none : (p : ℕ → Bool) (s n : ℕ) → ((i : ℕ) → s ≤ i → i < s + n → p i ≡ false) → any p (count s n) ≡ false
 any-none p s zero h = refl
 any-none p s (suc n) h = rw (h s (omega arith) (omega arith)) (any-none p (suc s) n (λ i a b. h i (omega arith) (omega arith)))
 
 pub any-find : (p : ℕ → Bool) (s n : ℕ) → any p (count s n) ≡ true → (i : ℕ) × (s ≤ i) × (i < s + n) × (p i ≡ true)
-any-find p s zero h = none false h refl
-any-find p s (suc n) h = ⊎-elim (λ (e : p s ≡ true). (s, omega arith, omega arith, e)) (λ (e : any p (count (suc s) n) ≡ true). let r = any-find p (suc s) n e in (r .0, omega arith, omega arith, r .3)) (or-cases (p s) (any p (count (suc s) n)) h)
+any-find p s n h = let r = any-out p (count s n) h in let k = mem-count (r .0) s n (r .1) in (r .0, k .0, k .1, r .2)
 
 -- none of them, so not this one
 pub any-not : (p : ℕ → Bool) (s n i : ℕ) → any p (count s n) ≡ false → s ≤ i → i < s + n → p i ≡ false
@@ -238,24 +359,3 @@ keep-most p (x ∷ xs) = go (p x) (keep-most p xs)
     go : (t : Bool) → length (keep p xs) ≤ length xs → length (cond t (x ∷ keep p xs) (keep p xs)) ≤ suc (length xs)
     go true l = omega arith
     go false l = omega arith
-
--- kept are the members that pass
-pub keep-in : (p : ℕ → Bool) (x : ℕ) {xs : List ℕ} → List·Memᴰ x xs → p x ≡ true → List·Memᴰ x (keep p xs)
-keep-in p x (List·Memᴰ·head {x = z} e) t = let q : p z ≡ true = ap p (sym e) ∙ t in rw q (List·Memᴰ·head e)
-keep-in p x (List·Memᴰ·tail {x = z} {xs = xs} m) t = go (p z) (keep-in p x m t)
-  where
-    go : (u : Bool) → List·Memᴰ x (keep p xs) → List·Memᴰ x (cond u (z ∷ keep p xs) (keep p xs))
-    go true k = List·Memᴰ·tail k
-    go false k = k
-
-pub keep-mem : (p : ℕ → Bool) (x : ℕ) (xs : List ℕ) → List·Memᴰ x (keep p xs) → List·Memᴰ x xs × (p x ≡ true)
-keep-mem p x [] m = absurd (List·Memᴰ·not-nil m)
-keep-mem p x (y ∷ ys) m = go (p y) refl m (keep-mem p x ys)
-  where
-    go : (u : Bool) → p y ≡ u → List·Memᴰ x (cond u (y ∷ keep p ys) (keep p ys)) → (List·Memᴰ x (keep p ys) → List·Memᴰ x ys × (p x ≡ true)) → List·Memᴰ x (y ∷ ys) × (p x ≡ true)
-    go true e k rest =
-        ⊎-elim
-        (λ (q : x ≡ y). (List·Memᴰ·head q, ap p q ∙ e))
-        (λ (t : List·Memᴰ x (keep p ys)). (List·Memᴰ·tail (rest t .0), rest t .1))
-        (List·Memᴰ·cases-cons k)
-    go false e k rest = (List·Memᴰ·tail (rest k .0), rest k .1)

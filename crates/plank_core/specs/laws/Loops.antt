@@ -1,13 +1,13 @@
 -- Laws for loops that count up: a step, an early stop and the end of each. Assumes nothing.
 use mathlib.Core.Path.{_≡_, refl, sym, ap, _∙_}
-use mathlib.Core.Bool.{Bool, true, false, _&&_, _||_, and-assoc, or-assoc}
+use mathlib.Core.Bool.{Bool, true, false, _&&_, _||_, cond, and-assoc, or-assoc}
 use Prim.Native.Nat.{ℕ, zero, suc, _+_, _-_, _≤_, _<_}
 use native.Mathlib.Numerals.{add-one}
 use native.Mathlib.Omega.{arith}
 use mathlib.Core.List.{List, [], _∷_, _++_, map, append-assoc, append-nil}
 use lib.ListN.{length, getD, take, drop, set, drop-of-length-le, length-append, length-drop, length-map}
 use lib.Seq.{drop-cons, set-at, take-all, take-at, drop-at, drop-drop}
-use Rattle.plank_core.specs.Lists.{count, range, upto, all, any, sum}
+use Rattle.plank_core.specs.Lists.{count, range, upto, all, any, keep, sum}
 
 -- ---- the numbers of a loop
 
@@ -36,6 +36,21 @@ count-add s (suc n) m =
 pub length-count : (s n : ℕ) → length (count s n) ≡ n
 length-count s zero = refl
 length-count s (suc n) = ap suc (length-count (suc s) n)
+
+-- the same places, counted from one less
+pub keep-shift : (p : ℕ → Bool) (s n : ℕ) → length (keep p (count (suc s) n)) ≡ length (keep (λ i. p (suc i)) (count s n))
+keep-shift p s zero = refl
+keep-shift p s (suc n) = go (p (suc s)) (keep-shift p (suc s) n)
+  where
+    go : (t : Bool) → length (keep p (count (suc (suc s)) n)) ≡ length (keep (λ i. p (suc i)) (count (suc s) n))
+        → length (cond t (suc s ∷ keep p (count (suc (suc s)) n)) (keep p (count (suc (suc s)) n)))
+        ≡ length (cond t (s ∷ keep (λ i. p (suc i)) (count (suc s) n)) (keep (λ i. p (suc i)) (count (suc s) n)))
+    go true e = ap suc e
+    go false e = e
+
+pub sum-shift : (f : ℕ → ℕ) (s n : ℕ) → sum (map f (count (suc s) n)) ≡ sum (map (λ i. f (suc i)) (count s n))
+sum-shift f s zero = refl
+sum-shift f s (suc n) = ap (λ (r : ℕ). f (suc s) + r) (sum-shift f (suc s) n)
 
 -- all of them are left
 pub range-all : (n : ℕ) → range 0 n ≡ upto n

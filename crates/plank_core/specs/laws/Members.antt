@@ -15,7 +15,7 @@ use lib.Count.{trailingZeros, under}
 use borrow.Author.Tests.{lt-ltb, eqb-true, eqb-false}
 use Rattle.plank_core.specs.Lists.{count, upto, all, keep, _∈_}
 use Rattle.plank_core.specs.DenseIndexSet.{bit, contains, members, lowest}
-use Rattle.plank_core.specs.laws.Lists.{mem-count, count-mem, keep-most, keep-in, keep-mem, none}
+use Rattle.plank_core.specs.laws.Lists.{mem-count, count-mem, keep-most, keep-mem, keep-out}
 use Rattle.plank_core.specs.laws.Loops.{count-add, length-count}
 use Rattle.plank_core.specs.laws.Bits.{two, and-half, and-odd, bit-zero, bit-suc}
 use Rattle.plank_core.specs.laws.DenseIndexSet.{shows-contains}
@@ -48,11 +48,11 @@ members-ascending s = keep-ascending (contains s) 0 512
 
 pub member-in : (s : List ℕ) (n : ℕ) → n < 512 → contains s n ≡ true → n ∈ members s
 unfolding members
-member-in s n h t = keep-in (contains s) n (count-mem n 0 512 (omega arith) h) t
+member-in s n h t = keep-mem (contains s) (count-mem n 0 512 (omega arith) h) t
 
 pub member-is : (s : List ℕ) (n : ℕ) → n ∈ members s → (n < 512) × (contains s n ≡ true)
 unfolding members
-member-is s n m = let r = keep-mem (contains s) n (upto 512) m in (mem-count n 0 512 (r .0) .1, r .1)
+member-is s n m = let r = keep-out (contains s) (upto 512) m in (mem-count n 0 512 (r .0) .1, r .1)
 
 -- ---- the digits of one word
 

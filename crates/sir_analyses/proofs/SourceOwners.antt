@@ -1,0 +1,370 @@
+-- The owners as the source gives them are those of the definition. Assumes nothing.
+use mathlib.Core.Path.{_≡_, refl, sym, _∙_, ap}
+use mathlib.Core.Logic.{_⊎_, inl, inr}
+use mathlib.Core.Bool.{Bool, true, false, not, _&&_, cond}
+use Prim.Native.Nat.{ℕ, zero, suc, _+_, _-_, _≤_, _<_}
+use native.Mathlib.Omega.{arith}
+use native.Mathlib.Decide.{ℕ-discrete}
+use mathlib.Core.List.{List, [], _∷_, _++_, List·Memᴰ·head, List·Memᴰ·tail, List·Memᴰ·not-nil, Memᴰ·append-left, Memᴰ·append-right, List·Memᴰ·append-cases, List·Memᴰ·eq-of-singleton}
+use lib.ListN.{length, getD, set, replicate, length-set, length-replicate}
+use lib.Seq.{getD-set-same, getD-set-other, ext-getD}
+use lib.Dec.{T, eqb, eqb→eq, T-not}
+use Rattle.plank_core.specs.Lists.{foldl, bind, mem, upto, count, _∈_}
+use Rattle.sir_data.specs.Records.{blocks, locals}
+use Rattle.sir_data.specs.WellFormed.{WellFormed}
+use Rattle.sir_analyses.specs.Order.{blocksRpo}
+use Rattle.sir_analyses.specs.Liveness.{Use, uses, Set, has, addAll, members}
+use Rattle.sir_analyses.specs.Allocation.{allocs, allocAt, base, carried, next, unowned, firstReached, give, link, owners}
+use Rattle.sir_analyses.specs.Claims.{OrderRule}
+use Rattle.sir_analyses.proofs.Source.{State, linkLocal, hurts, mark, followUse, pop, drain, propagate, sourceStart, sourceState}
+use Rattle.sir_analyses.proofs.Facts.{true-is, false-is, decide, both, pair, eqb-of, not-eqb, mem-yes, mem-member, keep-in, keep-out, bind-in, bind-out, members-in, members-out, length-addAll, add-keeps, add-in, add-out, none-in, missing, missing-most, missing-none, add-less}
+use Rattle.sir_analyses.proofs.Marks.{next-link, link-less, base-less}
+use Rattle.sir_analyses.proofs.SourceMarks.{zeros, zeros-most, zeros-fewer, zeros-no-more, bases-length}
+
+-- what the work list follows from v, where o has the owners before: v itself, and what nobody had
+pub data Followed (w o : List ℕ) (v : ℕ) : ℕ → Type 0 where
+  itself : {x : ℕ} → x ≡ v → Followed w o v x
+  onwards : {u x : ℕ} → Followed w o v u → x ∈ next w u → getD o x 0 ≡ 0 → Followed w o v x
+
+-- what it gives an owner
+pub record Taken (w o : List ℕ) (v x : ℕ) : Type 0 where
+  pub by : ℕ
+  pub followed : Followed w o v by
+  pub carries : x ∈ next w by
+
+module _ (w o : List ℕ) (v a : ℕ) where
+  -- owner is o with some of what is to be taken; `more` are the locals that are being followed
+  record Inv (owner work more : List ℕ) : Type 0 where
+    size : length owner ≡ locals w
+    from : (x : ℕ) → (getD owner x 0 ≡ getD o x 0) ⊎ ((getD owner x 0 ≡ suc a) × Taken w o v x)
+    works : (x : ℕ) → x ∈ work → Followed w o v x
+    done : (x : ℕ) → (x ≡ v) ⊎ ((getD o x 0 ≡ 0) × (getD owner x 0 ≡ suc a)) → (x ∈ work) ⊎ ((x ∈ more) ⊎ ((y : ℕ) → y ∈ next w x → getD owner y 0 ≡ suc a))
+
+  -- from s to s′ the locals vs were linked
+  record Out (s s′ : State) (more vs : List ℕ) : Type 0 where
+    inv : Inv (s′ .owner) (s′ .work) more
+    still : (x : ℕ) → getD (s .owner) x 0 ≡ suc a → getD (s′ .owner) x 0 ≡ suc a
+    got : (x : ℕ) → x ∈ vs → getD (s′ .owner) x 0 ≡ suc a
+    cost : zeros (s′ .owner) + length (s′ .work) ≤ zeros (s .owner) + length (s .work)
+
+  out-nil : {s : State} {more : List ℕ} → Inv (s .owner) (s .work) more → Out s s more []
+  out-nil I = record { inv = I; still = λ x e. e; got = λ x m. absurd (List·Memᴰ·not-nil m); cost = omega arith }
+
+  out-trans : {s s′ s″ : State} {more ws : List ℕ} (vs : List ℕ) → Out s s′ more vs → Out s′ s″ more ws → Out s s″ more (vs ++ ws)
+  out-trans {s} {s′} {s″} {more} {ws} vs P Q = record { inv = Q .inv; still = λ x e. Q .still x (P .still x e); got = λ x m. go x (List·Memᴰ·append-cases vs m); cost = omega (arith, P .cost, Q .cost) }
+    where
+      go : (x : ℕ) → (x ∈ vs) ⊎ (x ∈ ws) → getD (s″ .owner) x 0 ≡ suc a
+      go x (inl m) = Q .still x (P .got x m)
+      go x (inr m) = Q .got x m
+
+  module _ {u : ℕ} (f : Followed w o v u) where
+    link-step : {s : State} {more : List ℕ} (x : ℕ) → Inv (s .owner) (s .work) more → x ∈ next w u → x < locals w → Out s (linkLocal a s x) more (x ∷ [])
+    link-step {s} {more} x I m less = go (eqb (getD (s .owner) x 0) 0) refl
+      where
+        now : List ℕ
+        now = set (s .owner) x (suc a)
+
+        here : (y : ℕ) → y ≡ x → getD now y 0 ≡ suc a
+        here y q = rw q (getD-set-same (s .owner) x (suc a) 0 (omega (arith, I .size)))
+
+        there : (y : ℕ) → ¬ (y ≡ x) → getD now y 0 ≡ getD (s .owner) y 0
+        there y q = getD-set-other (s .owner) x y (suc a) 0 q
+
+        stays : (y : ℕ) → getD (s .owner) y 0 ≡ suc a → getD now y 0 ≡ suc a
+        stays y e = by-cases (ℕ-discrete y x)
+          where
+            by-cases : Dec (y ≡ x) → getD now y 0 ≡ suc a
+            by-cases (yes q) = here y q
+            by-cases (no q) = there y q ∙ e
+
+        from′ : (y : ℕ) → Dec (y ≡ x) → (getD now y 0 ≡ getD o y 0) ⊎ ((getD now y 0 ≡ suc a) × Taken w o v y)
+        from′ y (yes q) = inr (here y q, record { by = u; followed = f; carries = rw q m })
+        from′ y (no q) = old (I .from y)
+          where
+            old : (getD (s .owner) y 0 ≡ getD o y 0) ⊎ ((getD (s .owner) y 0 ≡ suc a) × Taken w o v y) → (getD now y 0 ≡ getD o y 0) ⊎ ((getD now y 0 ≡ suc a) × Taken w o v y)
+            old (inl e) = inl (there y q ∙ e)
+            old (inr e) = inr (there y q ∙ e .0, e .1)
+
+        -- what was done is done
+        later : {y : ℕ} (work : List ℕ) → ((y ∈ s .work) → y ∈ work) → (y ∈ s .work) ⊎ ((y ∈ more) ⊎ ((z : ℕ) → z ∈ next w y → getD (s .owner) z 0 ≡ suc a)) → (y ∈ work) ⊎ ((y ∈ more) ⊎ ((z : ℕ) → z ∈ next w y → getD now z 0 ≡ suc a))
+        later work g (inl k) = inl (g k)
+        later work g (inr (inl k)) = inr (inl k)
+        later work g (inr (inr k)) = inr (inr (λ z h. stays z (k z h)))
+
+        -- x is new, or was taken before
+        news : (work : List ℕ) → ((y : ℕ) → y ∈ s .work → y ∈ work) → (getD (s .owner) x 0 ≡ 0 → x ∈ work) → (y : ℕ) → Dec (y ≡ x) → (y ≡ v) ⊎ ((getD o y 0 ≡ 0) × (getD now y 0 ≡ suc a)) → (y ∈ work) ⊎ ((y ∈ more) ⊎ ((z : ℕ) → z ∈ next w y → getD now z 0 ≡ suc a))
+        news work g h y d (inl q) = later work (g y) (I .done y (inl q))
+        news work g h y (no d) (inr q) = later work (g y) (I .done y (inr (q .0, sym (there y d) ∙ q .1)))
+        news work g h y (yes d) (inr q) = old (I .from y)
+          where
+            old : (getD (s .owner) y 0 ≡ getD o y 0) ⊎ ((getD (s .owner) y 0 ≡ suc a) × Taken w o v y) → (y ∈ work) ⊎ ((y ∈ more) ⊎ ((z : ℕ) → z ∈ next w y → getD now z 0 ≡ suc a))
+            old (inl e) = let k : x ∈ work = h (rw d at (e ∙ q .0)) in inl (rw d k)
+            old (inr e) = later work (g y) (I .done y (inr (q .0, e .0)))
+
+        fresh : getD (s .owner) x 0 ≡ 0 → Followed w o v x
+        fresh z = onwards f m (old (I .from x))
+          where
+            old : (getD (s .owner) x 0 ≡ getD o x 0) ⊎ ((getD (s .owner) x 0 ≡ suc a) × Taken w o v x) → getD o x 0 ≡ 0
+            old (inl e) = sym e ∙ z
+            old (inr e) = absurd (omega (arith, e .0))
+
+        pushed : getD (s .owner) x 0 ≡ 0 → (y : ℕ) → y ∈ (x ∷ s .work) → Followed w o v y
+        pushed z y (List·Memᴰ·head q) = rw q (fresh z)
+        pushed z y (List·Memᴰ·tail k) = I .works y k
+
+        only : (y : ℕ) → y ∈ (x ∷ []) → getD now y 0 ≡ suc a
+        only y k = here y (List·Memᴰ·eq-of-singleton k)
+
+        go : (t : Bool) → eqb (getD (s .owner) x 0) 0 ≡ t → Out s (cond t (record { owner = now; marks = s .marks; work = x ∷ s .work }) (record { owner = now; marks = cond (eqb (getD (s .owner) x 0) (suc a)) (s .marks) (addAll (s .marks) (a ∷ (getD (s .owner) x 0 - 1) ∷ [])); work = s .work })) more (x ∷ [])
+        go true e =
+            let z : getD (s .owner) x 0 ≡ 0 = eqb→eq (getD (s .owner) x 0) 0 (true-is e) in
+            record {
+              inv = record {
+                size = length-set (s .owner) x (suc a) ∙ I .size;
+                from = λ y. from′ y (ℕ-discrete y x);
+                works = pushed z;
+                done = λ y. news (x ∷ s .work) (λ y k. List·Memᴰ·tail k) (λ k. List·Memᴰ·head refl) y (ℕ-discrete y x);
+              };
+              still = stays;
+              got = only;
+              cost = omega (arith, zeros-fewer (s .owner) x a (omega (arith, I .size)) z);
+            }
+        go false e = record {
+          inv = record {
+            size = length-set (s .owner) x (suc a) ∙ I .size;
+            from = λ y. from′ y (ℕ-discrete y x);
+            works = I .works;
+            done = λ y. news (s .work) (λ y k. k) (λ k. absurd (not-eqb (getD (s .owner) x 0) 0 (false-is e) k)) y (ℕ-discrete y x);
+          };
+          still = stays;
+          got = only;
+          cost = omega (arith, zeros-no-more (s .owner) x a);
+        }
+
+    links : {more : List ℕ} (xs : List ℕ) (s : State) → Inv (s .owner) (s .work) more → ((x : ℕ) → x ∈ xs → (x ∈ next w u) × (x < locals w)) → Out s (foldl (linkLocal a) s xs) more xs
+    links [] s I h = out-nil I
+    links (x ∷ xs) s I h =
+        let k = h x (List·Memᴰ·head refl) in
+        let P = link-step x I (k .0) (k .1) in
+        out-trans (x ∷ []) P (links xs (linkLocal a s x) (P .inv) (λ y m. h y (List·Memᴰ·tail m)))
+
+    follow : {more : List ℕ} (us : List Use) (s : State) → Inv (s .owner) (s .work) more → ((x : ℕ) → x ∈ bind us (carried w) → (x ∈ next w u) × (x < locals w)) → Out s (foldl (followUse w a u) s us) more (bind us (carried w))
+    follow [] s I h = out-nil I
+    follow {more} (x ∷ us) s I h =
+        let P = marks (hurts w u x) (links (carried w x) s I (λ y m. h y (Memᴰ·append-left (bind us (carried w)) m))) in
+        out-trans (carried w x) P (follow us (followUse w a u s x) (P .inv) (λ y m. h y (Memᴰ·append-right (carried w x) m)))
+      where
+        marks : {s s′ : State} {vs : List ℕ} (t : Bool) → Out s s′ more vs → Out s (cond t (mark a s′) s′) more vs
+        marks true P = record { inv = record { size = P .inv .size; from = P .inv .from; works = P .inv .works; done = P .inv .done }; still = P .still; got = P .got; cost = P .cost }
+        marks false P = P
+
+  -- ---- the work list
+
+  popped : {u : ℕ} {owner work more vs : List ℕ} → Inv owner work more → work ≡ u ∷ vs → Inv owner vs (u ∷ more)
+  popped {u} {owner} {work} {more} {vs} I e = record { size = I .size; from = I .from; works = λ x m. I .works x (rw e (List·Memᴰ·tail m)); done = λ x k. pending x (I .done x k) }
+    where
+      at-work : (x : ℕ) → x ∈ (u ∷ vs) → (x ∈ vs) ⊎ ((x ∈ (u ∷ more)) ⊎ ((y : ℕ) → y ∈ next w x → getD owner y 0 ≡ suc a))
+      at-work x (List·Memᴰ·head k) = inr (inl (List·Memᴰ·head k))
+      at-work x (List·Memᴰ·tail k) = inl k
+
+      pending : (x : ℕ) → (x ∈ work) ⊎ ((x ∈ more) ⊎ ((y : ℕ) → y ∈ next w x → getD owner y 0 ≡ suc a)) → (x ∈ vs) ⊎ ((x ∈ (u ∷ more)) ⊎ ((y : ℕ) → y ∈ next w x → getD owner y 0 ≡ suc a))
+      pending x (inl h) = at-work x (rw e at h)
+      pending x (inr (inl h)) = inr (inl (List·Memᴰ·tail h))
+      pending x (inr (inr h)) = inr (inr h)
+
+  finish : {u : ℕ} {owner work more : List ℕ} → Inv owner work (u ∷ more) → ((y : ℕ) → y ∈ next w u → getD owner y 0 ≡ suc a) → Inv owner work more
+  finish {u} {owner} {work} {more} I D = record { size = I .size; from = I .from; works = I .works; done = λ x k. pending x (I .done x k) }
+    where
+      pending : (x : ℕ) → (x ∈ work) ⊎ ((x ∈ (u ∷ more)) ⊎ ((y : ℕ) → y ∈ next w x → getD owner y 0 ≡ suc a)) → (x ∈ work) ⊎ ((x ∈ more) ⊎ ((y : ℕ) → y ∈ next w x → getD owner y 0 ≡ suc a))
+      pending x (inl h) = inl h
+      pending x (inr (inl (List·Memᴰ·head q))) = inr (inr (rw q D))
+      pending x (inr (inl (List·Memᴰ·tail h))) = inr (inl h)
+      pending x (inr (inr h)) = inr (inr h)
+
+  no-length : (xs : List ℕ) → length xs ≡ 0 → xs ≡ []
+  no-length [] e = refl
+  no-length (x ∷ xs) e = absurd (omega arith)
+
+  module _ (small : (u x : ℕ) → x ∈ next w u → x < locals w) where
+    drained : (m : ℕ) (s : State) → Inv (s .owner) (s .work) [] → zeros (s .owner) + length (s .work) ≤ m → Inv (drain m w a s .owner) [] []
+    drained zero s I h = let e : s .work ≡ [] = no-length (s .work) (omega arith) in rw e at I
+    drained (suc m) s I h = go (s .work) refl (drained m)
+      where
+        go : (vs : List ℕ) → s .work ≡ vs → ((t : State) → Inv (t .owner) (t .work) [] → zeros (t .owner) + length (t .work) ≤ m → Inv (drain m w a t .owner) [] [])
+            → Inv (pop (λ v t. drain m w a (foldl (followUse w a v) t (uses w v))) vs s .owner) [] []
+        go [] e f = rw e at I
+        go (u ∷ vs) e f =
+            let t : State = record { owner = s .owner; marks = s .marks; work = vs } in
+            let P = follow (I .works u (rw e (List·Memᴰ·head refl))) (uses w u) t (popped I e) (λ x k. (k, small u x k)) in
+            f (foldl (followUse w a u) t (uses w u)) (finish (P .inv) (P .got)) (omega (arith, P .cost, ap length e))
+
+    -- at the end exactly what is to be taken is taken
+    ended-done : {owner : List ℕ} → Inv owner [] [] → {x : ℕ} → Followed w o v x → (y : ℕ) → y ∈ next w x → getD owner y 0 ≡ suc a
+    ended-done {owner} I {x} f = go f
+      where
+        out : {x : ℕ} → (x ∈ []) ⊎ ((x ∈ []) ⊎ ((y : ℕ) → y ∈ next w x → getD owner y 0 ≡ suc a)) → (y : ℕ) → y ∈ next w x → getD owner y 0 ≡ suc a
+        out (inl h) = absurd (List·Memᴰ·not-nil h)
+        out (inr (inl h)) = absurd (List·Memᴰ·not-nil h)
+        out (inr (inr h)) = h
+
+        go : {x : ℕ} → Followed w o v x → (y : ℕ) → y ∈ next w x → getD owner y 0 ≡ suc a
+        go {x} (itself q) = out (I .done x (inl q))
+        go {x} (onwards f m z) = out (I .done x (inr (z, go f x m)))
+
+-- ---- the definition's side
+
+module _ (w o : List ℕ) where
+  abbrev further : Set → Set
+  further s = addAll s (unowned o s (bind (members s) (next w)))
+
+  reached-length : (n : ℕ) (s : Set) → length (firstReached n w o s) ≡ length s
+  reached-length zero s = refl
+  reached-length (suc n) s = reached-length n (further s) ∙ length-addAll s (unowned o s (bind (members s) (next w)))
+
+  reached-keeps : (n : ℕ) (s : Set) (x : ℕ) → T (has s x) → T (has (firstReached n w o s) x)
+  reached-keeps zero s x t = t
+  reached-keeps (suc n) s x t = reached-keeps n (further s) x (add-keeps s (unowned o s (bind (members s) (next w))) x t)
+
+  reached-sound : (v n : ℕ) (s : Set) → ((x : ℕ) → T (has s x) → Followed w o v x) → (x : ℕ) → T (has (firstReached n w o s) x) → Followed w o v x
+  reached-sound v zero s h x t = h x t
+  reached-sound v (suc n) s h x t = reached-sound v n (further s) more x t
+    where
+      more : (x : ℕ) → T (has (further s) x) → Followed w o v x
+      more x k = go (add-out s (unowned o s (bind (members s) (next w))) k)
+        where
+          go : T (has s x) ⊎ (x ∈ unowned o s (bind (members s) (next w))) → Followed w o v x
+          go (inl l) = h x l
+          go (inr m) =
+              let p = keep-out (λ (x : ℕ). eqb (getD o x 0) 0 && not (has s x)) (bind (members s) (next w)) m in
+              let q = bind-out (next w) (members s) (p .0) in
+              onwards (h (q .0) (members-out s (q .1))) (q .2) (eqb→eq (getD o x 0) 0 ((both (eqb (getD o x 0) 0) (not (has s x)) (p .1)) .0))
+
+  abbrev Closed : Set → Type 0
+  Closed s = (u x : ℕ) → T (has s u) → x ∈ next w u → getD o x 0 ≡ 0 → x < length s → T (has s x)
+
+  stable-closed : (s : Set) → further s ≡ s → Closed s
+  stable-closed s e u x t m z l = go (decide (has s x))
+    where
+      go : T (has s x) ⊎ T (not (has s x)) → T (has s x)
+      go (inl k) = k
+      go (inr k) = rw e at (add-in s (keep-in (λ (x : ℕ). eqb (getD o x 0) 0 && not (has s x)) (bind-in (next w) (members-in s u t) m) (pair (eqb (getD o x 0) 0) (not (has s x)) (eqb-of z) k)) l)
+
+  stable-stays : (s : Set) → further s ≡ s → (n : ℕ) → firstReached n w o s ≡ s
+  stable-stays s e zero = refl
+  stable-stays s e (suc n) = ap (firstReached n w o) e ∙ stable-stays s e n
+
+  reached-closed : (n : ℕ) (s : Set) → missing s ≤ n → Closed (firstReached n w o s)
+  reached-closed zero s h = λ u x t m z l. missing-none s x (omega arith) l
+  reached-closed (suc n) s h = go (add-less s (unowned o s (bind (members s) (next w)))) (reached-closed n (further s))
+    where
+      go : (further s ≡ s) ⊎ (missing (further s) < missing s) → (missing (further s) ≤ n → Closed (firstReached n w o (further s))) → Closed (firstReached n w o (further s))
+      go (inl e) f = rw (e, stable-stays s e n) (stable-closed s e)
+      go (inr k) f = f (omega arith)
+
+length-give : (o vs : List ℕ) (a : ℕ) → length (give o vs a) ≡ length o
+length-give o [] a = refl
+length-give o (v ∷ vs) a = length-give (set o v (suc a)) vs a ∙ length-set o v (suc a)
+
+give-keeps : (o vs : List ℕ) (a x : ℕ) → x < length o → getD o x 0 ≡ suc a → getD (give o vs a) x 0 ≡ suc a
+give-keeps o [] a x h e = e
+give-keeps o (v ∷ vs) a x h e = give-keeps (set o v (suc a)) vs a x (rw length-set h) (go (ℕ-discrete x v))
+  where
+    go : Dec (x ≡ v) → getD (set o v (suc a)) x 0 ≡ suc a
+    go (yes q) = let l : v < length o = rw q at h in rw q (getD-set-same o v (suc a) 0 l)
+    go (no q) = getD-set-other o v x (suc a) 0 q ∙ e
+
+give-in : {x : ℕ} (o : List ℕ) {vs : List ℕ} (a : ℕ) → x < length o → x ∈ vs → getD (give o vs a) x 0 ≡ suc a
+give-in {x} o a h (List·Memᴰ·head {x = v} {xs = vs} q) = let l : v < length o = rw q at h in give-keeps (set o v (suc a)) vs a x (rw length-set h) (rw q (getD-set-same o v (suc a) 0 l))
+give-in {x} o a h (List·Memᴰ·tail {x = v} m) = give-in (set o v (suc a)) a (rw length-set h) m
+
+give-out : (o vs : List ℕ) (a x : ℕ) → ¬ (x ∈ vs) → getD (give o vs a) x 0 ≡ getD o x 0
+give-out o [] a x n = refl
+give-out o (v ∷ vs) a x n = give-out (set o v (suc a)) vs a x (λ m. n (List·Memᴰ·tail m)) ∙ getD-set-other o v x (suc a) 0 (λ q. n (List·Memᴰ·head q))
+
+-- ---- both
+
+module _ (w : List ℕ) (good : WellFormed w) (order : OrderRule w) (bound : (b : ℕ) → b ∈ blocksRpo w → b < blocks w) where
+  small : (u x : ℕ) → x ∈ next w u → x < locals w
+  small u x m = link-less w good order bound (next-link w m)
+
+  module _ (a : ℕ) (less : a < length (allocs w)) (o : List ℕ) (size : length o ≡ locals w) where
+    v : ℕ
+    v = base w (allocAt w a)
+
+    begin : Set
+    begin = addAll (replicate (locals w) false) (v ∷ [])
+
+    reached : Set
+    reached = firstReached (locals w) w o begin
+
+    begin-length : length begin ≡ locals w
+    unfolding begin
+    begin-length = length-addAll (replicate (locals w) false) (v ∷ []) ∙ length-replicate (locals w) false
+
+    reached-followed : (x : ℕ) → T (has reached x) → Followed w o v x
+    unfolding begin reached
+    reached-followed x t = reached-sound w o v (locals w) begin first-one x t
+      where
+        first-one : (x : ℕ) → T (has begin x) → Followed w o v x
+        first-one x t = go (add-out (replicate (locals w) false) (v ∷ []) t)
+          where
+            go : T (has (replicate (locals w) false) x) ⊎ (x ∈ (v ∷ [])) → Followed w o v x
+            go (inl k) = absurd (rw (none-in (locals w) x) at k)
+            go (inr m) = itself (List·Memᴰ·eq-of-singleton m)
+
+    followed-reached : {x : ℕ} → Followed w o v x → T (has reached x)
+    unfolding begin reached v
+    followed-reached {x} (itself q) = reached-keeps w o (locals w) begin x (add-in (replicate (locals w) false) (List·Memᴰ·head {xs = []} q) (rw (q, length-replicate) (base-less w good order bound a less)))
+    followed-reached {x} (onwards {u} f m z) = reached-closed w o (locals w) begin (omega (arith, missing-most begin, begin-length)) u x (followed-reached f) m z (omega (arith, reached-length w o (locals w) begin, begin-length, small u x m))
+
+    taken : List ℕ
+    taken = bind (members reached) (next w)
+
+    -- one turn of the source gives the owners that one turn of the definition gives
+    turn : (marks : Set) (work : List ℕ) → propagate w (record { owner = o; marks = marks; work = work }) a .owner ≡ link w o a
+    unfolding begin reached v taken
+    turn marks work = ext-getD 0 after (link w o a) (I .size ∙ sym (length-give o taken a ∙ size)) (λ x h. each x (omega (arith, I .size)) (decide (mem x taken)))
+      where
+        s : State
+        s = record { owner = o; marks = marks; work = v ∷ [] }
+
+        after : List ℕ
+        after = drain (suc (locals w)) w a s .owner
+
+        I₀ : Inv w o v a o (v ∷ []) []
+        I₀ = record { size = size; from = λ x. inl refl; works = λ x m. itself (List·Memᴰ·eq-of-singleton m); done = λ x k. start x k }
+          where
+            start : (x : ℕ) → (x ≡ v) ⊎ ((getD o x 0 ≡ 0) × (getD o x 0 ≡ suc a)) → (x ∈ (v ∷ [])) ⊎ ((x ∈ []) ⊎ ((y : ℕ) → y ∈ next w x → getD o y 0 ≡ suc a))
+            start x (inl q) = inl (List·Memᴰ·head q)
+            start x (inr q) = absurd (omega arith)
+
+        I : Inv w o v a after [] []
+        I = drained w o v a small (suc (locals w)) s I₀ (omega (arith, zeros-most o))
+
+        each : (x : ℕ) → x < locals w → T (mem x taken) ⊎ T (not (mem x taken)) → getD after x 0 ≡ getD (give o taken a) x 0
+        each x h (inl t) =
+            let m = mem-member x taken t in
+            let q = bind-out (next w) (members reached) m in
+            ended-done w o v a small I (reached-followed (q .0) (members-out reached (q .1))) x (q .2) ∙ sym (give-in o a (omega arith) m)
+        each x h (inr t) = go (I .from x)
+          where
+            not-in : ¬ (x ∈ taken)
+            not-in m = T-not (mem x taken) t (mem-yes m)
+
+            go : (getD after x 0 ≡ getD o x 0) ⊎ ((getD after x 0 ≡ suc a) × Taken w o v x) → getD after x 0 ≡ getD (give o taken a) x 0
+            go (inl e) = e ∙ sym (give-out o taken a x not-in)
+            go (inr e) = absurd (not-in (bind-in (next w) (members-in reached (e .1 .by) (followed-reached (e .1 .followed))) (e .1 .carries)))
+
+  link-length : (a : ℕ) (o : List ℕ) → length (link w o a) ≡ length o
+  link-length a o = length-give o (bind (members (firstReached (locals w) w o (addAll (replicate (locals w) false) (base w (allocAt w a) ∷ [])))) (next w)) a
+
+  turns : (k m : ℕ) (s : State) → length (s .owner) ≡ locals w → k + m ≡ length (allocs w) → foldl (propagate w) s (count k m) .owner ≡ foldl (link w) (s .owner) (count k m)
+  turns k zero s size h = refl
+  turns k (suc m) s size h =
+      let e : propagate w s k .owner ≡ link w (s .owner) k = turn k (omega arith) (s .owner) size (s .marks) (s .work) in
+      turns (suc k) m (propagate w s k) (ap length e ∙ link-length k (s .owner) ∙ size) (omega arith)
+      ∙ ap (λ (o : List ℕ). foldl (link w) o (count (suc k) m)) e
+
+  -- the source's owners are the owners
+  pub source-owners : sourceState w .owner ≡ owners w
+  source-owners = turns 0 (length (allocs w)) (sourceStart w) (bases-length (λ (a : ℕ). base w (allocAt w a)) (replicate (locals w) 0) (upto (length (allocs w))) ∙ length-replicate (locals w) 0) (omega arith)

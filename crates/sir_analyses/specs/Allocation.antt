@@ -1,0 +1,122 @@
+-- Allocations: records, reach, marks, owners and merged intervals (document 01, "Rules of the analyses"). Assumes nothing.
+use mathlib.Core.Bool.{Bool, true, false, not, _&&_, _||_, cond}
+use Prim.Native.Nat.{ℕ, zero, suc, _+_, _-_, _*_}
+use mathlib.Core.List.{List, [], _∷_, _++_, map, foldr, reverse}
+use lib.ListN.{length, getD, set, replicate}
+use lib.Dec.{eqb, leb, ltb}
+use Rattle.plank_core.specs.Lists.{foldl, bind, keep, mem, upto, any, all, distinct}
+use Rattle.sir_data.specs.Records.{blocks, locals, control, inputs, outputs, ops, successors, code, ins, outs, extra}
+use Rattle.sir_data.specs.Codes.{isAlloc, isDynamicAlloc, derives, escaping}
+use Rattle.sir_analyses.specs.Order.{blocksRpo}
+use Rattle.sir_analyses.specs.Liveness.{Use, uses, positions, Set, has, addAll, members, Interval, intervals}
+
+pub record Alloc : Type 0 where
+  pub block : ℕ
+  pub op : ℕ
+
+-- the allocation operations met in visited blocks, in the order's sequence
+abbrev pub allocs : List ℕ → List Alloc
+allocs w = bind (blocksRpo w) (λ b. map (λ o. record { block = b; op = o }) (keep (λ o. isAlloc (code w o)) (ops w b)))
+
+abbrev pub noAlloc : Alloc
+noAlloc = record { block = 0; op = 0 }
+
+abbrev pub allocAt : List ℕ → ℕ → Alloc
+allocAt w a = getD (allocs w) a noAlloc
+
+abbrev pub base : List ℕ → Alloc → ℕ
+base w a = getD (outs w (a .op)) 0 0
+
+abbrev pub rule12 : List ℕ → Bool
+rule12 w = not (distinct (map (base w) (allocs w)))
+
+-- ---- reach
+
+-- the locals that one use of a reached local brings into the reach
+abbrev pub carried : List ℕ → Use → List ℕ
+carried w u =
+    cond (eqb (u .kind) 0) (cond (derives (code w (u .place))) (outs w (u .place)) [])
+    (cond (eqb (u .kind) 2 && not (eqb (control w (u .block)) 1)) (map (λ s. getD (inputs w s) (u .place) 0) (successors w (u .block)))
+    [])
+
+abbrev pub next : List ℕ → ℕ → List ℕ
+next w v = bind (uses w v) (carried w)
+
+-- the closure of a set under `next`: as many steps as there are locals suffice
+abbrev pub closure : ℕ → List ℕ → Set → Set
+closure zero w s = s
+closure (suc n) w s = closure n w (addAll s (bind (members s) (next w)))
+
+abbrev pub reach : List ℕ → Alloc → Set
+reach w a = closure (locals w) w (addAll (replicate (locals w) false) (base w a ∷ []))
+
+-- ---- marks
+
+abbrev pub escapes : List ℕ → ℕ → Bool
+escapes w v = any (λ u. eqb (u .kind) 0 && any (escaping (code w (u .place))) (positions v (ins w (u .place)) 0)) (uses w v)
+
+abbrev pub isReturned : List ℕ → ℕ → Bool
+isReturned w v = any (λ u. eqb (u .kind) 2 && eqb (control w (u .block)) 1) (uses w v)
+
+abbrev pub reachedByOther : List ℕ → ℕ → ℕ → Bool
+reachedByOther w a v = any (λ k. not (eqb k a) && has (reach w (allocAt w k)) v) (upto (length (allocs w)))
+
+abbrev pub marked : List ℕ → ℕ → Bool
+marked w a = any (λ v. escapes w v || isReturned w v || reachedByOther w a v) (members (reach w (allocAt w a)))
+
+-- ---- owners: allocations in turn, each linking what it carries from the locals that it was the first to reach
+
+abbrev pub unowned : List ℕ → Set → List ℕ → List ℕ
+unowned owner s vs = keep (λ v. eqb (getD owner v 0) 0 && not (has s v)) vs
+
+abbrev pub firstReached : ℕ → List ℕ → List ℕ → Set → Set
+firstReached zero w owner s = s
+firstReached (suc n) w owner s = firstReached n w owner (addAll s (unowned owner s (bind (members s) (next w))))
+
+abbrev pub give : List ℕ → List ℕ → ℕ → List ℕ
+give owner [] a = owner
+give owner (v ∷ vs) a = give (set owner v (suc a)) vs a
+
+abbrev pub link : List ℕ → List ℕ → ℕ → List ℕ
+link w owner a =
+    give owner
+    (bind (members (firstReached (locals w) w owner (addAll (replicate (locals w) false) (base w (allocAt w a) ∷ [])))) (next w))
+    a
+
+abbrev pub bases : List ℕ → List ℕ
+bases w = foldl (λ owner a. set owner (base w (allocAt w a)) (suc a)) (replicate (locals w) 0) (upto (length (allocs w)))
+
+abbrev pub owners : List ℕ → List ℕ
+owners w = foldl (link w) (bases w) (upto (length (allocs w)))
+
+-- ---- merged intervals
+
+abbrev pub before : Interval → Interval → Bool
+before i j =
+    ltb (i .block) (j .block)
+    || (eqb (i .block) (j .block) && (ltb (i .from) (j .from) || (eqb (i .from) (j .from) && leb (i .to) (j .to))))
+
+abbrev pub insert : Interval → List Interval → List Interval
+insert i [] = i ∷ []
+insert i (j ∷ js) = cond (before i j) (i ∷ j ∷ js) (j ∷ insert i js)
+
+abbrev pub sort : List Interval → List Interval
+sort is = foldr insert [] is
+
+abbrev pub furthest : ℕ → ℕ → ℕ
+furthest a b = cond (leb a b) b a
+
+-- join from a sorted list, i being the one grown so far
+abbrev pub join : Interval → List Interval → List Interval
+join i [] = i ∷ []
+join i (j ∷ js) =
+    cond (eqb (i .block) (j .block) && leb (j .from) (i .to))
+    (join (record { block = i .block; from = i .from; to = furthest (i .to) (j .to) }) js)
+    (i ∷ join j js)
+
+abbrev pub merge : List Interval → List Interval
+merge [] = []
+merge (i ∷ is) = join i is
+
+abbrev pub merged : List ℕ → ℕ → List Interval
+merged w a = cond (marked w a) [] (merge (sort (bind (members (reach w (allocAt w a))) (intervals w))))

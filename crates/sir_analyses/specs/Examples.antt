@@ -1,0 +1,296 @@
+-- The examples of document 01, "Paths and joins", as one table that one proof computes; and a walk through a loop.
+-- Assumes nothing.
+use mathlib.Core.Path.{_≡_, refl}
+use mathlib.Core.Bool.{Bool, true, false, not, _&&_}
+use mathlib.Core.List.{List, [], _∷_, _++_, map, List·Memᴰ·head, List·Memᴰ·tail, List·Memᴰ·eq-of-singleton}
+use Prim.Native.Nat.{ℕ, zero, suc, _+_, _-_, _≤_}
+use native.Mathlib.Omega.{arith}
+use lib.ListN.{length, replicate}
+use lib.Dec.{eqb, T}
+use Rattle.plank_core.specs.Lists.{all, bind, _∈_}
+use Rattle.sir_data.specs.Pages.{pageWord, checkOf, payload, bytesOf}
+use Rattle.sir_data.specs.Records.{blocks, ins}
+use Rattle.sir_data.specs.Rules.{first, recordRules, rule4, rule5, rule6, rule7, rule8, rule9, rule10, rule11}
+use Rattle.sir_analyses.specs.Liveness.{Interval, blockEnd}
+use Rattle.sir_analyses.specs.Allocation.{rule12, sort, merge, marked}
+use Rattle.sir_analyses.specs.Answers.{orderAnswer, predecessorsAnswer, entryAnswer, exitAnswer, usesAnswer, intervalsAnswer, intervalWords, allocationAnswer, ownerAnswer, roundsAnswer, Outcome, outcome}
+use Rattle.sir_analyses.specs.Walk.{Event, op, edge, Walk, enter, step, follow, Holds, given, kept, moved, Executed, now, before, Paired}
+
+-- ---- images of one page, written as blocks with their operations
+
+record Op : Type 0 where
+  code : ℕ
+  reads : List ℕ
+  gives : List ℕ
+  extras : ℕ × ℕ
+
+-- control: its kind, then four fields
+record Block : Type 0 where
+  inputs : List ℕ
+  ops : List Op
+  outputs : List ℕ
+  control : List ℕ
+
+-- the operand words: for each block those of its operations, then its inputs, then its outputs
+abbrev opOperands : Op → List ℕ
+opOperands o = o .reads ++ o .gives
+
+abbrev blockOperands : Block → List ℕ
+blockOperands b = bind (b .ops) opOperands ++ b .inputs ++ b .outputs
+
+-- seven words for each operation; v: operand words before
+abbrev opWords : ℕ → List Op → List ℕ
+opWords v [] = []
+opWords v (o ∷ os) =
+    let i = v + length (o .reads) in
+    let e = i + length (o .gives) in
+    o .code ∷ v ∷ i ∷ i ∷ e ∷ o .extras .0 ∷ o .extras .1 ∷ opWords e os
+
+abbrev opsWords : ℕ → List Block → List ℕ
+opsWords v [] = []
+opsWords v (b ∷ bs) = opWords v (b .ops) ++ opsWords (v + length (blockOperands b)) bs
+
+-- eleven words for each block; p: operations before, v: operand words before
+abbrev blockWords : ℕ → ℕ → List Block → List ℕ
+blockWords p v [] = []
+blockWords p v (b ∷ bs) =
+    let q = p + length (b .ops) in
+    let i = v + length (bind (b .ops) opOperands) in
+    let m = i + length (b .inputs) in
+    let e = m + length (b .outputs) in
+    i ∷ m ∷ m ∷ e ∷ p ∷ q ∷ (b .control ++ blockWords q e bs)
+
+-- the payload words, padded to one page: edition 1, init function 0, no main, no case targets
+abbrev imageWords : ℕ → List ℕ → List Block → List ℕ
+imageWords locals entries bs =
+    let words : List ℕ =
+    1 ∷ length entries ∷ length bs ∷ length (bind bs (λ b. b .ops)) ∷ length (bind bs blockOperands) ∷ 0 ∷ locals ∷ 0 ∷ 0
+    ∷ (entries ++ blockWords 0 0 bs ++ opsWords 0 bs ++ bind bs blockOperands)
+    in
+    words ++ replicate (126 - length words) 0
+
+-- the bytes of page 0 with these payload words
+abbrev pageBytes : List ℕ → List ℕ
+pageBytes w =
+    let words : List ℕ = 0 ∷ w in
+    bind words bytesOf ++ bytesOf (checkOf (pageWord (bind words bytesOf) 0))
+
+-- ---- operations, by what they give and read, and controls
+
+abbrev plain : ℕ → List ℕ → List ℕ → Op
+plain c gives reads = record { code = c; reads = reads; gives = gives; extras = (0, 0) }
+
+abbrev setConst : ℕ → Op
+setConst v = plain 86 (v ∷ []) []
+
+abbrev alloc : ℕ → Op
+alloc v = record { code = 82; reads = []; gives = v ∷ []; extras = (32, 0) }
+
+abbrev add : ℕ → ℕ → ℕ → Op
+add v x y = plain 27 (v ∷ []) (x ∷ y ∷ [])
+
+abbrev load : ℕ → ℕ → Op
+load v address = plain 84 (v ∷ []) (address ∷ [])
+
+abbrev store : ℕ → ℕ → Op
+store address v = plain 24 [] (address ∷ v ∷ [])
+
+abbrev call : ℕ → Op
+call f = record { code = 25; reads = []; gives = []; extras = (f, 0) }
+
+abbrev stop : Op
+stop = plain 77 [] []
+
+abbrev ends : List ℕ
+ends = 0 ∷ 0 ∷ 0 ∷ 0 ∷ 0 ∷ []
+
+abbrev continues : ℕ → List ℕ
+continues b = 2 ∷ b ∷ 0 ∷ 0 ∷ 0 ∷ []
+
+-- condition, non-zero target, zero target
+abbrev branches : ℕ → ℕ → ℕ → List ℕ
+branches v b c = 3 ∷ v ∷ b ∷ c ∷ 0 ∷ []
+
+abbrev block : List ℕ → List Op → List ℕ → List ℕ → Block
+block inputs ops outputs control = record { inputs = inputs; ops = ops; outputs = outputs; control = control }
+
+-- ---- the images
+
+-- the image of `report`
+abbrev report : List ℕ
+report =
+    imageWords 4 (0 ∷ [])
+    (block [] (setConst 0 ∷ alloc 1 ∷ store 1 0 ∷ []) (1 ∷ []) (continues 1)
+    ∷ block (2 ∷ []) (load 3 2 ∷ stop ∷ []) [] ends ∷ [])
+
+-- function 0 calls 1 and 1 calls 0
+abbrev calls : List ℕ
+calls = imageWords 1 (0 ∷ 1 ∷ []) (block [] (call 1 ∷ []) [] ends ∷ block [] (call 0 ∷ []) [] ends ∷ [])
+
+-- a branch on v0 to b and c, of blocks 1 and 2
+abbrev branching : ℕ → ℕ → List ℕ
+branching b c = imageWords 1 (0 ∷ []) (block [] (setConst 0 ∷ []) [] (branches 0 b c) ∷ block [] (stop ∷ []) [] ends ∷ block [] (stop ∷ []) [] ends ∷ [])
+
+-- one block of these operations
+abbrev straight : ℕ → List Op → List ℕ
+straight locals os = imageWords locals (0 ∷ []) (block [] (os ++ (stop ∷ [])) [] ends ∷ [])
+
+abbrev storesItself : List ℕ
+storesItself = straight 2 (alloc 1 ∷ store 1 1 ∷ [])
+
+abbrev storesThere : List ℕ
+storesThere = straight 2 (setConst 0 ∷ alloc 1 ∷ store 1 0 ∷ [])
+
+abbrev added : List ℕ
+added = straight 4 (alloc 1 ∷ alloc 2 ∷ add 3 1 2 ∷ [])
+
+abbrev tested : List ℕ
+tested = imageWords 1 (0 ∷ []) (block [] (alloc 0 ∷ []) [] (branches 0 1 2) ∷ block [] (stop ∷ []) [] ends ∷ block [] (stop ∷ []) [] ends ∷ [])
+
+abbrev unused : List ℕ
+unused = straight 1 (alloc 0 ∷ [])
+
+abbrev increments : List ℕ
+increments = straight 1 (add 0 0 0 ∷ [])
+
+-- the pointer v0 of block 0 is v1 in block 1, which reads it and goes on to 2 or 3; it is v3 in block 2, which goes back to 1
+abbrev looping : List ℕ
+looping =
+    imageWords 5 (0 ∷ [])
+    (block [] (alloc 0 ∷ []) (0 ∷ []) (continues 1)
+    ∷ block (1 ∷ []) (load 2 1 ∷ []) (1 ∷ []) (branches 2 2 3)
+    ∷ block (3 ∷ []) [] (3 ∷ []) (continues 1)
+    ∷ block (4 ∷ []) (stop ∷ []) [] ends ∷ [])
+
+abbrev images : List (List ℕ)
+images = report ∷ calls ∷ branching 1 1 ∷ branching 1 2 ∷ storesItself ∷ storesThere ∷ added ∷ tested ∷ unused ∷ increments ∷ looping ∷ []
+
+-- ---- the table
+
+abbrev interval : ℕ → ℕ → ℕ → Interval
+interval b s e = record { block = b; from = s; to = e }
+
+-- a page of zeros but for word 1, which is 1
+abbrev pageOne : List ℕ
+pageOne = replicate 4 0 ++ (1 ∷ replicate 507 0)
+
+abbrev outcomeWords : Outcome → List ℕ
+outcomeWords o = o .number ∷ o .len ∷ o .result
+
+-- each row: what is computed, what document 01 says
+abbrev table : List (List ℕ × List ℕ)
+table =
+    -- none of the images is refused by its records
+    (map (λ w. first (recordRules w ++ ((12, rule12 w) ∷ []))) images, replicate 11 0)
+    -- function 0 calls 1 and 1 calls 0: order 0, 1
+    ∷ (orderAnswer calls, 0 ∷ 1 ∷ 0 ∷ 1 ∷ 1 ∷ 1 ∷ [])
+    -- branch with both targets equal: that predecessor twice
+    ∷ (predecessorsAnswer (branching 1 1) 1, 0 ∷ 0 ∷ [])
+    -- intervals 1..3 and 3..5: 1..5
+    ∷ (intervalWords (merge (sort (interval 0 1 3 ∷ interval 0 3 5 ∷ []))), 0 ∷ 1 ∷ 5 ∷ [])
+    -- 1..3 and 4..5 stay two
+    ∷ (intervalWords (merge (sort (interval 0 1 3 ∷ interval 0 4 5 ∷ []))), 0 ∷ 1 ∷ 3 ∷ 0 ∷ 4 ∷ 5 ∷ [])
+    -- same numbers in two blocks stay two
+    ∷ (intervalWords (merge (sort (interval 1 1 3 ∷ interval 0 1 3 ∷ []))), 0 ∷ 1 ∷ 3 ∷ 1 ∷ 1 ∷ 3 ∷ [])
+    -- `MemoryStore` v1, v1 of a pointer: marked
+    ∷ (allocationAnswer storesItself 0, 0 ∷ 0 ∷ 1 ∷ 0 ∷ 32 ∷ 0 ∷ 1 ∷ 0 ∷ [])
+    -- as address only: unmarked
+    ∷ (allocationAnswer storesThere 0, 0 ∷ 1 ∷ 1 ∷ 0 ∷ 32 ∷ 0 ∷ 0 ∷ 1 ∷ 0 ∷ 2 ∷ 3 ∷ [])
+    -- pointers v1 and v2 added: both marked, the sum owned by the later
+    ∷ (allocationAnswer added 0, 0 ∷ 0 ∷ 1 ∷ 0 ∷ 32 ∷ 0 ∷ 1 ∷ 0 ∷ [])
+    ∷ (allocationAnswer added 1, 0 ∷ 1 ∷ 2 ∷ 0 ∷ 32 ∷ 0 ∷ 1 ∷ 0 ∷ [])
+    ∷ (ownerAnswer added 3, 2 ∷ [])
+    -- pointer as branch condition: unmarked, block end
+    ∷ (allocationAnswer tested 0, 0 ∷ 0 ∷ 0 ∷ 0 ∷ 32 ∷ 0 ∷ 0 ∷ 1 ∷ 0 ∷ 1 ∷ blockEnd ∷ [])
+    -- unused allocation: unmarked, no interval
+    ∷ (allocationAnswer unused 0, 0 ∷ 0 ∷ 0 ∷ 0 ∷ 32 ∷ 0 ∷ 0 ∷ 0 ∷ [])
+    -- a page zero but for word 1 = 1: check 251
+    ∷ (checkOf (pageWord pageOne 0) ∷ [], 251 ∷ [])
+    -- the image of `report`: order b0 b1
+    ∷ (orderAnswer report, 0 ∷ 2 ∷ 0 ∷ 1 ∷ [])
+    ∷ (predecessorsAnswer report 1, 0 ∷ [])
+    -- rounds 2
+    ∷ (roundsAnswer report, 2 ∷ [])
+    -- b0 in - out v1
+    ∷ (entryAnswer report 0, [])
+    ∷ (exitAnswer report 0, 1 ∷ [])
+    -- b1 in v2 out -
+    ∷ (entryAnswer report 1, 2 ∷ [])
+    ∷ (exitAnswer report 1, [])
+    -- v0 b0 0..2; v1 b0 1..end; v2 b1 start..3
+    ∷ (intervalsAnswer report 0, 0 ∷ 1 ∷ 3 ∷ [])
+    ∷ (intervalsAnswer report 1, 0 ∷ 2 ∷ blockEnd ∷ [])
+    ∷ (intervalsAnswer report 2, 1 ∷ 0 ∷ 4 ∷ [])
+    ∷ (intervalsAnswer report 3, [])
+    -- a0 b0 op1 v1 kept b0 1..end b1 start..3
+    ∷ (allocationAnswer report 0, 0 ∷ 1 ∷ 1 ∷ 0 ∷ 32 ∷ 0 ∷ 0 ∷ 2 ∷ 0 ∷ 2 ∷ blockEnd ∷ 1 ∷ 0 ∷ 4 ∷ [])
+    ∷ (usesAnswer report 1, 0 ∷ 0 ∷ 2 ∷ 0 ∷ 2 ∷ 0 ∷ [])
+    ∷ (ownerAnswer report 2, 1 ∷ [])
+    -- as bytes, into a slice of 9: rounds; exit of block 0; a block that is not there; order, for which it is too short; a bad check
+    ∷ (outcomeWords (outcome (λ w. 1) (λ w i. roundsAnswer w) (pageBytes report) 0 (replicate 9 7)), 0 ∷ 4 ∷ 2 ∷ 0 ∷ 0 ∷ 0 ∷ 7 ∷ 7 ∷ 7 ∷ 7 ∷ 7 ∷ [])
+    ∷ (outcomeWords (outcome blocks exitAnswer (pageBytes report) 0 (replicate 9 7)), 0 ∷ 4 ∷ 1 ∷ 0 ∷ 0 ∷ 0 ∷ 7 ∷ 7 ∷ 7 ∷ 7 ∷ 7 ∷ [])
+    ∷ (outcomeWords (outcome blocks exitAnswer (pageBytes report) 2 (replicate 9 7)), 13 ∷ 0 ∷ replicate 9 7)
+    ∷ (outcomeWords (outcome (λ w. 1) (λ w i. orderAnswer w) (pageBytes report) 0 (replicate 9 7)), 14 ∷ 0 ∷ replicate 9 7)
+    ∷ (outcomeWords (outcome blocks exitAnswer pageOne 0 (replicate 9 7)), 3 ∷ 0 ∷ replicate 9 7)
+    -- misreadings: taking non-zero first
+    ∷ (orderAnswer (branching 1 2), 0 ∷ 3 ∷ 0 ∷ 1 ∷ 2 ∷ [])
+    -- removing outputs after adding inputs, which loses `v = v + 1`
+    ∷ (entryAnswer increments 0, 0 ∷ [])
+    -- stopping after one pass of a loop
+    ∷ (roundsAnswer looping, 3 ∷ [])
+    ∷ (exitAnswer looping 1, 1 ∷ [])
+    ∷ (allocationAnswer looping 0, 0 ∷ 0 ∷ 0 ∷ 0 ∷ 32 ∷ 0 ∷ 0 ∷ 3 ∷ 0 ∷ 1 ∷ blockEnd ∷ 1 ∷ 0 ∷ blockEnd ∷ 2 ∷ 0 ∷ blockEnd ∷ [])
+    ∷ []
+
+abbrev same : List ℕ → List ℕ → Bool
+same [] [] = true
+same [] (y ∷ ys) = false
+same (x ∷ xs) [] = false
+same (x ∷ xs) (y ∷ ys) = eqb x y && same xs ys
+
+pub examples : all (λ r. same (r .0) (r .1)) table ≡ true
+unfolding checkOf payload rule4 rule5 rule6 rule7 rule8 rule9 rule10 rule11
+examples = refl
+
+-- ---- a walk
+
+-- demand 3 speaks of something: a walk stands before an operation that it carried out before, and is about to read a local that holds
+-- the pointer of an unmarked allocation, given before that
+pub record ReadsAgain (w : List ℕ) : Type 0 where
+  pub history : List Event
+  pub block′ : ℕ
+  pub next : ℕ
+  pub rest : List ℕ
+  pub local : ℕ
+  pub allocation : ℕ
+  pub given-at : ℕ
+  pub carried-out-at : ℕ
+  pub walk : Walk w history block′ (next ∷ rest)
+  pub reads : local ∈ ins w next
+  pub holds : Holds w history local allocation given-at
+  pub unmarked : T (not (marked w allocation))
+  pub again : Executed history carried-out-at block′ next
+  pub since : given-at ≤ carried-out-at
+
+pub loops : ReadsAgain looping
+loops =
+    let other : ¬ (1 ∈ (2 ∷ [])) = λ m. let e : _≡_ {A = ℕ} 1 2 = List·Memᴰ·eq-of-singleton m in omega arith in
+    record {
+      history = edge 2 1 ∷ edge 1 2 ∷ op 1 1 ∷ edge 0 1 ∷ op 0 0 ∷ [];
+      block′ = 1;
+      next = 1;
+      rest = [];
+      local = 1;
+      allocation = 0;
+      given-at = 0;
+      carried-out-at = 1;
+      walk = follow (follow (step (follow (step (enter {f = 0} (List·Memᴰ·head refl))) (List·Memᴰ·head refl))) (List·Memᴰ·tail (List·Memᴰ·head refl))) (List·Memᴰ·head refl);
+      reads = List·Memᴰ·head refl;
+      holds =
+          moved {u = 3} (record { position = 0; left = refl; right = refl })
+          (moved {u = 1} (record { position = 0; left = refl; right = refl })
+          (kept other (moved {u = 0} (record { position = 0; left = refl; right = refl }) (given refl (List·Memᴰ·head refl) refl))));
+      unmarked = tt;
+      again = before (before (now refl));
+      since = omega arith;
+    }

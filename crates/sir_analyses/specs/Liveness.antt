@@ -1,0 +1,144 @@
+-- Uses, liveness and intervals of locals (document 01, "Rules of the analyses"). Assumes nothing.
+use mathlib.Core.Bool.{Bool, true, false, not, _&&_, _||_, cond, Bool·beq}
+use Prim.Native.Nat.{ℕ, zero, suc, _+_, _-_, _*_, _<_}
+use mathlib.Core.List.{List, [], _∷_, _++_, map, foldr, reverse}
+use lib.ListN.{length, getD, set, replicate}
+use lib.Dec.{eqb, T}
+use Rattle.plank_core.specs.Lists.{foldl, bind, keep, mem, upto, any, all}
+use Rattle.sir_data.specs.Records.{blocks, locals, control, inputs, outputs, ops, successors, condition, returned, ins, outs}
+use Rattle.sir_analyses.specs.Order.{blocksRpo, isVisited, predecessors}
+
+-- ---- uses
+
+-- the positions of v in a list, counted from k
+abbrev pub positions : ℕ → List ℕ → ℕ → List ℕ
+positions v [] k = []
+positions v (x ∷ xs) k = cond (eqb x v) (k ∷ positions v xs (suc k)) (positions v xs (suc k))
+
+pub record Use : Type 0 where
+  pub block : ℕ
+  pub kind : ℕ
+  pub place : ℕ
+
+abbrev pub usesIn : List ℕ → ℕ → ℕ → List Use
+usesIn w v b =
+    bind (ops w b) (λ o. map (λ k. record { block = b; kind = 0; place = o }) (positions v (ins w o) 0))
+    ++ map (λ k. record { block = b; kind = 1; place = 0 }) (positions v (condition w b) 0)
+    ++ map (λ k. record { block = b; kind = 2; place = k }) (positions v (outputs w b) 0)
+
+abbrev pub uses : List ℕ → ℕ → List Use
+uses w v = bind (blocksRpo w) (usesIn w v)
+
+-- ---- sets of locals: one Bool for each local
+
+abbrev pub Set : Type 0
+Set = List Bool
+
+abbrev pub has : Set → ℕ → Bool
+has s v = getD s v false
+
+abbrev pub addAll : Set → List ℕ → Set
+addAll s [] = s
+addAll s (v ∷ vs) = addAll (set s v true) vs
+
+abbrev pub removeAll : Set → List ℕ → Set
+removeAll s [] = s
+removeAll s (v ∷ vs) = removeAll (set s v false) vs
+
+abbrev pub members : Set → List ℕ
+members s = keep (has s) (upto (length s))
+
+-- ---- the equations
+
+-- the entry set of b, given its exit set: operations backwards, outputs removed before inputs are added
+abbrev pub entryFrom : List ℕ → ℕ → Set → Set
+entryFrom w b exit =
+    foldr (λ o s. addAll (removeAll s (outs w o)) (ins w o)) (addAll exit (condition w b ++ returned w b)) (ops w b)
+
+abbrev pub indexOf : ℕ → List ℕ → ℕ
+indexOf v [] = 0
+indexOf v (x ∷ xs) = cond (eqb x v) 0 (suc (indexOf v xs))
+
+-- what v of block b is called at the exit of its predecessor p: an input is the output at its position, another name passes
+abbrev pub renamed : List ℕ → ℕ → ℕ → ℕ → ℕ
+renamed w p b v = getD (outputs w p) (indexOf v (inputs w b)) v
+
+-- the exit set that the equations give p, from the exit sets x
+abbrev pub exitFrom : List ℕ → (ℕ → Set) → ℕ → Set
+exitFrom w x p =
+    foldl (λ s b. addAll s (map (renamed w p b) (members (entryFrom w b (x b))))) (replicate (locals w) false) (successors w p)
+
+-- ---- passes
+
+abbrev pub rowOf : List Set → ℕ → Set
+rowOf e b = getD e b []
+
+-- one block of a pass: its entry set goes to its predecessors' exits
+abbrev pub back : List ℕ → List Set → ℕ → List Set
+back w e b =
+    let entry = entryFrom w b (rowOf e b) in
+    foldl (λ x p. set x p (addAll (rowOf x p) (map (renamed w p b) (members entry)))) e (predecessors w b)
+
+abbrev pub pass : List ℕ → List Set → List Set
+pass w e = foldl (back w) e (reverse (blocksRpo w))
+
+abbrev pub sameSet : Set → Set → Bool
+sameSet [] t = true
+sameSet (x ∷ s) [] = false
+sameSet (x ∷ s) (y ∷ t) = Bool·beq x y && sameSet s t
+
+abbrev pub sameRows : List Set → List Set → Bool
+sameRows [] t = true
+sameRows (x ∷ s) [] = false
+sameRows (x ∷ s) (y ∷ t) = sameSet x y && sameRows s t
+
+-- passes until one adds nothing, that one counted
+abbrev pub settle : ℕ → List ℕ → ℕ → List Set → ℕ × List Set
+settle zero w k e = (k, e)
+settle (suc n) w k e = let next = pass w e in cond (sameRows next e) (suc k, e) (settle n w (suc k) next)
+
+abbrev pub settled : List ℕ → ℕ × List Set
+settled w = settle (blocks w * locals w + 1) w 0 (replicate (blocks w) (replicate (locals w) false))
+
+abbrev pub rounds : List ℕ → ℕ
+rounds w = settled w .0
+
+abbrev pub exitSet : List ℕ → ℕ → Set
+exitSet w b = rowOf (settled w .1) b
+
+abbrev pub entrySet : List ℕ → ℕ → Set
+entrySet w b = cond (isVisited w b) (entryFrom w b (exitSet w b)) []
+
+-- ---- intervals
+
+abbrev pub blockEnd : ℕ
+blockEnd = 4294967295
+
+pub record Interval : Type 0 where
+  pub block : ℕ
+  pub from : ℕ
+  pub to : ℕ
+
+-- backwards through a block for one local: the open end (0: none) and the intervals closed so far
+pub record Scan : Type 0 where
+  pub open′ : ℕ
+  pub closed : List Interval
+
+abbrev pub close : ℕ → ℕ → Scan → Scan
+close b from c = cond (eqb (c .open′) 0) c (record { open′ = 0; closed = c .closed ++ (record { block = b; from = from; to = c .open′ } ∷ []) })
+
+abbrev pub scanOp : List ℕ → ℕ → ℕ → ℕ → Scan → Scan
+scanOp w b v o c =
+    let d = cond (mem v (outs w o)) (close b (suc o) c) c in
+    cond (mem v (ins w o) && eqb (d .open′) 0) (record { open′ = suc o; closed = d .closed }) d
+
+abbrev pub blockIntervals : List ℕ → Set → ℕ → ℕ → List Interval
+blockIntervals w exit v b =
+    close b 0
+    (foldr (scanOp w b v)
+    (record { open′ = cond (has exit v || mem v (condition w b ++ returned w b)) blockEnd 0; closed = [] })
+    (ops w b))
+    .closed
+
+abbrev pub intervals : List ℕ → ℕ → List Interval
+intervals w v = bind (blocksRpo w) (λ b. blockIntervals w (exitSet w b) v b)

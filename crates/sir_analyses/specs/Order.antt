@@ -1,0 +1,67 @@
+-- The order of functions and blocks, as `ReversePostOrder` fills it. Assumes nothing.
+use mathlib.Core.Bool.{Bool, true, false, not, _&&_, _||_, cond}
+use Prim.Native.Nat.{ℕ, zero, suc, _+_, _-_, _*_}
+use mathlib.Core.List.{List, [], _∷_, _++_, map, reverse}
+use lib.ListN.{length, getD}
+use lib.Dec.{eqb}
+use Rattle.plank_core.specs.Lists.{foldl, bind, keep, mem, upto}
+use Rattle.sir_data.specs.Records.{functions, blocks, initFunction, mainPlusOne, optional, entryBlock, ops, successors, callees}
+
+-- what has been seen, and what is finished, in the order in which it was finished: (function, block) pairs, and functions
+pub record Visit : Type 0 where
+  pub seenBlocks : List ℕ
+  pub seenFunctions : List ℕ
+  pub finished : List (ℕ × ℕ)
+  pub finishedFunctions : List ℕ
+
+abbrev pub start : Visit
+start = record { seenBlocks = []; seenFunctions = []; finished = []; finishedFunctions = [] }
+
+abbrev pub seeFunction : Visit → ℕ → Visit
+seeFunction v f = record { seenBlocks = v .seenBlocks; seenFunctions = f ∷ v .seenFunctions; finished = v .finished; finishedFunctions = v .finishedFunctions }
+
+abbrev pub seeBlock : Visit → ℕ → Visit
+seeBlock v b = record { seenBlocks = b ∷ v .seenBlocks; seenFunctions = v .seenFunctions; finished = v .finished; finishedFunctions = v .finishedFunctions }
+
+abbrev pub finishFunction : Visit → ℕ → Visit
+finishFunction v f = record { seenBlocks = v .seenBlocks; seenFunctions = v .seenFunctions; finished = v .finished; finishedFunctions = v .finishedFunctions ++ (f ∷ []) }
+
+abbrev pub finishBlock : Visit → ℕ → ℕ → Visit
+finishBlock v f b = record { seenBlocks = v .seenBlocks; seenFunctions = v .seenFunctions; finished = v .finished ++ ((f, b) ∷ []); finishedFunctions = v .finishedFunctions }
+
+-- n bounds the depth; unseen blocks plus unseen functions suffice
+abbrev mutual
+  pub visitFunction : ℕ → List ℕ → ℕ → Visit → Visit
+  visitFunction zero w f v = v
+  visitFunction (suc n) w f v =
+      cond (mem f (v .seenFunctions)) v
+      (finishFunction (visitBlock n w f (entryBlock w f) (seeFunction v f)) f)
+
+  pub visitBlock : ℕ → List ℕ → ℕ → ℕ → Visit → Visit
+  visitBlock zero w f b v = v
+  visitBlock (suc n) w f b v =
+      cond (mem b (v .seenBlocks)) v
+      (finishBlock
+      (foldl (λ u s. visitBlock n w f s u)
+      (foldl (λ u g. visitFunction n w g u) (seeBlock v b) (bind (ops w b) (callees w)))
+      (successors w b))
+      f b)
+
+abbrev pub visited : List ℕ → Visit
+visited w = foldl (λ v f. visitFunction (functions w + blocks w) w f v) start (initFunction w ∷ optional (mainPlusOne w))
+
+abbrev pub functionsRpo : List ℕ → List ℕ
+functionsRpo w = reverse (visited w .finishedFunctions)
+
+abbrev pub functionBlocks : List ℕ → ℕ → List ℕ
+functionBlocks w f = reverse (map (λ p. p .1) (keep (λ p. eqb (p .0) f) (visited w .finished)))
+
+abbrev pub blocksRpo : List ℕ → List ℕ
+blocksRpo w = bind (functionsRpo w) (functionBlocks w)
+
+abbrev pub isVisited : List ℕ → ℕ → Bool
+isVisited w b = mem b (visited w .seenBlocks)
+
+-- predecessors: visited blocks by id, each successor in turn
+abbrev pub predecessors : List ℕ → ℕ → List ℕ
+predecessors w b = bind (keep (isVisited w) (upto (blocks w))) (λ p. map (λ s. p) (keep (λ s. eqb s b) (successors w p)))
