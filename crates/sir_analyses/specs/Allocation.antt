@@ -42,13 +42,21 @@ carried w u =
 abbrev pub next : List ℕ → ℕ → List ℕ
 next w v = bind (uses w v) (carried w)
 
--- the closure of a set under `next`: as many steps as there are locals suffice
-abbrev pub closure : ℕ → List ℕ → Set → Set
-closure zero w s = s
-closure (suc n) w s = closure n w (addAll s (bind (members s) (next w)))
+abbrev pub nextOf : List ℕ → Set → List ℕ
+nextOf w s = bind (members s) (next w)
 
+-- what f finds from a set is added to it, n times over; as often as there are locals suffices
+abbrev pub closure : (Set → List ℕ) → ℕ → Set → Set
+closure f zero s = s
+closure f (suc n) s = closure f n (addAll s (f s))
+
+-- base v, and all that f finds from there
+abbrev pub spread : List ℕ → (Set → List ℕ) → ℕ → Set
+spread w f v = closure f (locals w) (addAll (replicate (locals w) false) (v ∷ []))
+
+-- the reach of an allocation
 abbrev pub reach : List ℕ → Alloc → Set
-reach w a = closure (locals w) w (addAll (replicate (locals w) false) (base w a ∷ []))
+reach w a = spread w (nextOf w) (base w a)
 
 -- ---- marks
 
@@ -66,22 +74,16 @@ marked w a = any (λ v. escapes w v || isReturned w v || reachedByOther w a v) (
 
 -- ---- owners: allocations in turn, each linking what it carries from the locals that it was the first to reach
 
-abbrev pub unowned : List ℕ → Set → List ℕ → List ℕ
-unowned owner s vs = keep (λ v. eqb (getD owner v 0) 0 && not (has s v)) vs
-
-abbrev pub firstReached : ℕ → List ℕ → List ℕ → Set → Set
-firstReached zero w owner s = s
-firstReached (suc n) w owner s = firstReached n w owner (addAll s (unowned owner s (bind (members s) (next w))))
+-- what nobody has yet of what comes next
+abbrev pub unowned : List ℕ → List ℕ → Set → List ℕ
+unowned w owner s = keep (λ v. eqb (getD owner v 0) 0 && not (has s v)) (nextOf w s)
 
 abbrev pub give : List ℕ → List ℕ → ℕ → List ℕ
 give owner [] a = owner
 give owner (v ∷ vs) a = give (set owner v (suc a)) vs a
 
 abbrev pub link : List ℕ → List ℕ → ℕ → List ℕ
-link w owner a =
-    give owner
-    (bind (members (firstReached (locals w) w owner (addAll (replicate (locals w) false) (base w (allocAt w a) ∷ [])))) (next w))
-    a
+link w owner a = give owner (nextOf w (spread w (unowned w owner) (base w (allocAt w a)))) a
 
 abbrev pub bases : List ℕ → List ℕ
 bases w = foldl (λ owner a. set owner (base w (allocAt w a)) (suc a)) (replicate (locals w) 0) (upto (length (allocs w)))

@@ -1,12 +1,12 @@
 -- The examples of document 01, "Paths and joins", as one table that one proof computes; and a walk through a loop.
 -- Assumes nothing.
 use mathlib.Core.Path.{_≡_, refl}
-use mathlib.Core.Bool.{Bool, true, false, not, _&&_}
+use mathlib.Core.Bool.{Bool, true, false, _&&_}
 use mathlib.Core.List.{List, [], _∷_, _++_, map, List·Memᴰ·head, List·Memᴰ·tail, List·Memᴰ·eq-of-singleton}
 use Prim.Native.Nat.{ℕ, zero, suc, _+_, _-_, _≤_}
 use native.Mathlib.Omega.{arith}
 use lib.ListN.{length, replicate}
-use lib.Dec.{eqb, T}
+use lib.Dec.{eqb}
 use Rattle.plank_core.specs.Lists.{all, bind, _∈_}
 use Rattle.sir_data.specs.Pages.{pageWord, checkOf, payload, bytesOf}
 use Rattle.sir_data.specs.Records.{blocks, ins}
@@ -268,7 +268,7 @@ pub record ReadsAgain (w : List ℕ) : Type 0 where
   pub walk : Walk w history block′ (next ∷ rest)
   pub reads : local ∈ ins w next
   pub holds : Holds w history local allocation given-at
-  pub unmarked : T (not (marked w allocation))
+  pub unmarked : marked w allocation ≡ false
   pub again : Executed history carried-out-at block′ next
   pub since : given-at ≤ carried-out-at
 
@@ -290,7 +290,7 @@ loops =
           moved {u = 3} (record { position = 0; left = refl; right = refl })
           (moved {u = 1} (record { position = 0; left = refl; right = refl })
           (kept other (moved {u = 0} (record { position = 0; left = refl; right = refl }) (given refl (List·Memᴰ·head refl) refl))));
-      unmarked = tt;
+      unmarked = refl;
       again = before (before (now refl));
       since = omega arith;
     }

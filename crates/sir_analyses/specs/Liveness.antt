@@ -55,6 +55,18 @@ abbrev pub entryFrom : List ℕ → ℕ → Set → Set
 entryFrom w b exit =
     foldr (λ o s. addAll (removeAll s (outs w o)) (ins w o)) (addAll exit (condition w b ++ returned w b)) (ops w b)
 
+-- use: the locals that b reads before it gives them; behind its operations it reads its condition and what it returns
+abbrev pub readFirst : List ℕ → List ℕ → List ℕ → ℕ → Bool
+readFirst w end [] v = mem v end
+readFirst w end (o ∷ os) v = mem v (ins w o) || (not (mem v (outs w o)) && readFirst w end os v)
+
+abbrev pub useSet : List ℕ → ℕ → Set
+useSet w b = map (readFirst w (condition w b ++ returned w b) (ops w b)) (upto (locals w))
+
+-- def: the locals that an operation of b gives
+abbrev pub defSet : List ℕ → ℕ → Set
+defSet w b = map (λ v. any (λ o. mem v (outs w o)) (ops w b)) (upto (locals w))
+
 abbrev pub indexOf : ℕ → List ℕ → ℕ
 indexOf v [] = 0
 indexOf v (x ∷ xs) = cond (eqb x v) 0 (suc (indexOf v xs))
@@ -97,8 +109,11 @@ abbrev pub settle : ℕ → List ℕ → ℕ → List Set → ℕ × List Set
 settle zero w k e = (k, e)
 settle (suc n) w k e = let next = pass w e in cond (sameRows next e) (suc k, e) (settle n w (suc k) next)
 
+abbrev pub noExits : List ℕ → List Set
+noExits w = replicate (blocks w) (replicate (locals w) false)
+
 abbrev pub settled : List ℕ → ℕ × List Set
-settled w = settle (blocks w * locals w + 1) w 0 (replicate (blocks w) (replicate (locals w) false))
+settled w = settle (blocks w * locals w + 1) w 0 (noExits w)
 
 abbrev pub rounds : List ℕ → ℕ
 rounds w = settled w .0

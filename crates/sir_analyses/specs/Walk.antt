@@ -6,7 +6,6 @@ use mathlib.Core.Option.{Option, none, some}
 use Prim.Native.Nat.{ℕ, suc, _+_, _≤_, _<_}
 use mathlib.Core.List.{List, [], _∷_, List·Memᴰ}
 use lib.ListN.{length, getElem?}
-use lib.Dec.{T}
 use Rattle.sir_data.specs.Records.{entryBlock, ops, ins, outs, code, inputs, outputs, successors, condition}
 use Rattle.sir_data.specs.Codes.{derives}
 use Rattle.sir_analyses.specs.Order.{functionsRpo}
@@ -55,7 +54,7 @@ module _ (w : List ℕ) where
   -- after τ local v holds the pointer that allocation a gave at step n
   pub data Holds : List Event → ℕ → ℕ → ℕ → Type 0 where
     given : {τ : List Event} {a b o v n : ℕ} → Gives a b o → v ∈ outs w o → n ≡ steps τ → Holds (op b o ∷ τ) v a n
-    derived : {τ : List Event} {b o u v a n : ℕ} → T (derives (code w o)) → u ∈ ins w o → v ∈ outs w o → Holds τ u a n → Holds (op b o ∷ τ) v a n
+    derived : {τ : List Event} {b o u v a n : ℕ} → derives (code w o) ≡ true → u ∈ ins w o → v ∈ outs w o → Holds τ u a n → Holds (op b o ∷ τ) v a n
     kept : {τ : List Event} {b o v a n : ℕ} → v ∉ outs w o → Holds τ v a n → Holds (op b o ∷ τ) v a n
     moved : {τ : List Event} {b s u v a n : ℕ} → Paired (outputs w b) (inputs w s) u v → Holds τ u a n → Holds (edge b s ∷ τ) v a n
     stayed : {τ : List Event} {b s v a n : ℕ} → v ∉ inputs w s → Holds τ v a n → Holds (edge b s ∷ τ) v a n
@@ -63,11 +62,11 @@ module _ (w : List ℕ) where
   -- demand 3
   pub record Lifetimes : Type 0 where
     -- a read by an operation, itself counted
-    pub read : {τ : List Event} {b o v a n u c p : ℕ} {os : List ℕ} → Walk τ b (o ∷ os) → v ∈ ins w o → Holds τ v a n → T (not (marked w a))
+    pub read : {τ : List Event} {b o v a n u c p : ℕ} {os : List ℕ} → Walk τ b (o ∷ os) → v ∈ ins w o → Holds τ v a n → marked w a ≡ false
         → Executed (op b o ∷ τ) u c p → n ≤ u → Lies c p (merged w a)
     -- a read as the condition at the end of a block
-    pub tested : {τ : List Event} {b v a n u c p : ℕ} → Walk τ b [] → v ∈ condition w b → Holds τ v a n → T (not (marked w a))
+    pub tested : {τ : List Event} {b v a n u c p : ℕ} → Walk τ b [] → v ∈ condition w b → Holds τ v a n → marked w a ≡ false
         → Executed τ u c p → n ≤ u → Lies c p (merged w a)
     -- pointers of two allocations in one local
     pub mixed : {τ : List Event} {b v a n a′ n′ : ℕ} {os : List ℕ} → Walk τ b os → Holds τ v a n → Holds τ v a′ n′ → ¬ (a ≡ a′)
-        → T (marked w a) × T (marked w a′)
+        → (marked w a ≡ true) × (marked w a′ ≡ true)

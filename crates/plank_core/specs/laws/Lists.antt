@@ -29,9 +29,9 @@ pub and-true-right : (a b : Bool) → (a && b) ≡ true → b ≡ true
 and-true-right true b h = h
 and-true-right false b h = let z : false ≡ true = h in cc
 
-pub and-true : (a b : Bool) → a ≡ true → b ≡ true → (a && b) ≡ true
-and-true true b h k = k
-and-true false b h k = h
+pub both-true : (a b : Bool) → a ≡ true → b ≡ true → (a && b) ≡ true
+both-true true b h k = k
+both-true false b h k = h
 
 pub or-true-left : (a b : Bool) → a ≡ true → (a || b) ≡ true
 or-true-left true b h = refl
@@ -197,6 +197,10 @@ module _ {A : Type 0} where
   getD-mem (y ∷ ys) zero d h = List·Memᴰ·head refl
   getD-mem (y ∷ ys) (suc i) d h = List·Memᴰ·tail (getD-mem ys i d (omega arith))
 
+  pub no-members : (xs : List A) → ((x : A) → List·Memᴰ x xs → ⊥) → xs ≡ []
+  no-members [] h = refl
+  no-members (x ∷ xs) h = absurd (h x (List·Memᴰ·head refl))
+
   pub length-none : (xs : List A) → length xs ≡ 0 → xs ≡ []
   length-none [] e = refl
   length-none (x ∷ xs) e = absurd (omega arith)
@@ -260,7 +264,7 @@ mem-not x ys n = refuted (mem x ys) (λ h. n (mem-in x ys h))
 pub mem-keep : (p : ℕ → Bool) (x : ℕ) (ys : List ℕ) → mem x (keep p ys) ≡ (p x && mem x ys)
 mem-keep p x ys =
     same-tests (mem x (keep p ys)) (p x && mem x ys)
-    (λ h. let k = keep-out p ys (mem-in x (keep p ys) h) in and-true (p x) (mem x ys) (k .1) (in-mem x (k .0)))
+    (λ h. let k = keep-out p ys (mem-in x (keep p ys) h) in both-true (p x) (mem x ys) (k .1) (in-mem x (k .0)))
     (λ h. in-mem x (keep-mem p (mem-in x ys (and-true-right (p x) (mem x ys) h)) (and-true-left (p x) (mem x ys) h)))
 
 -- ---- distinct lists
