@@ -1,9 +1,9 @@
 -- What acceptance gives, in the shapes that the proofs here use. Assumes nothing.
-use mathlib.Core.Path.{_≡_, refl}
-use mathlib.Core.Logic.{_⊎_, inl, inr, ⊎-elim}
-use mathlib.Core.Bool.{Bool, true, false, _&&_, _||_, cond}
+use mathlib.Core.Path.{_≡_}
+use mathlib.Core.Logic.{⊎-elim}
+use mathlib.Core.Bool.{Bool, true, false, _&&_, cond}
 use Prim.Native.Nat.{ℕ, _<_}
-use mathlib.Core.List.{List, [], _∷_, List·Memᴰ·not-nil}
+use mathlib.Core.List.{List, [], List·Memᴰ·not-nil}
 use lib.ListN.{length}
 use lib.Dec.{eqb}
 use borrow.Author.Tests.{eqb-true}

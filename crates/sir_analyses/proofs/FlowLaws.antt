@@ -1,12 +1,12 @@
 -- Passes that send each block's entry set to the exits of its predecessors, over any entry function that keeps lengths and
 -- grows with its argument: they end at the least solution. Assumes nothing.
 use mathlib.Core.Path.{_≡_, refl, sym, ap, subst, _∙_}
-use mathlib.Core.Logic.{_≢_, _⊎_, inl, inr, ⊎-elim}
-use mathlib.Core.Bool.{Bool, true, false, not, _&&_, _||_, cond}
-use Prim.Native.Nat.{ℕ, zero, suc, _+_, _-_, _*_, _≤_, _<_}
+use mathlib.Core.Logic.{_≢_, ⊎-elim}
+use mathlib.Core.Bool.{Bool, true, false}
+use Prim.Native.Nat.{ℕ, suc, _*_, _<_}
 use native.Mathlib.Omega.{arith}
-use mathlib.Core.List.{List, [], _∷_, _++_, map, List·Memᴰ, List·Memᴰ·head, List·Memᴰ·tail, List·Memᴰ·cases-cons, List·Memᴰ·not-nil, Memᴰ·cast, Memᴰ·map, Memᴰ·of-map}
-use lib.ListN.{length, getD, set, replicate, length-set, length-replicate}
+use mathlib.Core.List.{List, [], _∷_, map, List·Memᴰ·head, List·Memᴰ·tail, List·Memᴰ·cases-cons, List·Memᴰ·not-nil, Memᴰ·cast, Memᴰ·map, Memᴰ·of-map}
+use lib.ListN.{length, set, replicate, length-set, length-replicate}
 use lib.Seq.{getD-set-same, getD-set-other}
 use lib.Dec.{eqb}
 use borrow.Author.Tests.{eqb-true, eqb-false}
@@ -14,7 +14,7 @@ use Rattle.plank_core.specs.Lists.{foldl, _∈_}
 use Rattle.plank_core.specs.laws.Lists.{none, foldl-keeps}
 use Rattle.sir_analyses.specs.Liveness.{Set, has, addAll, members, rowOf}
 use Rattle.sir_analyses.proofs.SetLaws.{has-less, none-in, length-addAll, add-keeps, add-in, add-out, members-in, members-out, gather, length-gather, gather-in, gather-out, set-ext, Within}
-use Rattle.sir_analyses.proofs.RowLaws.{Wide, Under, Shape, Ended, total, settleBy, settle-ends, empty-row, empty-shape}
+use Rattle.sir_analyses.proofs.RowLaws.{Under, Shape, Ended, settleBy, settle-ends, empty-row, empty-shape}
 
 -- ---- one row changed
 

@@ -1,22 +1,21 @@
 -- The liveness claim: the settled sets are the least solution of the equations, and the round number counts passes and is bounded.
 -- Assumes nothing.
 use mathlib.Core.Path.{_≡_, refl, sym, ap, subst, _∙_}
-use mathlib.Core.Logic.{_↔_}
-use mathlib.Core.Bool.{Bool, true, false, cond}
+use mathlib.Core.Bool.{Bool, true, cond}
 use Prim.Native.Nat.{ℕ, zero, suc, _+_, _*_, _≤_, _<_}
 use native.Mathlib.Omega.{arith}
 use mathlib.Core.List.{List, [], map, reverse}
-use lib.ListN.{length, replicate}
-use Rattle.plank_core.specs.Lists.{upto, sum, _∈_}
+use lib.ListN.{length}
+use Rattle.plank_core.specs.Lists.{upto, sum}
 use Rattle.plank_core.specs.laws.Lists.{no-members, reverse-mem, reverse-out}
 use Rattle.sir_data.specs.Records.{blocks, locals, successors}
 use Rattle.sir_data.specs.WellFormed.{WellFormed}
-use Rattle.sir_analyses.specs.Order.{blocksRpo, isVisited, predecessors}
+use Rattle.sir_analyses.specs.Order.{blocksRpo, predecessors}
 use Rattle.sir_analyses.specs.Liveness.{Set, has, members, rowOf, entryFrom, renamed, noExits, pass, settle, settled, sameRows, rounds, exitSet, entrySet}
-use Rattle.sir_analyses.specs.Claims.{Item, block, Visited, Solves, Least, after, LivenessRule}
+use Rattle.sir_analyses.specs.Claims.{block, Visited, Solves, after, LivenessRule}
 use Rattle.sir_analyses.proofs.SetLaws.{members-out}
-use Rattle.sir_analyses.proofs.RowLaws.{Shape, Ended, total, total-sum, settleBy}
-use Rattle.sir_analyses.proofs.FlowLaws.{Flow, Closed, Held, passBy, fixed-solves, passes-end, exit-length}
+use Rattle.sir_analyses.proofs.RowLaws.{Ended, total, total-sum, settleBy}
+use Rattle.sir_analyses.proofs.FlowLaws.{Flow, Closed, Held, fixed-solves, passes-end, exit-length}
 use Rattle.sir_analyses.proofs.GenKill.{entry-length, entry-grows, gen-kill}
 use Rattle.sir_analyses.proofs.OrderProof.{blocks-seen, predecessors-in, predecessors-out, not-visited, blocks-visited, blocks-below, next-listed}
 

@@ -1,23 +1,23 @@
 -- The reach and the marks that are computed are those of the rule. Assumes nothing.
 use mathlib.Core.Path.{_≡_, refl, sym, _∙_, ap, subst}
-use mathlib.Core.Logic.{_↔_, _⊎_, inl, inr, ⊎-elim}
+use mathlib.Core.Logic.{_⊎_, inl, inr, ⊎-elim}
 use mathlib.Core.Bool.{Bool, true, false, not, _&&_, _||_, cond}
-use mathlib.Core.Option.{Option, some}
+use mathlib.Core.Option.{some}
 use Prim.Native.Nat.{ℕ, zero, suc, _+_, _≤_, _<_}
 use native.Mathlib.Omega.{arith}
-use mathlib.Core.List.{List, [], _∷_, _++_, map, List·Memᴰ, List·Memᴰ·head, List·Memᴰ·tail, List·Memᴰ·not-nil, Memᴰ·append-left, Memᴰ·append-right, List·Memᴰ·append-cases, Memᴰ·map, Memᴰ·of-map, Memᴰ·cast, List·Memᴰ·eq-of-singleton}
+use mathlib.Core.List.{List, [], _∷_, _++_, map, List·Memᴰ, List·Memᴰ·head, List·Memᴰ·not-nil, Memᴰ·append-left, Memᴰ·append-right, List·Memᴰ·append-cases, Memᴰ·map, Memᴰ·of-map, Memᴰ·cast, List·Memᴰ·eq-of-singleton}
 use lib.ListN.{length, getD, replicate, getElem?, length-replicate}
 use lib.Dec.{eqb}
-use borrow.Author.Tests.{eqb-true, eqb-false, ne-eqb, not-true}
-use Rattle.plank_core.specs.Lists.{bind, keep, any, upto, _∈_}
-use Rattle.sir_data.specs.Records.{blocks, locals, control, inputs, outputs, ops, successors, condition, code, ins, outs}
+use borrow.Author.Tests.{eqb-false, ne-eqb, not-true}
+use Rattle.plank_core.specs.Lists.{bind, keep, upto, _∈_}
+use Rattle.sir_data.specs.Records.{locals, control, inputs, outputs, ops, successors, condition, code, ins, outs}
 use Rattle.sir_data.specs.Codes.{isAlloc, derives}
 use Rattle.sir_data.specs.WellFormed.{WellFormed}
 use Rattle.sir_analyses.specs.Order.{blocksRpo}
 use Rattle.sir_analyses.specs.Liveness.{Use, usesIn, uses, positions, Set, has, addAll, members}
 use Rattle.sir_analyses.specs.Allocation.{Alloc, allocs, noAlloc, allocAt, base, carried, next, nextOf, closure, spread, reach, escapes, isReturned, reachedByOther, marked}
-use Rattle.sir_analyses.specs.Claims.{Item, block, Visited, successor, OrderRule, Reached, itself, linked, Marked, escaped, returned, met, MarkRule}
-use Rattle.plank_core.specs.laws.Lists.{and-true-left, and-true-right, both-true, or-true-left, or-true-right, or-cases, none, any-out, any-mem, keep-out, keep-mem, bind-out, bind-mem, elem-mem, elem-less, mem-elem, getD-mem, upto-mem, mem-upto}
+use Rattle.sir_analyses.specs.Claims.{block, Reached, itself, linked, Marked, escaped, returned, met, MarkRule}
+use Rattle.plank_core.specs.laws.Lists.{and-true-left, and-true-right, both-true, or-true-left, or-true-right, or-cases, none, any-out, any-mem, keep-out, bind-out, bind-mem, elem-mem, elem-less, mem-elem, getD-mem, upto-mem, mem-upto}
 use Rattle.sir_analyses.proofs.SetLaws.{has-less, none-in, set-ext, members-in, members-out, length-addAll, add-keeps, add-in, add-out, card, card-full, add-card}
 use Rattle.sir_analyses.proofs.Positions.{positions-in, positions-out}
 use Rattle.sir_analyses.proofs.OrderProof.{blocks-below, next-listed}

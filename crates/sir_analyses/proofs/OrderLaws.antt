@@ -1,14 +1,14 @@
 -- Laws of the visit of functions and blocks: one form for both kinds of item, and the fuel law: with fuel for each function below
 -- `functions w` and each block below `blocks w` that is not seen yet, more fuel changes nothing. Assumes nothing.
 use mathlib.Core.Path.{_≡_, refl, sym, ap, _∙_, subst}
-use mathlib.Core.Logic.{⊎-elim, _⊎_, inl, inr}
-use mathlib.Core.Bool.{Bool, true, false, not, _&&_, _||_, cond}
-use Prim.Native.Nat.{ℕ, zero, suc, _+_, _-_, _*_, _≤_, _<_}
+use mathlib.Core.Logic.{⊎-elim}
+use mathlib.Core.Bool.{Bool, true, false, _||_, cond}
+use Prim.Native.Nat.{ℕ, zero, suc, _+_, _≤_, _<_}
 use native.Mathlib.Nat.{le-refl, le-trans, zero-add, suc-add}
 use native.Mathlib.Omega.{arith}
-use mathlib.Core.List.{List, [], _∷_, _++_, map, List·Memᴰ, List·Memᴰ·head, List·Memᴰ·tail, List·Memᴰ·not-nil, List·Memᴰ·cases-cons, List·Memᴰ·eq-of-singleton, List·Memᴰ·append-cases, Memᴰ·append-left, Memᴰ·append-right}
+use mathlib.Core.List.{List, [], _∷_, _++_, map, List·Memᴰ, List·Memᴰ·head, List·Memᴰ·tail, List·Memᴰ·eq-of-singleton, List·Memᴰ·append-cases}
 use lib.Dec.{eqb}
-use borrow.Author.Tests.{eqb-true, eqb-false, eq-eqb, ne-eqb}
+use borrow.Author.Tests.{eqb-true, eqb-false, ne-eqb}
 use Rattle.plank_core.specs.Lists.{foldl, bind, mem}
 use Rattle.sir_data.specs.Records.{functions, blocks, entryBlock, ops, successors, callees}
 use Rattle.sir_analyses.specs.Order.{Visit, seeFunction, seeBlock, finishFunction, finishBlock, visitFunction, visitBlock}

@@ -1,20 +1,20 @@
 -- The source's marks are those of the rule. Assumes nothing.
 use mathlib.Core.Path.{_≡_, refl, sym, _∙_, ap}
 use mathlib.Core.Logic.{_⊎_, inl, inr}
-use mathlib.Core.Bool.{Bool, true, false, not, _&&_, _||_, cond}
+use mathlib.Core.Bool.{Bool, true, false, _&&_, cond}
 use Prim.Native.Nat.{ℕ, zero, suc, _+_, _≤_, _<_}
 use native.Mathlib.Omega.{arith}
 use mathlib.Core.List.{List, [], _∷_, map, List·Memᴰ, List·Memᴰ·head, List·Memᴰ·tail, List·Memᴰ·not-nil, Memᴰ·map, Memᴰ·cast}
 use lib.ListN.{length, getD, replicate, length-map, length-replicate, List·getD-map}
 use lib.Dec.{eqb}
 use borrow.Author.Tests.{not-false}
-use Rattle.plank_core.specs.Lists.{foldl, bind, any, upto, count, distinct, _∈_}
+use Rattle.plank_core.specs.Lists.{foldl, any, upto, count, distinct, _∈_}
 use Rattle.plank_core.specs.laws.Lists.{or-true-left, or-true-right, or-cases, none, same-tests, any-out, any-mem, bind-out, bind-mem, upto-mem, mem-upto, length-none, distinct-places}
 use Rattle.sir_data.specs.Records.{locals, control, code, ins}
 use Rattle.sir_data.specs.Codes.{escaping}
 use Rattle.sir_data.specs.WellFormed.{WellFormed}
-use Rattle.sir_analyses.specs.Liveness.{Use, uses, positions, Set, has, addAll}
-use Rattle.sir_analyses.specs.Allocation.{allocs, noAlloc, allocAt, base, rule12, carried, next, marked, bases}
+use Rattle.sir_analyses.specs.Liveness.{Use, uses, positions, Set, has}
+use Rattle.sir_analyses.specs.Allocation.{allocs, noAlloc, base, rule12, carried, marked, bases}
 use Rattle.sir_analyses.specs.Claims.{Reached, itself, linked, Marked, escaped, returned, met}
 use Rattle.sir_analyses.proofs.SetLaws.{none-in, add-in}
 use Rattle.sir_analyses.proofs.Source.{State, linkLocal, hurts, mark, followUse, pop, drain, propagate, sourceStart, sourceState, sourceMarked}

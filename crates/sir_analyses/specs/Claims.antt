@@ -3,7 +3,7 @@
 -- claim on walks is in Walk. Definitions and statements only; each record is a claim on the payload words of an accepted image.
 use mathlib.Core.Path.{_≡_}
 use mathlib.Core.Logic.{_↔_}
-use mathlib.Core.Bool.{Bool, true, false, not, _&&_, _||_}
+use mathlib.Core.Bool.{true, not, _&&_, _||_}
 use Prim.Native.Nat.{ℕ, zero, suc, _+_, _≤_, _<_}
 use mathlib.Core.List.{List, [], map, List·Memᴰ}
 use lib.ListN.{length}

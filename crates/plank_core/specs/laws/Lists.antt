@@ -2,14 +2,14 @@
 use mathlib.Core.Path.{_≡_, refl, sym, ap, _∙_, subst}
 use mathlib.Core.Logic.{_↔_, ⊎-elim, _⊎_, inl, inr}
 use mathlib.Core.Bool.{Bool, true, false, not, _&&_, _||_, cond}
-use mathlib.Core.Option.{Option, some}
+use mathlib.Core.Option.{some}
 use Prim.Native.Nat.{ℕ, zero, suc, _+_, _-_, _≤_, _<_}
 use native.Mathlib.Omega.{arith}
 use mathlib.Core.List.{List, [], _∷_, _++_, map, reverse, reverseAux, reverse-reverse, List·Memᴰ, List·Memᴰ·head, List·Memᴰ·tail, List·Memᴰ·not-nil, List·Memᴰ·cases-cons, List·Memᴰ·append-cases, Memᴰ·append-left, Memᴰ·append-right, Memᴰ·cast}
 use lib.ListN.{length, getD, getElem?}
 use lib.Dec.{eqb, T}
-use borrow.Author.Tests.{eqb-true, eqb-false, eq-eqb, ne-eqb, not-true}
-use Rattle.plank_core.specs.Lists.{count, range, upto, foldl, bind, all, any, keep, mem, distinct, _∈_}
+use borrow.Author.Tests.{eqb-true, eqb-false, eq-eqb, not-true}
+use Rattle.plank_core.specs.Lists.{count, range, upto, foldl, bind, all, any, keep, mem, distinct, oneIf, _∈_}
 
 -- ---- tests
 
@@ -210,13 +210,9 @@ all-upto p n h i l = all-mem p (upto n) h i (upto-mem i n l)
 
 -- ---- how often a number is in a list
 
-abbrev pub bit : Bool → ℕ
-bit true = 1
-bit false = 0
-
 abbrev pub times : ℕ → List ℕ → ℕ
 times x [] = 0
-times x (y ∷ ys) = bit (eqb x y) + times x ys
+times x (y ∷ ys) = oneIf (eqb x y) + times x ys
 
 pub times-append : (x : ℕ) (ys zs : List ℕ) → times x (ys ++ zs) ≡ times x ys + times x zs
 times-append x [] zs = omega arith
@@ -291,17 +287,17 @@ distinct-places (x ∷ xs) i j d t h k e = go i j h k e (distinct-places xs)
 pub times-distinct : (xs : List ℕ) → ((x : ℕ) → times x xs ≤ 1) → distinct xs ≡ true
 times-distinct [] h = refl
 times-distinct (x ∷ xs) h =
-    let a : bit (eqb x x) ≡ 1 = ap bit (eq-eqb x x refl) in
+    let a : oneIf (eqb x x) ≡ 1 = ap oneIf (eq-eqb x x refl) in
     let n : mem x xs ≡ false = times-none x xs (omega (arith, h x)) in
     rw n (times-distinct xs (λ y. omega (arith, h y)))
 
-pub bit-most : (t : Bool) → bit t ≤ 1
-bit-most true = omega arith
-bit-most false = omega arith
+pub oneIf-most : (t : Bool) → oneIf t ≤ 1
+oneIf-most true = omega arith
+oneIf-most false = omega arith
 
-pub bit-some : (t : Bool) → 1 ≤ bit t → t ≡ true
-bit-some true h = refl
-bit-some false h = absurd (omega arith)
+pub oneIf-some : (t : Bool) → 1 ≤ oneIf t → t ≡ true
+oneIf-some true h = refl
+oneIf-some false h = absurd (omega arith)
 
 -- ---- numbers in turn
 
