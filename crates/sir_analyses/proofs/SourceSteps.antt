@@ -194,6 +194,9 @@ module _ (w : List ℕ) where
       sounds d (inl t) = I .sound d t
       sounds d (inr m) = f d m
 
+  owner-now : {a : ℕ} {s : State} {more : List ℕ} (I : Inv a s more) {v : ℕ} → v < locals w → (x : ℕ) → x ≡ v → getD (set (s .owner) v (suc a)) x 0 ≡ suc a
+  owner-now {a} {s} I {v} small x q = rw q (getD-set-same (s .owner) v (suc a) 0 (omega (arith, I .owner-length)))
+
   -- an owner is replaced
   reown : {a : ℕ} {s : State} {more : List ℕ} (I : Inv a s more) (v : ℕ) → a < n → v < locals w → Reached w a v → Joined (I .root) (s .marks) a v → Grown I (record { owner = set (s .owner) v (suc a); marks = s .marks; work = s .work })
   reown {a} {s} {more} I v less small r j = record {
@@ -213,15 +216,12 @@ module _ (w : List ℕ) where
     cost = omega (arith, zeros-no-more (s .owner) v a);
   }
     where
-      now-a : (x : ℕ) → x ≡ v → getD (set (s .owner) v (suc a)) x 0 ≡ suc a
-      now-a x q = rw q (getD-set-same (s .owner) v (suc a) 0 (omega (arith, I .owner-length)))
-
       free : (x : ℕ) → getD (set (s .owner) v (suc a)) x 0 ≡ 0 → Dec (x ≡ v) → I .root x ≡ 0
-      free x e (yes q) = absurd (omega (arith, now-a x q))
+      free x e (yes q) = absurd (omega (arith, owner-now I small x q))
       free x e (no q) = I .unowned x (sym (getD-set-other (s .owner) v x (suc a) 0 q) ∙ e)
 
       had : (x c : ℕ) → getD (set (s .owner) v (suc a)) x 0 ≡ suc c → Dec (x ≡ v) → Joined (I .root) (s .marks) c x × Reached w c x × (c < n)
-      had x c e (yes q) = let k : c ≡ a = omega (arith, now-a x q) in rw (q, k) (j, r, less)
+      had x c e (yes q) = let k : c ≡ a = omega (arith, owner-now I small x q) in rw (q, k) (j, r, less)
       had x c e (no q) = I .owned x c (sym (getD-set-other (s .owner) v x (suc a) 0 q) ∙ e)
 
   -- a local that nobody had is taken
@@ -263,16 +263,13 @@ module _ (w : List ℕ) where
           go (yes q) = let z : I .root x ≡ 0 = I .unowned x (rw q none) in absurd (omega arith)
           go (no q) = elsewhere x q ∙ e
 
-      now-a : (x : ℕ) → x ≡ v → getD (set (s .owner) v (suc a)) x 0 ≡ suc a
-      now-a x q = rw q (getD-set-same (s .owner) v (suc a) 0 (omega (arith, I .owner-length)))
-
       free : (x : ℕ) → getD (set (s .owner) v (suc a)) x 0 ≡ 0 → Dec (x ≡ v) → root′ x ≡ 0
-      free x e (yes q) = absurd (omega (arith, now-a x q))
+      free x e (yes q) = absurd (omega (arith, owner-now I small x q))
       free x e (no q) = elsewhere x q ∙ I .unowned x (sym (getD-set-other (s .owner) v x (suc a) 0 q) ∙ e)
 
       had : (x c : ℕ) → getD (set (s .owner) v (suc a)) x 0 ≡ suc c → Dec (x ≡ v) → Joined root′ (s .marks) c x × Reached w c x × (c < n)
       had x c e (yes q) =
-          let k : c ≡ a = omega (arith, now-a x q) in
+          let k : c ≡ a = omega (arith, owner-now I small x q) in
           let j : Joined root′ (s .marks) a x = record { one = a; is-root = at-v x q; meets = same refl } in
           rw k (j, rw q r, less)
       had x c e (no q) = let h = I .owned x c (sym (getD-set-other (s .owner) v x (suc a) 0 q) ∙ e) in (joined-grow grow (λ d t. t) (h .0), h .1, h .2)

@@ -25,7 +25,7 @@ use Rattle.sir_analyses.proofs.Merging.{Spans, nothing-spans, Normal, A
 use Rattle.sir_analyses.proofs.Scans.{piece, scan, liveIn}
 use Rattle.sir_analyses.proofs.Lifetime.{pieces, merged-unique}
 use Rattle.sir_analyses.proofs.Sweep.{meet, nonempty, liveAtEnd, liveBefore, shut, note, Sweep, sweepEnd, sweepOp, sweepBlock, sweepFrom, sweep}
-use Rattle.sir_analyses.proofs.SweepSteps.{Ahead, Covers, inside, onwards, Step, Cell, step-ahead, step-out, step-old, step-new, start-out, start-old, start-new, close-covers, shut-covers, scan-step, note-step, note-open}
+use Rattle.sir_analyses.proofs.SweepSteps.{Ahead, end-ahead, Covers, inside, onwards, Step, Cell, step-ahead, step-out, step-old, step-new, start-out, start-old, start-new, close-covers, shut-covers, scan-step, note-step, note-open}
 
 -- ---- the sets
 
@@ -116,11 +116,7 @@ module _ (w : List ℕ) (b : ℕ) where
   scan-steps v o os = scan-step b o (mem v (outs w o)) (mem v (ins w o)) (scanned v os) .0
 
   scan-ahead : (v k p : ℕ) → p + k ≤ blockEnd → Ahead p (scanned v (count p k))
-  scan-ahead v zero p h = go (has (exitSet w b) v || mem v (condition w b ++ returned w b))
-    where
-      go : (t : Bool) → Ahead p (record { open′ = cond t blockEnd 0; closed = [] })
-      go true = inr (omega arith)
-      go false = inl refl
+  scan-ahead v zero p h = end-ahead p (has (exitSet w b) v || mem v (condition w b ++ returned w b)) (omega arith)
   scan-ahead v (suc k) p h = step-ahead (scan-steps v p (count (suc p) k)) (scan-ahead v k (suc p) (omega arith))
 
   module _ (r : Set) (size : length r ≡ length (exitSet w b)) where
@@ -147,11 +143,7 @@ module _ (w : List ℕ) (b : ℕ) where
     sweep-steps o os = note-step b o (nonempty (liveBefore w r o (state os .live))) (state os .spans)
 
     sweep-ahead : (k p : ℕ) → p + k ≤ blockEnd → Ahead p (state (count p k) .spans)
-    sweep-ahead zero p h = go (nonempty (liveAtEnd w r b))
-      where
-        go : (t : Bool) → Ahead p (record { open′ = cond t blockEnd 0; closed = [] })
-        go true = inr (omega arith)
-        go false = inl refl
+    sweep-ahead zero p h = end-ahead p (nonempty (liveAtEnd w r b)) (omega arith)
     sweep-ahead (suc k) p h = step-ahead (sweep-steps p (count (suc p) k)) (sweep-ahead k (suc p) (omega arith))
 
     -- an interval is open exactly where the set is not empty
@@ -278,11 +270,7 @@ shut-own {b} {p} c y = go (eqb (c .open′) 0)
     go false = record { normal = put (c .closed) (omega arith) (λ j h. let k = y .mine j h in Apart.gapped (sym (k .0)) (k .2)) (y .normal); mine = ours }
 
 sweep-tidy : (w : List ℕ) (r : Set) (b k p : ℕ) → p + k ≤ blockEnd → Tidy b p (foldr (sweepOp w r b) (sweepEnd w r b []) (count p k) .spans)
-sweep-tidy w r b zero p h = record { normal = Normal.empty; mine = λ i m. absurd (List·Memᴰ·not-nil m); end = go (nonempty (liveAtEnd w r b)) }
-  where
-    go : (t : Bool) → Ahead p (record { open′ = cond t blockEnd 0; closed = [] })
-    go true = inr (omega arith)
-    go false = inl refl
+sweep-tidy w r b zero p h = record { normal = Normal.empty; mine = λ i m. absurd (List·Memᴰ·not-nil m); end = end-ahead p (nonempty (liveAtEnd w r b)) (omega arith) }
 sweep-tidy w r b (suc k) p h =
     let c = foldr (sweepOp w r b) (sweepEnd w r b []) (count (suc p) k) in
     note-tidy (nonempty (liveBefore w r p (c .live))) (c .spans) (sweep-tidy w r b k (suc p) (omega arith))

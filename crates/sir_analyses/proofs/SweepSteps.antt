@@ -8,7 +8,7 @@ use native.Mathlib.Decide.{decLe}
 use mathlib.Core.List.{List, [], _∷_, _++_}
 use lib.Dec.{eqb, eqb·suc-zero}
 use borrow.Author.Tests.{eqb-true, eqb-false}
-use Rattle.sir_analyses.specs.Liveness.{Interval, Scan, close}
+use Rattle.sir_analyses.specs.Liveness.{blockEnd, Interval, Scan, close}
 use Rattle.sir_analyses.proofs.Merging.{Spans, nothing-spans}
 use Rattle.sir_analyses.proofs.Scans.{piece}
 use Rattle.sir_analyses.proofs.Sweep.{shut, note}
@@ -30,6 +30,13 @@ pub record Emits (b f t : ℕ) (old new : List Interval) : Type 0 where
   pub keeps : {d m n : ℕ} → Spans d m n old → Spans d m n new
   pub has-it : {d m n : ℕ} → b ≡ d → f ≤ m → n ≤ t → Spans d m n new
 
+emits-covers : {b d m n p : ℕ} {c : Scan} {new : List Interval} → Emits b p (c .open′) (c .closed) new → ¬ (c .open′ ≡ 0) → Spans d m n new → Covers b d m n p c
+emits-covers {b} {d} {m} {n} {p} {c} em z s = go (em .out s)
+  where
+    go : Spans d m n (c .closed) ⊎ ((b ≡ d) × (p ≤ m) × (n ≤ c .open′)) → Covers b d m n p c
+    go (inl t) = inside t
+    go (inr t) = onwards (t .0) z (t .1) (t .2)
+
 -- what passing operation o does to a scan
 pub data Step (b o : ℕ) (c c′ : Scan) : Type 0 where
   same : c′ .open′ ≡ c .open′ → c′ .closed ≡ c .closed → Step b o c c′
@@ -40,6 +47,11 @@ pub data Step (b o : ℕ) (c c′ : Scan) : Type 0 where
 -- the cell from o to o + 1
 abbrev pub Cell : ℕ → ℕ → ℕ → ℕ → ℕ → Type 0
 Cell b d m n o = (b ≡ d) × (o ≤ m) × (n ≤ suc o)
+
+-- where a block ends
+pub end-ahead : (p : ℕ) (t : Bool) → p ≤ blockEnd → Ahead p (record { open′ = cond t blockEnd 0; closed = [] })
+end-ahead p true h = inr h
+end-ahead p false h = inl refl
 
 pub step-ahead : {b o : ℕ} {c c′ : Scan} → Step b o c c′ → Ahead (suc o) c → Ahead o c′
 step-ahead (same e f) (inl z) = inl (e ∙ z)
@@ -58,17 +70,9 @@ module _ {b d m n o : ℕ} (le : n ≤ suc m) {c c′ : Scan} where
       go (no y) = inr (h, (q, k, omega arith))
   step-out (opens z e f) (inside s) = inl (inside (rw f at s))
   step-out (opens z e f) (onwards q h k l) = inr (h, (q, k, omega arith))
-  step-out (ends z e em) (inside s) = inl (go (em .out s))
-    where
-      go : Spans d m n (c .closed) ⊎ ((b ≡ d) × (suc o ≤ m) × (n ≤ c .open′)) → Covers b d m n (suc o) c
-      go (inl t) = inside t
-      go (inr t) = onwards (t .0) z (t .1) (t .2)
+  step-out (ends z e em) (inside s) = inl (emits-covers em z s)
   step-out (ends z e em) (onwards q h k l) = absurd (h e)
-  step-out (turns z e em) (inside s) = inl (go (em .out s))
-    where
-      go : Spans d m n (c .closed) ⊎ ((b ≡ d) × (suc o ≤ m) × (n ≤ c .open′)) → Covers b d m n (suc o) c
-      go (inl t) = inside t
-      go (inr t) = onwards (t .0) z (t .1) (t .2)
+  step-out (turns z e em) (inside s) = inl (emits-covers em z s)
   step-out (turns z e em) (onwards q h k l) = inr (h, (q, k, omega arith))
 
   pub step-old : Step b o c c′ → Covers b d m n (suc o) c → Covers b d m n o c′
@@ -140,45 +144,29 @@ back b f t is = record { out = λ s. out′ (spans-cases is s); keeps = λ s. sp
     out′ (inr (Spans.first p q r)) = inr (p, q, r)
     out′ (inr (Spans.rest s)) = absurd (nothing-spans s)
 
--- close and shut, where the scan stands at p
+-- an open interval of a scan that stands at p is closed there: `new` is the list with it
 module _ {b d m n : ℕ} (p : ℕ) (c : Scan) where
-  pub close-covers : Spans d m n (close b p c .closed) ↔ Covers b d m n p c
-  close-covers = go (eqb (c .open′) 0) refl
+  ended-covers : (new : List Interval) → Emits b p (c .open′) (c .closed) new
+      → Spans d m n (cond (eqb (c .open′) 0) c (record { open′ = 0; closed = new }) .closed) ↔ Covers b d m n p c
+  ended-covers new em = go (eqb (c .open′) 0) refl
     where
-      cases : ¬ (c .open′ ≡ 0) → Spans d m n (c .closed) ⊎ ((b ≡ d) × (p ≤ m) × (n ≤ c .open′)) → Covers b d m n p c
-      cases z (inl t) = inside t
-      cases z (inr t) = onwards (t .0) z (t .1) (t .2)
-
       old : c .open′ ≡ 0 → Covers b d m n p c → Spans d m n (c .closed)
       old z (inside s) = s
       old z (onwards q h k l) = absurd (h z)
 
-      new : Covers b d m n p c → Spans d m n (c .closed ++ (piece b p (c .open′) ∷ []))
-      new (inside s) = back b p (c .open′) (c .closed) .keeps s
-      new (onwards q h k l) = back b p (c .open′) (c .closed) .has-it q k l
+      more : Covers b d m n p c → Spans d m n new
+      more (inside s) = em .keeps s
+      more (onwards q h k l) = em .has-it q k l
 
-      go : (t : Bool) → eqb (c .open′) 0 ≡ t → Spans d m n (cond t c (record { open′ = 0; closed = c .closed ++ (piece b p (c .open′) ∷ []) }) .closed) ↔ Covers b d m n p c
+      go : (t : Bool) → eqb (c .open′) 0 ≡ t → Spans d m n (cond t c (record { open′ = 0; closed = new }) .closed) ↔ Covers b d m n p c
       go true e = (λ s. inside s, λ k. old (eqb-true (c .open′) 0 e) k)
-      go false e = (λ s. cases (eqb-false (c .open′) 0 e) (back b p (c .open′) (c .closed) .out s), λ k. new k)
+      go false e = (λ s. emits-covers em (eqb-false (c .open′) 0 e) s, λ k. more k)
+
+  pub close-covers : Spans d m n (close b p c .closed) ↔ Covers b d m n p c
+  close-covers = ended-covers (c .closed ++ (piece b p (c .open′) ∷ [])) (back b p (c .open′) (c .closed))
 
   pub shut-covers : Spans d m n (shut b p c .closed) ↔ Covers b d m n p c
-  shut-covers = go (eqb (c .open′) 0) refl
-    where
-      cases : ¬ (c .open′ ≡ 0) → Spans d m n (piece b p (c .open′) ∷ c .closed) → Covers b d m n p c
-      cases z (Spans.first q k l) = onwards q z k l
-      cases z (Spans.rest s) = inside s
-
-      old : c .open′ ≡ 0 → Covers b d m n p c → Spans d m n (c .closed)
-      old z (inside s) = s
-      old z (onwards q h k l) = absurd (h z)
-
-      new : Covers b d m n p c → Spans d m n (piece b p (c .open′) ∷ c .closed)
-      new (inside s) = Spans.rest s
-      new (onwards q h k l) = Spans.first q k l
-
-      go : (t : Bool) → eqb (c .open′) 0 ≡ t → Spans d m n (cond t c (record { open′ = 0; closed = piece b p (c .open′) ∷ c .closed }) .closed) ↔ Covers b d m n p c
-      go true e = (λ s. inside s, λ k. old (eqb-true (c .open′) 0 e) k)
-      go false e = (λ s. cases (eqb-false (c .open′) 0 e) s, λ k. new k)
+  shut-covers = ended-covers (piece b p (c .open′) ∷ c .closed) (front b p (c .open′) (c .closed))
 
 -- the step of a scan, and the step of a sweep
 abbrev pub scan-form : ℕ → ℕ → Bool → Bool → Scan → Scan

@@ -180,7 +180,7 @@ outcomeWords o = o .number ∷ o .len ∷ o .result
 -- each row: what is computed, what document 01 says
 abbrev table : List (List ℕ × List ℕ)
 table =
-    -- none of the images is refused by its records
+    -- rules 4 to 12 refuse none of the images
     (map (λ w. first (recordRules w ++ ((12, rule12 w) ∷ []))) images, replicate 11 0)
     -- function 0 calls 1 and 1 calls 0: order 0, 1
     ∷ (orderAnswer calls, 0 ∷ 1 ∷ 0 ∷ 1 ∷ 1 ∷ 1 ∷ [])
@@ -224,6 +224,7 @@ table =
     ∷ (intervalsAnswer report 3, [])
     -- a0 b0 op1 v1 kept b0 1..end b1 start..3
     ∷ (allocationAnswer report 0, 0 ∷ 1 ∷ 1 ∷ 0 ∷ 32 ∷ 0 ∷ 0 ∷ 2 ∷ 0 ∷ 2 ∷ blockEnd ∷ 1 ∷ 0 ∷ 4 ∷ [])
+    -- v1 is used by operation 2 and as output 0 of block 0; v2 is owned by allocation 0
     ∷ (usesAnswer report 1, 0 ∷ 0 ∷ 2 ∷ 0 ∷ 2 ∷ 0 ∷ [])
     ∷ (ownerAnswer report 2, 1 ∷ [])
     -- as bytes, into a slice of 9: rounds; exit of block 0; a block that is not there; order, for which it is too short; a bad check
