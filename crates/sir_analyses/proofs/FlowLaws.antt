@@ -1,50 +1,20 @@
 -- Passes that send each block's entry set to the exits of its predecessors, over any entry function that keeps lengths and
 -- grows with its argument: they end at the least solution. Assumes nothing.
 use mathlib.Core.Path.{_≡_, refl, sym, ap, subst, _∙_}
-use mathlib.Core.Logic.{_≢_, _⊎_, inl, inr, ⊎-elim}
-use mathlib.Core.Bool.{Bool, true, false, not, _&&_, _||_, cond}
-use Prim.Native.Nat.{ℕ, zero, suc, _+_, _-_, _*_, _≤_, _<_}
+use mathlib.Core.Logic.{_≢_, ⊎-elim}
+use mathlib.Core.Bool.{Bool, true, false}
+use Prim.Native.Nat.{ℕ, suc, _*_, _<_}
 use native.Mathlib.Omega.{arith}
-use mathlib.Core.List.{List, [], _∷_, _++_, map, List·Memᴰ, List·Memᴰ·head, List·Memᴰ·tail, List·Memᴰ·cases-cons, List·Memᴰ·not-nil, Memᴰ·cast}
-use lib.ListN.{length, getD, set, replicate, length-set, length-replicate}
+use mathlib.Core.List.{List, [], _∷_, map, List·Memᴰ·head, List·Memᴰ·tail, List·Memᴰ·cases-cons, List·Memᴰ·not-nil, Memᴰ·cast, Memᴰ·map, Memᴰ·of-map}
+use lib.ListN.{length, set, replicate, length-set, length-replicate}
 use lib.Seq.{getD-set-same, getD-set-other}
-use lib.Dec.{eqb, T, eqb→eq, eqb-refl}
+use lib.Dec.{eqb}
+use borrow.Author.Tests.{eqb-true, eqb-false}
 use Rattle.plank_core.specs.Lists.{foldl, _∈_}
+use Rattle.plank_core.specs.laws.Lists.{none, foldl-keeps}
 use Rattle.sir_analyses.specs.Liveness.{Set, has, addAll, members, rowOf}
-use Rattle.sir_analyses.proofs.SetLaws.{test, has-bound, length-addAll, add-old, add-new, add-split, members-in, members-out, map-in, map-out, set-ext, empty-out}
-use Rattle.sir_analyses.proofs.RowLaws.{Within, Wide, Under, Shape, Ended, total, settleBy, settle-ends, empty-row, empty-shape}
-
--- ---- folds
-
-pub foldl-keeps : {A C : Type 0} (I : C → Type 0) (f : C → A → C) (xs : List A) → ((c : C) (x : A) → List·Memᴰ x xs → I c → I (f c x)) → (c : C) → I c → I (foldl f c xs)
-foldl-keeps I f [] h c i = i
-foldl-keeps I f (x ∷ xs) h c i = foldl-keeps I f xs (λ d y m. h d y (List·Memᴰ·tail m)) (f c x) (h c x (List·Memᴰ·head refl) i)
-
--- the union of lists g b, for b in turn
-abbrev pub gather : (ℕ → List ℕ) → Set → List ℕ → Set
-gather g s bs = foldl (λ t b. addAll t (g b)) s bs
-
-pub length-gather : (g : ℕ → List ℕ) (s : Set) (bs : List ℕ) → length (gather g s bs) ≡ length s
-length-gather g s [] = refl
-length-gather g s (b ∷ bs) = length-gather g (addAll s (g b)) bs ∙ length-addAll s (g b)
-
-pub gather-old : (g : ℕ → List ℕ) (s : Set) (bs : List ℕ) (v : ℕ) → T (has s v) → T (has (gather g s bs) v)
-gather-old g s [] v t = t
-gather-old g s (b ∷ bs) v t = gather-old g (addAll s (g b)) bs v (add-old s (g b) v t)
-
-pub gather-new : (g : ℕ → List ℕ) (s : Set) (bs : List ℕ) (b v : ℕ) → b ∈ bs → v ∈ g b → v < length s → T (has (gather g s bs) v)
-gather-new g s [] b v m n h = absurd (List·Memᴰ·not-nil m)
-gather-new g s (c ∷ bs) b v m n h =
-    ⊎-elim (λ (p : b ≡ c). gather-old g (addAll s (g c)) bs v (add-new s (g c) v h (subst (λ (x : ℕ). v ∈ g x) p n)))
-    (λ (k : b ∈ bs). gather-new g (addAll s (g c)) bs b v k n (rw length-addAll h)) (List·Memᴰ·cases-cons m)
-
-pub gather-out : (g : ℕ → List ℕ) (s : Set) (bs : List ℕ) (v : ℕ) → T (has (gather g s bs) v) → T (has s v) ⊎ ((b : ℕ) × (b ∈ bs) × (v ∈ g b))
-gather-out g s [] v t = inl t
-gather-out g s (c ∷ bs) v t = go (gather-out g (addAll s (g c)) bs v t)
-  where
-    go : T (has (addAll s (g c)) v) ⊎ ((b : ℕ) × (b ∈ bs) × (v ∈ g b)) → T (has s v) ⊎ ((b : ℕ) × (b ∈ (c ∷ bs)) × (v ∈ g b))
-    go (inl a) = ⊎-elim (λ (o : T (has s v)). inl o) (λ (m : v ∈ g c). inr (c, List·Memᴰ·head refl, m)) (add-split s (g c) v a)
-    go (inr r) = inr (r .0, List·Memᴰ·tail (r .1), r .2)
+use Rattle.sir_analyses.proofs.SetLaws.{has-less, none-in, length-addAll, add-keeps, add-in, add-out, members-in, members-out, gather, length-gather, gather-in, gather-out, set-ext, Within}
+use Rattle.sir_analyses.proofs.RowLaws.{Under, Shape, Ended, settleBy, settle-ends, empty-row, empty-shape}
 
 -- ---- one row changed
 
@@ -52,8 +22,8 @@ pub row-split : {C : Type 0} (p q : ℕ) → (q ≡ p → C) → (q ≢ p → C)
 row-split {C} p q f g = go (eqb q p) refl
   where
     go : (t : Bool) → eqb q p ≡ t → C
-    go true e = f (eqb→eq q p (test (eqb q p) e))
-    go false e = g (λ r. subst T e (subst (λ (u : ℕ). T (eqb q u)) r (eqb-refl q)))
+    go true e = f (eqb-true q p e)
+    go false e = g (eqb-false q p e)
 
 pub row-same : (e : List Set) (p q : ℕ) (r : Set) → p < length e → q ≡ p → rowOf (set e p r) q ≡ r
 row-same e p q r h eq = ap (λ (x : ℕ). rowOf (set e p r) x) eq ∙ getD-set-same e p r [] h
@@ -83,32 +53,32 @@ module _ (E : ℕ → Set → Set) (R : ℕ → ℕ → ℕ → ℕ) (L : ℕ) (
   pub exit-length : (x : ℕ → Set) (p : ℕ) → length (exitBy E R L next x p) ≡ L
   exit-length x p = length-gather (λ b. sent E R p b (E b (x b))) (replicate L false) (next p) ∙ length-replicate L false
 
-  pub exit-in : (x : ℕ → Set) (p b u v : ℕ) → b ∈ next p → T (has (E b (x b)) u) → v ≡ R p b u → v < L → T (has (exitBy E R L next x p) v)
+  pub exit-in : (x : ℕ → Set) (p b u v : ℕ) → b ∈ next p → has (E b (x b)) u ≡ true → v ≡ R p b u → v < L → has (exitBy E R L next x p) v ≡ true
   exit-in x p b u v m t eq l =
-      gather-new (λ b. sent E R p b (E b (x b))) (replicate L false) (next p) b v m
-      (Memᴰ·cast eq (map-in (R p b) u (members (E b (x b))) (members-in (E b (x b)) u t)))
+      gather-in (λ b. sent E R p b (E b (x b))) (replicate L false) m
+      (Memᴰ·cast eq (Memᴰ·map (R p b) (members-in (E b (x b)) u t)))
       (subst (λ (n : ℕ). v < n) (sym (length-replicate L false)) l)
 
   pub record Reason (x : ℕ → Set) (p v : ℕ) : Type 0 where
     pub to : ℕ
     pub name : ℕ
     pub to-in : to ∈ next p
-    pub live : T (has (E to (x to)) name)
+    pub live : has (E to (x to)) name ≡ true
     pub called : v ≡ R p to name
     pub small : v < L
 
-  pub exit-out : (x : ℕ → Set) (p v : ℕ) → T (has (exitBy E R L next x p) v) → Reason x p v
+  pub exit-out : (x : ℕ → Set) (p v : ℕ) → has (exitBy E R L next x p) v ≡ true → Reason x p v
   exit-out x p v t =
-      ⊎-elim (λ (a : T (has (replicate L false) v)). absurd (empty-out L v a))
+      ⊎-elim (λ (a : has (replicate L false) v ≡ true). none (has (replicate L false) v) a (none-in L v))
       (λ (r : (b : ℕ) × (b ∈ next p) × (v ∈ sent E R p b (E b (x b)))).
-      let i = map-out (R p (r .0)) v (members (E (r .0) (x (r .0)))) (r .2) in
+      let i = Memᴰ·of-map (R p (r .0)) (members (E (r .0) (x (r .0)))) (r .2) in
       record {
         to = r .0;
         name = i .0;
         to-in = r .1;
-        live = members-out (E (r .0) (x (r .0))) (i .0) (i .1);
-        called = i .2;
-        small = subst (λ (n : ℕ). v < n) (exit-length x p) (has-bound (exitBy E R L next x p) v t);
+        live = members-out (E (r .0) (x (r .0))) (i .1);
+        called = sym (i .2);
+        small = subst (λ (n : ℕ). v < n) (exit-length x p) (has-less (exitBy E R L next x p) v t);
       })
       (gather-out (λ b. sent E R p b (E b (x b))) (replicate L false) (next p) v t)
 
@@ -148,9 +118,9 @@ module _ (B L : ℕ) (order : List ℕ) (next pred : ℕ → List ℕ) (E : ℕ 
   sendTo-grows : (b : ℕ) (entry : Set) (e : List Set) (p : ℕ) → p ∈ order → Shape B L e → Under e (sendTo E R b entry e p)
   sendTo-grows b entry e p m s q v t =
       let r = addAll (rowOf e p) (sent E R p b entry) in
-      row-split {C = T (has (rowOf (set e p r) q) v)} p q
-      (λ eq. subst (λ (x : Set). T (has x v)) (sym (row-same e p q r (low e p s m) eq)) (add-old (rowOf e p) (sent E R p b entry) v (subst (λ (x : ℕ). T (has (rowOf e x) v)) eq t)))
-      (λ ne. subst (λ (x : Set). T (has x v)) (sym (row-other e p q r ne)) t)
+      row-split {C = has (rowOf (set e p r) q) v ≡ true} p q
+      (λ eq. subst (λ (x : Set). has x v ≡ true) (sym (row-same e p q r (low e p s m) eq)) (add-keeps (rowOf e p) (sent E R p b entry) v (subst (λ (x : ℕ). has (rowOf e x) v ≡ true) eq t)))
+      (λ ne. subst (λ (x : Set). has x v ≡ true) (sym (row-other e p q r ne)) t)
 
   sendTo-from : (b : ℕ) (entry : Set) (e₀ e : List Set) (p : ℕ) → p ∈ order → From e₀ e → From e₀ (sendTo E R b entry e p)
   sendTo-from b entry e₀ e p m f = record {
@@ -176,7 +146,7 @@ module _ (B L : ℕ) (order : List ℕ) (next pred : ℕ → List ℕ) (E : ℕ 
   -- ---- a pass sends each member
 
   sends-new : (b : ℕ) (entry : Set) (ps : List ℕ) → ((p : ℕ) → p ∈ ps → p ∈ order) → (e : List Set) → Shape B L e
-      → (p v : ℕ) → p ∈ ps → v ∈ sent E R p b entry → v < L → T (has (rowOf (foldl (sendTo E R b entry) e ps) p) v)
+      → (p v : ℕ) → p ∈ ps → v ∈ sent E R p b entry → v < L → has (rowOf (foldl (sendTo E R b entry) e ps) p) v ≡ true
   sends-new b entry [] h e s p v m n l = absurd (List·Memᴰ·not-nil m)
   sends-new b entry (q ∷ ps) h e s p v m n l =
       let mq = h q (List·Memᴰ·head refl) in
@@ -184,20 +154,20 @@ module _ (B L : ℕ) (order : List ℕ) (next pred : ℕ → List ℕ) (E : ℕ 
       let h′ : (p : ℕ) → p ∈ ps → p ∈ order = λ p k. h p (List·Memᴰ·tail k) in
       ⊎-elim (λ (eq : p ≡ q).
       let r = addAll (rowOf e q) (sent E R q b entry) in
-      let a : T (has r v) = add-new (rowOf e q) (sent E R q b entry) v (subst (λ (x : ℕ). v < x) (sym (row-length e q s mq)) l) (subst (λ (x : ℕ). v ∈ sent E R x b entry) eq n) in
+      let a : has r v ≡ true = add-in (rowOf e q) (subst (λ (x : ℕ). v ∈ sent E R x b entry) eq n) (subst (λ (x : ℕ). v < x) (sym (row-length e q s mq)) l) in
       sends-from b entry ps h′ (sendTo E R b entry e q) s′ .grown p v
-      (subst (λ (x : Set). T (has x v)) (sym (row-same e q p r (low e q s mq) eq)) a))
+      (subst (λ (x : Set). has x v ≡ true) (sym (row-same e q p r (low e q s mq) eq)) a))
       (λ (k : p ∈ ps). sends-new b entry ps h′ (sendTo E R b entry e q) s′ p v k n l) (List·Memᴰ·cases-cons m)
 
   pass-new : (bs : List ℕ) (e : List Set) → Shape B L e → (p b u : ℕ) → b ∈ bs → p ∈ order → b ∈ next p
-      → T (has (E b (rowOf e b)) u) → R p b u < L → T (has (rowOf (foldl (send E R pred) e bs) p) (R p b u))
+      → has (E b (rowOf e b)) u ≡ true → R p b u < L → has (rowOf (foldl (send E R pred) e bs) p) (R p b u) ≡ true
   pass-new [] e s p b u m mp mb t l = absurd (List·Memᴰ·not-nil m)
   pass-new (c ∷ bs) e s p b u m mp mb t l =
       let f = send-from e c s in
       let mo = F .next-in p b mp mb in
       ⊎-elim (λ (eq : b ≡ c).
-      let t′ : T (has (E c (rowOf e c)) u) = subst (λ (x : ℕ). T (has (E x (rowOf e x)) u)) eq t in
-      let i : R p b u ∈ sent E R p c (E c (rowOf e c)) = subst (λ (x : ℕ). R p x u ∈ sent E R p c (E c (rowOf e c))) (sym eq) (map-in (R p c) u (members (E c (rowOf e c))) (members-in (E c (rowOf e c)) u t′)) in
+      let t′ : has (E c (rowOf e c)) u ≡ true = subst (λ (x : ℕ). has (E x (rowOf e x)) u ≡ true) eq t in
+      let i : R p b u ∈ sent E R p c (E c (rowOf e c)) = subst (λ (x : ℕ). R p x u ∈ sent E R p c (E c (rowOf e c))) (sym eq) (Memᴰ·map (R p c) (members-in (E c (rowOf e c)) u t′)) in
       pass-from bs (send E R pred e c) (f .shape) .grown p (R p b u)
       (sends-new c (E c (rowOf e c)) (pred c) (λ q k. F .pred-out q c k .0) e s p (R p b u) (F .pred-in p c mp (subst (λ (x : ℕ). x ∈ next p) eq mb)) i l))
       (λ (k : b ∈ bs).
@@ -229,17 +199,17 @@ module _ (B L : ℕ) (order : List ℕ) (next pred : ℕ → List ℕ) (E : ℕ 
     shape = sendTo-shape b entry e p m (i .shape);
     inside = λ q mq v t.
         let r = addAll (rowOf e p) (sent E R p b entry) in
-        let into : T (has r v) → T (has (y p) v) = λ a.
-        ⊎-elim (λ (o : T (has (rowOf e p) v)). i .inside p m v o)
+        let into : has r v ≡ true → has (y p) v ≡ true = λ a.
+        ⊎-elim (λ (o : has (rowOf e p) v ≡ true). i .inside p m v o)
         (λ (k : v ∈ sent E R p b entry).
-        let g = map-out (R p b) v (members entry) k in
-        let l : v < L = subst (λ (n : ℕ). v < n) (length-addAll (rowOf e p) (sent E R p b entry) ∙ row-length e p (i .shape) m) (has-bound r v a) in
-        c .closed p m v (exit-in E R L next y p b (g .0) v n (h (g .0) (members-out entry (g .0) (g .1))) (g .2) l))
-        (add-split (rowOf e p) (sent E R p b entry) v a)
+        let g = Memᴰ·of-map (R p b) (members entry) k in
+        let l : v < L = subst (λ (n : ℕ). v < n) (length-addAll (rowOf e p) (sent E R p b entry) ∙ row-length e p (i .shape) m) (has-less r v a) in
+        c .closed p m v (exit-in E R L next y p b (g .0) v n (h (g .0) (members-out entry (g .1))) (sym (g .2)) l))
+        (add-out (rowOf e p) (sent E R p b entry) a)
         in
-        row-split {C = T (has (y q) v)} p q
-        (λ eq. subst (λ (x : ℕ). T (has (y x) v)) (sym eq) (into (subst (λ (x : Set). T (has x v)) (row-same e p q r (low e p (i .shape) m) eq) t)))
-        (λ ne. i .inside q mq v (subst (λ (x : Set). T (has x v)) (row-other e p q r ne) t));
+        row-split {C = has (y q) v ≡ true} p q
+        (λ eq. subst (λ (x : ℕ). has (y x) v ≡ true) (sym eq) (into (subst (λ (x : Set). has x v ≡ true) (row-same e p q r (low e p (i .shape) m) eq) t)))
+        (λ ne. i .inside q mq v (subst (λ (x : Set). has x v ≡ true) (row-other e p q r ne) t));
   }
 
   send-inside : (y : ℕ → Set) → Closed y → (e : List Set) (b : ℕ) → b ∈ order → Inside y e → Inside y (send E R pred e b)
@@ -257,12 +227,12 @@ module _ (B L : ℕ) (order : List ℕ) (next pred : ℕ → List ℕ) (E : ℕ 
   -- ---- a pass adds to rows of the order only
 
   abbrev pub Only : List Set → Type 0
-  Only e = (b v : ℕ) → T (has (rowOf e b) v) → b ∈ order
+  Only e = (b v : ℕ) → has (rowOf e b) v ≡ true → b ∈ order
 
   sendTo-only : (b : ℕ) (entry : Set) (e : List Set) (p : ℕ) → p ∈ order → Only e → Only (sendTo E R b entry e p)
   sendTo-only b entry e p m o q v t =
       row-split {C = q ∈ order} p q (λ eq. Memᴰ·cast eq m)
-      (λ ne. o q v (subst (λ (x : Set). T (has x v)) (row-other e p q (addAll (rowOf e p) (sent E R p b entry)) ne) t))
+      (λ ne. o q v (subst (λ (x : Set). has x v ≡ true) (row-other e p q (addAll (rowOf e p) (sent E R p b entry)) ne) t))
 
   pass-only : (bs : List ℕ) (e : List Set) → Only e → Only (foldl (send E R pred) e bs)
   pass-only bs e o =
@@ -295,7 +265,7 @@ module _ (B L : ℕ) (order : List ℕ) (next pred : ℕ → List ℕ) (E : ℕ 
       closed = λ p m v t.
           let r = exit-out E R L next (rowOf e) p v t in
           let a = pass-new bs e s p (r .to) (r .name) (all-in (r .to) (F .next-in p (r .to) m (r .to-in))) m (r .to-in) (r .live) (subst (λ (n : ℕ). n < L) (r .called) (r .small)) in
-          subst (λ (n : ℕ). T (has (rowOf e p) n)) (sym (r .called)) (subst (λ (x : List Set). T (has (rowOf x p) (R p (r .to) (r .name)))) eq a);
+          subst (λ (n : ℕ). has (rowOf e p) n ≡ true) (sym (r .called)) (subst (λ (x : List Set). has (rowOf x p) (R p (r .to) (r .name)) ≡ true) eq a);
     }
 
     pub fixed-solves : (e : List Set) → Held e → passBy e ≡ e → (p : ℕ) → p ∈ order → rowOf e p ≡ exitBy E R L next (rowOf e) p
@@ -308,7 +278,9 @@ module _ (B L : ℕ) (order : List ℕ) (next pred : ℕ → List ℕ) (E : ℕ 
         } in
         set-ext (rowOf e p) (x p) (c .sized p m ∙ sym (exit-length E R L next (rowOf e) p)) (i .least x d p m) (c .closed p m)
 
-    pub passes-end : (n : ℕ) → B * L < n → Ended passBy Held (settleBy passBy n 0 (replicate B (replicate L false)) .0) (settleBy passBy n 0 (replicate B (replicate L false)) .1)
-    passes-end n h =
-        settle-ends B L passBy Held (λ e i. i .shape) pass-held (λ e i. pass-from bs e (i .shape) .grown) n 0 (replicate B (replicate L false))
-        (record { shape = empty-shape B L; only = λ b v t. absurd (empty-row B L b v t); least = λ y c b m v t. absurd (empty-row B L b v t) }) (omega arith) (omega arith)
+    pub passes-end : (states : ℕ → List Set) → states 0 ≡ replicate B (replicate L false) → ((n : ℕ) → states (suc n) ≡ passBy (states n)) → (n : ℕ) → B * L < n
+        → Ended passBy Held states (settleBy passBy n 0 (replicate B (replicate L false)) .0) (settleBy passBy n 0 (replicate B (replicate L false)) .1)
+    passes-end states begin steps n h =
+        settle-ends B L passBy Held (λ e i. i .shape) pass-held (λ e i. pass-from bs e (i .shape) .grown) states steps n 0 (replicate B (replicate L false))
+        (record { shape = empty-shape B L; only = λ b v t. none _ t (empty-row B L b v); least = λ y c b m v t. none _ t (empty-row B L b v) })
+        (omega arith) (omega arith) (sym begin) (λ j l. absurd (omega arith))

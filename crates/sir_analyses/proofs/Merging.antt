@@ -1,17 +1,18 @@
 -- Merged intervals: merging changes no point and no gap that is covered, gives the normal form, and the normal form is
 -- unique. Assumes nothing.
 use mathlib.Core.Path.{_≡_, refl, sym, _∙_, ap}
-use mathlib.Core.Logic.{_↔_, _⊎_, inl, inr}
-use mathlib.Core.Bool.{Bool, true, false, not, _&&_, _||_, cond}
-use Prim.Native.Nat.{ℕ, zero, suc, _+_, _≤_, _<_}
+use mathlib.Core.Logic.{_↔_, _⊎_, inl, inr, ⊎-elim}
+use mathlib.Core.Bool.{Bool, true, false, _&&_, _||_, cond}
+use Prim.Native.Nat.{ℕ, suc, _+_, _≤_, _<_}
 use native.Mathlib.Omega.{arith}
 use native.Mathlib.Decide.{decLe}
-use mathlib.Core.List.{List, [], _∷_, foldr, List·Memᴰ, List·Memᴰ·head, List·Memᴰ·tail, List·Memᴰ·not-nil}
-use lib.Dec.{T, eqb, leb, ltb, leb→le, le→leb, ltb→lt, lt→ltb, nleb→lt, nltb→le, eqb→eq}
+use mathlib.Core.List.{List, [], _∷_, List·Memᴰ, List·Memᴰ·head, List·Memᴰ·tail, List·Memᴰ·not-nil}
+use lib.Dec.{eqb, leb, ltb}
+use borrow.Author.Tests.{eqb-true, eq-eqb, leb-true, leb-false, ltb-true, ltb-false}
+use Rattle.plank_core.specs.laws.Lists.{and-true-left, and-true-right, or-false-left, or-false-right, or-cases, split}
 use Rattle.sir_analyses.specs.Liveness.{Interval}
 use Rattle.sir_analyses.specs.Allocation.{before, insert, sort, furthest, join, merge}
 use Rattle.sir_analyses.specs.Walk.{Lies, here, there}
-use Rattle.sir_analyses.proofs.Facts.{is-true, true-is, is-false, false-is, split, decide, both, pair, either, or-left, or-right, eqb-of, eqb-not, not-eqb}
 
 -- one of these intervals has in block b all from m to n
 pub data Spans (b m n : ℕ) : List Interval → Type 0 where
@@ -24,6 +25,9 @@ Point b n is = Spans b n n is
 
 abbrev pub Gap : ℕ → ℕ → List Interval → Type 0
 Gap b n is = Spans b n (n + 1) is
+
+pub nothing-spans : {b m n : ℕ} → Spans b m n [] → ⊥
+nothing-spans c = elim c [ ]
 
 pub spans-in : {b m n : ℕ} {i : Interval} {is : List Interval} → List·Memᴰ i is → i .block ≡ b → i .from ≤ m → n ≤ i .to → Spans b m n is
 spans-in (List·Memᴰ·head {x = j} e) p q r = first {i = j} (rw e at p) (rw e at q) (rw e at r)
@@ -49,34 +53,28 @@ pub data Sorted : List Interval → Type 0 where
   single : (i : Interval) → Sorted (i ∷ [])
   more : {i j : Interval} {is : List Interval} → Ordered i j → Sorted (j ∷ is) → Sorted (i ∷ (j ∷ is))
 
-before-ordered : (i j : Interval) → T (before i j) → Ordered i j
-before-ordered i j h = go (either (ltb (i .block) (j .block)) _ h)
-  where
-    deep : (eqb-same : i .block ≡ j .block) → T (ltb (i .from) (j .from)) ⊎ T (eqb (i .from) (j .from) && leb (i .to) (j .to)) → Ordered i j
-    deep e (inl t) = starts e (omega (arith, ltb→lt (i .from) (j .from) t))
-    deep e (inr t) = starts e (omega (arith, eqb→eq (i .from) (j .from) ((both (eqb (i .from) (j .from)) _ t) .0)))
-
-    go : T (ltb (i .block) (j .block)) ⊎ T (eqb (i .block) (j .block) && (ltb (i .from) (j .from) || (eqb (i .from) (j .from) && leb (i .to) (j .to)))) → Ordered i j
-    go (inl t) = blocks (ltb→lt (i .block) (j .block) t)
-    go (inr t) = let k = both (eqb (i .block) (j .block)) _ t in deep (eqb→eq (i .block) (j .block) (k .0)) (either (ltb (i .from) (j .from)) _ (k .1))
+before-ordered : (i j : Interval) → before i j ≡ true → Ordered i j
+before-ordered i j h =
+    ⊎-elim
+    (λ (t : ltb (i .block) (j .block) ≡ true). blocks (ltb-true (i .block) (j .block) t))
+    (λ (t : (eqb (i .block) (j .block) && (ltb (i .from) (j .from) || (eqb (i .from) (j .from) && leb (i .to) (j .to)))) ≡ true).
+    starts (eqb-true (i .block) (j .block) (and-true-left (eqb (i .block) (j .block)) _ t))
+    (⊎-elim
+    (λ (u : ltb (i .from) (j .from) ≡ true). let l = ltb-true (i .from) (j .from) u in let r : i .from ≤ j .from = omega arith in r)
+    (λ (u : (eqb (i .from) (j .from) && leb (i .to) (j .to)) ≡ true). let e = eqb-true (i .from) (j .from) (and-true-left (eqb (i .from) (j .from)) _ u) in let r : i .from ≤ j .from = omega arith in r)
+    (or-cases (ltb (i .from) (j .from)) _ (and-true-right (eqb (i .block) (j .block)) _ t))))
+    (or-cases (ltb (i .block) (j .block)) _ h)
 
 after-ordered : (i j : Interval) → before i j ≡ false → Ordered j i
-after-ordered i j h = go (decide (ltb (j .block) (i .block))) (decide (ltb (i .block) (j .block)))
+after-ordered i j h = go (split (j .block) (i .block))
   where
-    same : i .block ≡ j .block → T (ltb (i .from) (j .from)) ⊎ T (not (ltb (i .from) (j .from))) → Ordered j i
-    same e (inl t) = absurd (sayno (or-right (ltb (i .block) (j .block)) _ (pair (eqb (i .block) (j .block)) _ (eqb-of e) (or-left (ltb (i .from) (j .from)) (eqb (i .from) (j .from) && leb (i .to) (j .to)) t))))
-      where
-        sayno : T (before i j) → ⊥
-        sayno t = rw h at t
-    same e (inr t) = starts (sym e) (nltb→le (i .from) (j .from) t)
-
-    go : T (ltb (j .block) (i .block)) ⊎ T (not (ltb (j .block) (i .block))) → T (ltb (i .block) (j .block)) ⊎ T (not (ltb (i .block) (j .block))) → Ordered j i
-    go (inl t) d = blocks (ltb→lt (j .block) (i .block) t)
-    go (inr t) (inl u) = absurd (sayno (or-left (ltb (i .block) (j .block)) (eqb (i .block) (j .block) && (ltb (i .from) (j .from) || (eqb (i .from) (j .from) && leb (i .to) (j .to)))) u))
-      where
-        sayno : T (before i j) → ⊥
-        sayno t = rw h at t
-    go (inr t) (inr u) = same (omega (arith, nltb→le (j .block) (i .block) t, nltb→le (i .block) (j .block) u)) (decide (ltb (i .from) (j .from)))
+    go : (j .block < i .block) ⊎ (i .block ≤ j .block) → Ordered j i
+    go (inl l) = blocks l
+    go (inr l) =
+        let e : j .block ≡ i .block = omega (arith, ltb-false (i .block) (j .block) (or-false-left (ltb (i .block) (j .block)) _ h)) in
+        let k : (ltb (i .from) (j .from) || (eqb (i .from) (j .from) && leb (i .to) (j .to))) ≡ false =
+        rw (eq-eqb (i .block) (j .block) (sym e)) at (or-false-right (ltb (i .block) (j .block)) _ h) in
+        starts e (ltb-false (i .from) (j .from) (or-false-left (ltb (i .from) (j .from)) _ k))
 
 -- ---- sort
 
@@ -85,12 +83,12 @@ insert-sorted i [] s = single i
 insert-sorted i (j ∷ []) s = go (before i j) refl
   where
     go : (t : Bool) → before i j ≡ t → Sorted (cond t (i ∷ j ∷ []) (j ∷ insert i []))
-    go true e = more (before-ordered i j (true-is e)) (single j)
+    go true e = more (before-ordered i j e) (single j)
     go false e = more (after-ordered i j e) (single i)
 insert-sorted i (j ∷ (k ∷ is)) (more h s) = go (before i j) refl (before i k) refl (insert-sorted i (k ∷ is) s)
   where
     go : (t : Bool) → before i j ≡ t → (u : Bool) → before i k ≡ u → Sorted (cond u (i ∷ k ∷ is) (k ∷ insert i is)) → Sorted (cond t (i ∷ j ∷ k ∷ is) (j ∷ cond u (i ∷ k ∷ is) (k ∷ insert i is)))
-    go true e u d r = more (before-ordered i j (true-is e)) (more h s)
+    go true e u d r = more (before-ordered i j e) (more h s)
     go false e true d r = more (after-ordered i j e) r
     go false e false d r = more h r
 
@@ -140,7 +138,7 @@ furthest-left : (a b : ℕ) → a ≤ furthest a b
 furthest-left a b = go (leb a b) refl
   where
     go : (t : Bool) → leb a b ≡ t → a ≤ cond t b a
-    go true e = leb→le a b (true-is e)
+    go true e = leb-true a b e
     go false e = omega arith
 
 furthest-right : (a b : ℕ) → b ≤ furthest a b
@@ -148,7 +146,7 @@ furthest-right a b = go (leb a b) refl
   where
     go : (t : Bool) → leb a b ≡ t → b ≤ cond t b a
     go true e = omega arith
-    go false e = omega (arith, nleb→lt a b (false-is e))
+    go false e = omega (arith, leb-false a b e)
 
 furthest-cases : (a b : ℕ) → (furthest a b ≡ a) ⊎ (furthest a b ≡ b)
 furthest-cases a b = go (leb a b)
@@ -169,10 +167,10 @@ ordered-starts (starts p q) e = q
 
 module _ (i j : Interval) (touch : touches i j ≡ true) (order : Ordered i j) where
   same-block : i .block ≡ j .block
-  same-block = eqb→eq (i .block) (j .block) ((both (eqb (i .block) (j .block)) (leb (j .from) (i .to)) (true-is touch)) .0)
+  same-block = eqb-true (i .block) (j .block) (and-true-left (eqb (i .block) (j .block)) (leb (j .from) (i .to)) touch)
 
   inside : j .from ≤ i .to
-  inside = leb→le (j .from) (i .to) ((both (eqb (i .block) (j .block)) (leb (j .from) (i .to)) (true-is touch)) .1)
+  inside = leb-true (j .from) (i .to) (and-true-right (eqb (i .block) (j .block)) (leb (j .from) (i .to)) touch)
 
   grown-out : {b m n : ℕ} {js : List Interval} → n ≤ suc m → Spans b m n (grown i j ∷ js) → Spans b m n (i ∷ (j ∷ js))
   grown-out {b} {m} {n} le (first p q r) = go (decLe n (i .to)) (furthest-cases (i .to) (j .to))
@@ -292,11 +290,9 @@ untouched : {i j k : Interval} → touches i j ≡ false → Ordered i j → Ord
 untouched {i} {j} {k} e (blocks h) (blocks g) = farther (omega arith)
 untouched {i} {j} {k} e (blocks h) (starts p q) = farther (omega arith)
 untouched {i} {j} {k} e (starts p q) (blocks g) = farther (omega arith)
-untouched {i} {j} {k} e (starts p q) (starts r s) = go (decide (leb (j .from) (i .to)))
-  where
-    go : T (leb (j .from) (i .to)) ⊎ T (not (leb (j .from) (i .to))) → Apart i k
-    go (inl t) = absurd (rw e at (pair (eqb (i .block) (j .block)) (leb (j .from) (i .to)) (eqb-of p) t))
-    go (inr t) = gapped (p ∙ r) (omega (arith, nleb→lt (j .from) (i .to) t))
+untouched {i} {j} {k} e (starts p q) (starts r s) =
+    let t : leb (j .from) (i .to) ≡ false = rw (eq-eqb (i .block) (j .block) p) at e in
+    gapped (p ∙ r) (omega (arith, leb-false (j .from) (i .to) t))
 
 join-normal : (i : Interval) (is : List Interval) → Sorted (i ∷ is) → Proper (i ∷ is) → Normal (join i is)
 join-normal i [] s p = one (p i (List·Memᴰ·head refl))
@@ -330,10 +326,7 @@ normal-tail (next h a n) = n
 
 -- what the tail of a list in normal form spans is behind its first interval
 pub behind-head : {b m n : ℕ} {i : Interval} {is : List Interval} → Normal (i ∷ is) → Spans b m n is → (i .block < b) ⊎ ((i .block ≡ b) × (i .to < m))
-behind-head (one h) s = absurd (none-spans s)
-  where
-    none-spans : {b m n : ℕ} → Spans b m n [] → ⊥
-    none-spans c = elim c [ ]
+behind-head (one h) s = absurd (nothing-spans s)
 behind-head {b} {m} {n} {i} (next {j = j} h a k) s = go a s (behind-head k)
   where
     at-j : Apart i j → j .block ≡ b → j .from ≤ m → (i .block < b) ⊎ ((i .block ≡ b) × (i .to < m))
@@ -399,9 +392,6 @@ module _ {x y : Interval} {xs ys : List Interval} (nx : Normal (x ∷ xs)) (ny :
       go : Spans b m n (y ∷ ys) → Spans b m n ys
       go (first p q r) = absurd (further (behind-head nx s) p r)
       go (rest t) = t
-
-nothing-spans : {b m n : ℕ} → Spans b m n [] → ⊥
-nothing-spans c = elim c [ ]
 
 -- two lists in normal form that cover the same points and the same gaps are equal
 pub normal-unique : (is js : List Interval) → Normal is → Normal js

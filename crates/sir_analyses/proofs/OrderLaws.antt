@@ -1,19 +1,19 @@
 -- Laws of the visit of functions and blocks: one form for both kinds of item, and the fuel law: with fuel for each function below
 -- `functions w` and each block below `blocks w` that is not seen yet, more fuel changes nothing. Assumes nothing.
 use mathlib.Core.Path.{_≡_, refl, sym, ap, _∙_, subst}
-use mathlib.Core.Logic.{⊎-elim, _⊎_, inl, inr}
-use mathlib.Core.Bool.{Bool, true, false, not, _&&_, _||_, cond}
-use Prim.Native.Nat.{ℕ, zero, suc, _+_, _-_, _*_, _≤_, _<_}
+use mathlib.Core.Logic.{⊎-elim}
+use mathlib.Core.Bool.{Bool, true, false, _||_, cond}
+use Prim.Native.Nat.{ℕ, zero, suc, _+_, _≤_, _<_}
 use native.Mathlib.Nat.{le-refl, le-trans, zero-add, suc-add}
 use native.Mathlib.Omega.{arith}
-use mathlib.Core.List.{List, [], _∷_, _++_, map, List·Memᴰ, List·Memᴰ·head, List·Memᴰ·tail, List·Memᴰ·not-nil, List·Memᴰ·cases-cons, List·Memᴰ·eq-of-singleton, List·Memᴰ·append-cases, Memᴰ·append-left, Memᴰ·append-right}
+use mathlib.Core.List.{List, [], _∷_, _++_, map, List·Memᴰ, List·Memᴰ·head, List·Memᴰ·tail, List·Memᴰ·eq-of-singleton, List·Memᴰ·append-cases}
 use lib.Dec.{eqb}
-use borrow.Author.Tests.{eqb-true, eqb-false, eq-eqb, ne-eqb}
+use borrow.Author.Tests.{eqb-true, eqb-false, ne-eqb}
 use Rattle.plank_core.specs.Lists.{foldl, bind, mem}
 use Rattle.sir_data.specs.Records.{functions, blocks, entryBlock, ops, successors, callees}
 use Rattle.sir_analyses.specs.Order.{Visit, seeFunction, seeBlock, finishFunction, finishBlock, visitFunction, visitBlock}
 use Rattle.sir_analyses.specs.Claims.{Item, function, block}
-use Rattle.plank_core.specs.laws.Lists.{or-true-right, bool-or, map-each, bind-each}
+use Rattle.plank_core.specs.laws.Lists.{or-true-right, bool-or, map-each, bind-out}
 use Rattle.sir_data.specs.WellFormed.{InRange}
 
 -- ---- how many numbers below n are not in a list
@@ -198,7 +198,7 @@ module _ (w : List ℕ) where
       → ((s : ℕ) → List·Memᴰ s (successors w b) → P (block s)) → (y : Item) → List·Memᴰ y (kids (block b)) → P y
   kids-each P b h k y m =
       ⊎-elim
-      (map-each P function (bind (ops w b) (callees w)) (bind-each (λ (g : ℕ). P (function g)) (callees w) (ops w b) (λ o g. h o g)) y)
+      (map-each P function (bind (ops w b) (callees w)) (λ g i. let r = bind-out (callees w) (ops w b) i in h (r .0) g (r .1) (r .2)) y)
       (map-each P block (successors w b) k y)
       (List·Memᴰ·append-cases (map function (bind (ops w b) (callees w))) m)
 

@@ -1,16 +1,16 @@
 -- Each function and each block that is seen is finished once, and no other. Assumes nothing.
-use mathlib.Core.Path.{_≡_, refl, sym, ap, _∙_, subst}
-use mathlib.Core.Logic.{_↔_, ⊎-elim, _⊎_, inl, inr}
-use mathlib.Core.Bool.{Bool, true, false, not, _&&_, _||_, cond}
-use Prim.Native.Nat.{ℕ, zero, suc, _+_, _-_, _*_, _≤_, _<_}
+use mathlib.Core.Path.{_≡_, refl, sym, ap, _∙_}
+use mathlib.Core.Logic.{⊎-elim}
+use mathlib.Core.Bool.{Bool, true, false, cond}
+use Prim.Native.Nat.{ℕ, zero, suc, _+_}
 use native.Mathlib.Omega.{arith}
-use mathlib.Core.List.{List, [], _∷_, _++_, map, reverse, reverseAux, List·Memᴰ, List·Memᴰ·head, List·Memᴰ·tail, List·Memᴰ·not-nil, List·Memᴰ·cases-cons, List·Memᴰ·eq-of-singleton, List·Memᴰ·append-cases}
+use mathlib.Core.List.{List, [], _∷_, _++_, map, reverse, List·Memᴰ, List·Memᴰ·head, List·Memᴰ·tail, List·Memᴰ·eq-of-singleton, List·Memᴰ·append-cases}
 use lib.Dec.{eqb}
-use borrow.Author.Tests.{eqb-true, eqb-false, eq-eqb, ne-eqb}
-use Rattle.plank_core.specs.Lists.{bind, keep, mem, distinct}
-use Rattle.sir_analyses.specs.Order.{Visit, start, seeFunction, seeBlock, finishFunction, finishBlock}
+use borrow.Author.Tests.{eqb-true, eq-eqb}
+use Rattle.plank_core.specs.Lists.{bind, keep, mem, oneIf}
+use Rattle.sir_analyses.specs.Order.{Visit}
 use Rattle.sir_analyses.specs.Claims.{Item, function, block}
-use Rattle.plank_core.specs.laws.Lists.{bool-or, bit, times, times-append, times-reverse}
+use Rattle.plank_core.specs.laws.Lists.{bool-or, times, times-append, times-reverse}
 use Rattle.sir_analyses.proofs.OrderLaws.{open′, seen, enter, finish, owner, kids, visit, visits, visit-zero, visit-new, visit-old, Grows, enter-grows, grows, all-grow}
 
 -- ---- the blocks of each function in turn: each pair's block, if its function stands once among the functions
@@ -21,13 +21,13 @@ second ps = map (λ p. p .1) ps
 abbrev pub blocksOf : List (ℕ × ℕ) → ℕ → List ℕ
 blocksOf ps f = reverse (second (keep (λ p. eqb (p .0) f) ps))
 
-blocksOf-cons : (b f : ℕ) (p : ℕ × ℕ) (ps : List (ℕ × ℕ)) → times b (blocksOf (p ∷ ps) f) ≡ cond (eqb b (p .1)) (bit (eqb (p .0) f)) 0 + times b (blocksOf ps f)
+blocksOf-cons : (b f : ℕ) (p : ℕ × ℕ) (ps : List (ℕ × ℕ)) → times b (blocksOf (p ∷ ps) f) ≡ cond (eqb b (p .1)) (oneIf (eqb (p .0) f)) 0 + times b (blocksOf ps f)
 blocksOf-cons b f p ps =
     times-reverse b (second (keep (λ q. eqb (q .0) f) (p ∷ ps))) ∙ go (eqb (p .0) f) (eqb b (p .1)) refl refl
-    ∙ ap (λ (n : ℕ). cond (eqb b (p .1)) (bit (eqb (p .0) f)) 0 + n) (sym (times-reverse b (second (keep (λ q. eqb (q .0) f) ps))))
+    ∙ ap (λ (n : ℕ). cond (eqb b (p .1)) (oneIf (eqb (p .0) f)) 0 + n) (sym (times-reverse b (second (keep (λ q. eqb (q .0) f) ps))))
   where
     go : (s t : Bool) → eqb (p .0) f ≡ s → eqb b (p .1) ≡ t
-        → times b (second (keep (λ q. eqb (q .0) f) (p ∷ ps))) ≡ cond (eqb b (p .1)) (bit (eqb (p .0) f)) 0 + times b (second (keep (λ q. eqb (q .0) f) ps))
+        → times b (second (keep (λ q. eqb (q .0) f) (p ∷ ps))) ≡ cond (eqb b (p .1)) (oneIf (eqb (p .0) f)) 0 + times b (second (keep (λ q. eqb (q .0) f) ps))
     go true true d e = rw (d, e)
     go true false d e = rw (d, e)
     go false true d e = rw (d, e) (omega arith)
@@ -46,27 +46,27 @@ spread-cons b p ps [] = go (eqb b (p .1))
     go false = refl
 spread-cons b p ps (f ∷ fs) =
     times-append b (blocksOf (p ∷ ps) f) (bind fs (blocksOf (p ∷ ps)))
-    ∙ omega (arith, blocksOf-cons b f p ps, spread-cons b p ps fs, times-append b (blocksOf ps f) (bind fs (blocksOf ps)), cond-add (eqb b (p .1)) (bit (eqb (p .0) f)) (times (p .0) fs))
+    ∙ omega (arith, blocksOf-cons b f p ps, spread-cons b p ps fs, times-append b (blocksOf ps f) (bind fs (blocksOf ps)), cond-add (eqb b (p .1)) (oneIf (eqb (p .0) f)) (times (p .0) fs))
 
 spread-nil : (b : ℕ) (fs : List ℕ) → times b (bind fs (blocksOf [])) ≡ 0
 spread-nil b [] = refl
 spread-nil b (f ∷ fs) = spread-nil b fs
 
-cond-bit : (t : Bool) (n : ℕ) → n ≡ 1 → cond t n 0 ≡ bit t
-cond-bit true n e = e
-cond-bit false n e = refl
+cond-oneIf : (t : Bool) (n : ℕ) → n ≡ 1 → cond t n 0 ≡ oneIf t
+cond-oneIf true n e = e
+cond-oneIf false n e = refl
 
 pub spread : (b : ℕ) (ps : List (ℕ × ℕ)) (fs : List ℕ) → ((p : ℕ × ℕ) → List·Memᴰ p ps → times (p .0) fs ≡ 1)
     → times b (bind fs (blocksOf ps)) ≡ times b (second ps)
 spread b [] fs h = spread-nil b fs
 spread b (p ∷ ps) fs h =
-    omega (arith, spread-cons b p ps fs, cond-bit (eqb b (p .1)) (times (p .0) fs) (h p (List·Memᴰ·head refl)), spread b ps fs (λ q m. h q (List·Memᴰ·tail m)))
+    omega (arith, spread-cons b p ps fs, cond-oneIf (eqb b (p .1)) (times (p .0) fs) (h p (List·Memᴰ·head refl)), spread b ps fs (λ q m. h q (List·Memᴰ·tail m)))
 
-second-snoc : (c : ℕ) (ps : List (ℕ × ℕ)) (p : ℕ × ℕ) → times c (second (ps ++ (p ∷ []))) ≡ times c (second ps) + bit (eqb c (p .1))
+second-snoc : (c : ℕ) (ps : List (ℕ × ℕ)) (p : ℕ × ℕ) → times c (second (ps ++ (p ∷ []))) ≡ times c (second ps) + oneIf (eqb c (p .1))
 second-snoc c [] p = omega arith
 second-snoc c (q ∷ ps) p = omega (arith, second-snoc c ps p)
 
-open-new : (xs : List ℕ) (i j : ℕ) → mem i xs ≡ false → open′ (mem j (i ∷ xs)) + bit (eqb j i) ≡ open′ (mem j xs)
+open-new : (xs : List ℕ) (i j : ℕ) → mem i xs ≡ false → open′ (mem j (i ∷ xs)) + oneIf (eqb j i) ≡ open′ (mem j xs)
 open-new xs i j h =
     ⊎-elim
     (λ (e : eqb j i ≡ true). let s : mem j xs ≡ false = ap (λ (n : ℕ). mem n xs) (eqb-true j i e) ∙ h in rw (e, s))
@@ -84,10 +84,10 @@ module _ (w : List ℕ) where
   tally v y = done v y + open′ (seen w v y)
 
   abbrev same : Item → Item → ℕ
-  same (function f) (function g) = bit (eqb g f)
+  same (function f) (function g) = oneIf (eqb g f)
   same (function f) (block c) = 0
   same (block b) (function g) = 0
-  same (block b) (block c) = bit (eqb c b)
+  same (block b) (block c) = oneIf (eqb c b)
 
   finish-tally : (o : ℕ) (x y : Item) (v : Visit) → tally (finish w o x v) y ≡ tally v y + same x y
   finish-tally o (function f) (function g) v = omega (arith, times-append g (v .finishedFunctions) (f ∷ []))

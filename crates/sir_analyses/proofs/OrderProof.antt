@@ -1,25 +1,25 @@
 -- The order holds exactly what can be reached, each once: `OrderRule w` wherever no record rule is broken. Assumes nothing.
 use mathlib.Core.Path.{_≡_, refl, sym, ap, _∙_, subst}
 use mathlib.Core.Logic.{_↔_, ⊎-elim, _⊎_, inl, inr}
-use mathlib.Core.Bool.{Bool, true, false, not, _&&_, _||_, cond}
-use Prim.Native.Nat.{ℕ, zero, suc, _+_, _-_, _*_, _≤_, _<_}
+use mathlib.Core.Bool.{Bool, true, false}
+use Prim.Native.Nat.{ℕ, zero, suc, _+_, _≤_, _<_}
 use native.Mathlib.Nat.{le-refl, le-trans}
 use native.Mathlib.Omega.{arith}
-use mathlib.Core.List.{List, [], _∷_, _++_, map, reverse, reverseAux, List·Memᴰ, List·Memᴰ·head, List·Memᴰ·tail, List·Memᴰ·not-nil, List·Memᴰ·cases-cons, List·Memᴰ·eq-of-singleton, List·Memᴰ·append-cases, Memᴰ·append-left, Memᴰ·append-right}
-use lib.Dec.{eqb, T}
-use borrow.Author.Tests.{eqb-true, eqb-false, eq-eqb, ne-eqb}
-use Rattle.plank_core.specs.Lists.{foldl, bind, keep, mem, distinct, _∈_}
+use mathlib.Core.List.{List, [], _∷_, map, List·Memᴰ, List·Memᴰ·head, List·Memᴰ·tail, List·Memᴰ·not-nil, List·Memᴰ·cases-cons, List·Memᴰ·eq-of-singleton, Memᴰ·append-left, Memᴰ·append-right, Memᴰ·map, Memᴰ·of-map, Memᴰ·cast}
+use lib.Dec.{eqb}
+use borrow.Author.Tests.{eqb-true, eq-eqb}
+use Rattle.plank_core.specs.Lists.{bind, keep, mem, distinct, upto, oneIf, _∈_}
 use Rattle.sir_data.specs.Records.{functions, blocks, initFunction, mainPlusOne, optional, entryBlock, ops, successors, callees}
-use Rattle.sir_analyses.specs.Order.{Visit, start, seeFunction, seeBlock, finishFunction, finishBlock, visitFunction, visitBlock, visited, functionsRpo, functionBlocks, blocksRpo, isVisited}
+use Rattle.sir_analyses.specs.Order.{Visit, start, visited, functionsRpo, blocksRpo, isVisited, predecessors}
 use Rattle.sir_analyses.specs.Claims.{Item, function, block, Visited, init, main, entry, successor, callee, OrderRule}
-use Rattle.plank_core.specs.laws.Lists.{or-cases, bool-or, none, test, map-each, map-mem, bind-mem, bit, bit-most, bit-some, times, times-reverse, mem-times, times-mem, times-distinct}
+use Rattle.plank_core.specs.laws.Lists.{or-cases, bool-or, none, refuted, no-members, map-each, bind-mem, bind-out, keep-mem, keep-out, upto-mem, oneIf-most, oneIf-some, times, times-reverse, mem-times, times-mem, times-distinct}
 use Rattle.sir_data.specs.WellFormed.{InRange, WellFormed}
 use Rattle.sir_analyses.proofs.OrderLaws.{open′, seen, enter, finish, owner, kids, visit, visits, visits-functions, visit-zero, visit-new, visit-old, left, Grows, grows, all-grow, Ok, kids-each, kids-ok, enter-left, left-none, left-most}
-use Rattle.sir_analyses.proofs.OrderOnce.{second, blocksOf, spread, done, tally, all-tally, Owned, May, all-owned}
+use Rattle.sir_analyses.proofs.OrderOnce.{spread, done, tally, all-tally, Owned, May, all-owned}
 
-bit-open : (n : ℕ) (t : Bool) → n + open′ t ≡ 1 → n ≡ bit t
-bit-open n true h = omega arith
-bit-open n false h = omega arith
+oneIf-open : (n : ℕ) (t : Bool) → n + open′ t ≡ 1 → n ≡ oneIf t
+oneIf-open n true h = omega arith
+oneIf-open n false h = omega arith
 
 module _ (w : List ℕ) where
   -- ---- what is seen after an item is entered, and after it is finished
@@ -158,12 +158,12 @@ module _ (w : List ℕ) where
     visited-seen init = all-closed .0 (function (initFunction w)) (List·Memᴰ·head refl)
     visited-seen (main {m = m} e) =
         let i : List·Memᴰ m (optional (mainPlusOne w)) = rw e (List·Memᴰ·head refl) in
-        all-closed .0 (function m) (List·Memᴰ·tail (map-mem function i))
+        all-closed .0 (function m) (List·Memᴰ·tail (Memᴰ·map function i))
     visited-seen (entry {f = f} p) = all-closed .1 (function f) (block (entryBlock w f)) refl (visited-seen p) (List·Memᴰ·head refl)
     visited-seen (successor {b = b} {s = s} p m) =
-        all-closed .1 (block b) (block s) refl (visited-seen p) (Memᴰ·append-right (map function (bind (ops w b) (callees w))) (map-mem block m))
+        all-closed .1 (block b) (block s) refl (visited-seen p) (Memᴰ·append-right (map function (bind (ops w b) (callees w))) (Memᴰ·map block m))
     visited-seen (callee {b = b} {o = o} {f = f} p i m) =
-        all-closed .1 (block b) (function f) refl (visited-seen p) (Memᴰ·append-left (map block (successors w b)) (map-mem function (bind-mem (callees w) i m)))
+        all-closed .1 (block b) (function f) refl (visited-seen p) (Memᴰ·append-left (map block (successors w b)) (Memᴰ·map function (bind-mem (callees w) i m)))
 
   -- ---- each once
 
@@ -172,43 +172,65 @@ module _ (w : List ℕ) where
   start-tally (block b) = refl
 
   -- an item is finished once if it is seen, and never if not
-  pub finished-once : (x : Item) → done w (visited w) x ≡ bit (seen w (visited w) x)
+  pub finished-once : (x : Item) → done w (visited w) x ≡ oneIf (seen w (visited w) x)
   finished-once x =
-      bit-open (done w (visited w) x) (seen w (visited w) x) (ap (λ (v : Visit). tally w v x) whole ∙ all-tally w (functions w + blocks w) 0 x (map function roots) start ∙ start-tally x)
+      oneIf-open (done w (visited w) x) (seen w (visited w) x) (ap (λ (v : Visit). tally w v x) whole ∙ all-tally w (functions w + blocks w) 0 x (map function roots) start ∙ start-tally x)
 
   finished-owned : Owned w (visited w)
   finished-owned =
       rw whole (all-owned w (functions w + blocks w) 0 (map function roots) start (map-each (May w start 0) function roots (λ f m. tt)) (λ p m. absurd (List·Memᴰ·not-nil m)))
 
-  pub functions-times : (f : ℕ) → times f (functionsRpo w) ≡ bit (seen w (visited w) (function f))
+  pub functions-times : (f : ℕ) → times f (functionsRpo w) ≡ oneIf (seen w (visited w) (function f))
   functions-times f = times-reverse f (visited w .finishedFunctions) ∙ finished-once (function f)
 
-  pub blocks-times : (b : ℕ) → times b (blocksRpo w) ≡ bit (isVisited w b)
+  pub blocks-times : (b : ℕ) → times b (blocksRpo w) ≡ oneIf (isVisited w b)
   blocks-times b =
-      spread b (visited w .finished) (functionsRpo w) (λ p m. functions-times (p .0) ∙ ap bit (finished-owned p m))
+      spread b (visited w .finished) (functionsRpo w) (λ p m. functions-times (p .0) ∙ ap oneIf (finished-owned p m))
       ∙ finished-once (block b)
 
   pub functions-seen : (f : ℕ) → f ∈ functionsRpo w ↔ (seen w (visited w) (function f) ≡ true)
   functions-seen f = (
-    (λ m. bit-some (seen w (visited w) (function f)) (rw (functions-times f) at (mem-times f m))),
+    (λ m. oneIf-some (seen w (visited w) (function f)) (rw (functions-times f) at (mem-times f m))),
     (λ h. times-mem f (functionsRpo w) (rw (functions-times f, h) (le-refl 1))),
   )
 
   pub blocks-seen : (b : ℕ) → b ∈ blocksRpo w ↔ (isVisited w b ≡ true)
   blocks-seen b = (
-    (λ m. bit-some (isVisited w b) (rw (blocks-times b) at (mem-times b m))),
+    (λ m. oneIf-some (isVisited w b) (rw (blocks-times b) at (mem-times b m))),
     (λ h. times-mem b (blocksRpo w) (rw (blocks-times b, h) (le-refl 1))),
   )
 
-  -- the flags, and what is listed, for any words
-  pub block-visited : (b : ℕ) → T (isVisited w b) ↔ b ∈ blocksRpo w
-  block-visited b = ((λ t. blocks-seen b .1 (test (isVisited w b) .0 t)), (λ m. test (isVisited w b) .1 (blocks-seen b .0 m)))
-
   pub blocks-distinct : distinct (blocksRpo w) ≡ true
-  blocks-distinct = times-distinct (blocksRpo w) (λ b. rw (blocks-times b) (bit-most (isVisited w b)))
+  blocks-distinct = times-distinct (blocksRpo w) (λ b. rw (blocks-times b) (oneIf-most (isVisited w b)))
 
   pub functions-distinct : distinct (functionsRpo w) ≡ true
-  functions-distinct = times-distinct (functionsRpo w) (λ f. rw (functions-times f) (bit-most (seen w (visited w) (function f))))
+  functions-distinct = times-distinct (functionsRpo w) (λ f. rw (functions-times f) (oneIf-most (seen w (visited w) (function f))))
+
+  -- ---- predecessors
+
+  -- the visited blocks that have b among their successors
+  pub predecessors-in : (p b : ℕ) → isVisited w p ≡ true → p < blocks w → b ∈ successors w p → p ∈ predecessors w b
+  predecessors-in p b t h m =
+      bind-mem (λ q. map (λ s. q) (keep (λ s. eqb s b) (successors w q))) (keep-mem (isVisited w) (upto-mem p (blocks w) h) t)
+      (Memᴰ·map (λ (s : ℕ). p) (keep-mem (λ s. eqb s b) m (eq-eqb b b refl)))
+
+  pub predecessors-out : (p b : ℕ) → p ∈ predecessors w b → (isVisited w p ≡ true) × (b ∈ successors w p)
+  predecessors-out p b m =
+      let r = bind-out (λ q. map (λ s. q) (keep (λ s. eqb s b) (successors w q))) (keep (isVisited w) (upto (blocks w))) m in
+      let i = Memᴰ·of-map (λ (s : ℕ). r .0) (keep (λ s. eqb s b) (successors w (r .0))) (r .2) in
+      let k = keep-out (λ (s : ℕ). eqb s b) (successors w (r .0)) (i .1) in
+      let v = keep-out (isVisited w) (upto (blocks w)) (r .1) in (
+        ap (isVisited w) (sym (i .2)) ∙ v .1,
+        subst (λ (x : ℕ). b ∈ successors w x) (i .2) (Memᴰ·cast (sym (eqb-true (i .0) b (k .1))) (k .0)),
+      )
+
+  -- ---- blocks that are not visited
+
+  pub not-visited : (b : ℕ) → ¬ Visited w (block b) → isVisited w b ≡ false
+  not-visited b n = refuted (isVisited w b) (λ t. n (seen-visited (block b) t))
+
+  alone : (b : ℕ) → ¬ Visited w (block b) → predecessors w b ≡ []
+  alone b n = no-members (predecessors w b) (λ p m. let r = predecessors-out p b m in n (successor (seen-visited (block p) (r .0)) (r .1)))
 
 -- ---- the claim
 
@@ -225,5 +247,12 @@ module _ (w : List ℕ) (good : WellFormed w) where
   pub functions-below : (f : ℕ) → f ∈ functionsRpo w → f < functions w
   functions-below f m = visited-ok w (good .in-range) (functions-visited f .0 m)
 
+  -- where a listed function begins and what follows a listed block is listed
+  pub entry-listed : {f : ℕ} → f ∈ functionsRpo w → entryBlock w f ∈ blocksRpo w
+  entry-listed {f} m = blocks-visited (entryBlock w f) .1 (entry (functions-visited f .0 m))
+
+  pub next-listed : {b s : ℕ} → b ∈ blocksRpo w → s ∈ successors w b → s ∈ blocksRpo w
+  next-listed {b} {s} m n = blocks-visited s .1 (successor (blocks-visited b .0 m) n)
+
   pub order-rule : OrderRule w
-  order-rule = record { blocks-exact = blocks-visited; functions-exact = functions-visited; blocks-once = blocks-distinct w; functions-once = functions-distinct w }
+  order-rule = record { blocks-exact = blocks-visited; functions-exact = functions-visited; blocks-once = blocks-distinct w; functions-once = functions-distinct w; unvisited = alone w }

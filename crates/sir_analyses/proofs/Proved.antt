@@ -1,15 +1,20 @@
 -- Every claim, for the payload words of every accepted image. Assumes nothing.
-use mathlib.Core.Path.{_≡_}
-use mathlib.Core.Bool.{false}
+use mathlib.Core.Path.{_≡_, refl}
+use mathlib.Core.Bool.{Bool, true, false}
 use Prim.Native.Nat.{ℕ, _<_}
-use mathlib.Core.List.{List}
+use native.Mathlib.Omega.{arith}
+use mathlib.Core.List.{List, [], _∷_, _++_}
 use lib.ListN.{length}
+use Rattle.sir_data.specs.Pages.{payload}
+use Rattle.sir_data.specs.Rules.{first, pageRules, recordRules}
 use Rattle.sir_data.specs.WellFormed.{WellFormed}
+use Rattle.sir_data.specs.laws.WellFormed.{first-left, first-right, well-formed}
 use Rattle.sir_analyses.specs.Allocation.{rule12, allocs, marked, merged, owners}
+use Rattle.sir_analyses.specs.Answers.{refusal}
 use Rattle.sir_analyses.specs.Claims.{OrderRule, LivenessRule, MarkRule}
 use Rattle.sir_analyses.specs.Walk.{Lifetimes}
-use Rattle.sir_analyses.proofs.OrderProof.{order-rule, blocks-below}
-use Rattle.sir_analyses.proofs.LivenessProof.{liveness-accepted}
+use Rattle.sir_analyses.proofs.OrderProof.{order-rule}
+use Rattle.sir_analyses.proofs.LivenessProof.{liveness-rule}
 use Rattle.sir_analyses.proofs.Marks.{mark-rule}
 use Rattle.sir_analyses.proofs.Lifetime.{lifetimes}
 use Rattle.sir_analyses.proofs.Source.{sourceState, sourceMarked}
@@ -18,24 +23,39 @@ use Rattle.sir_analyses.proofs.SourceOwners.{source-owners}
 use Rattle.sir_analyses.proofs.Sweep.{sweep}
 use Rattle.sir_analyses.proofs.SweepProof.{sweep-merged}
 
-module _ (w : List ℕ) (good : WellFormed w) where
-  pub order : OrderRule w
-  order = order-rule w good
+alone : (k : ℕ) (t : Bool) → 0 < k → first ((k, t) ∷ []) ≡ 0 → t ≡ false
+alone k true l h = absurd (omega arith)
+alone k false l h = refl
 
-  pub liveness : LivenessRule w
-  liveness = liveness-accepted w good order
+module _ (image : List ℕ) (accepted : refusal image ≡ 0) where
+  records : first (recordRules (payload image) ++ ((12, rule12 (payload image)) ∷ [])) ≡ 0
+  records = first-right (pageRules image) (recordRules (payload image) ++ ((12, rule12 (payload image)) ∷ [])) refl accepted
 
-  pub marks : MarkRule w
-  marks = mark-rule w good order (blocks-below w good)
+  pub good : WellFormed (payload image)
+  good = well-formed (payload image) (first-left (recordRules (payload image)) ((12, rule12 (payload image)) ∷ []) records)
 
-  pub walks : Lifetimes w
-  walks = lifetimes w good order liveness (blocks-below w good)
+  pub bases-distinct : rule12 (payload image) ≡ false
+  bases-distinct = alone 12 (rule12 (payload image)) (omega arith) (first-right (recordRules (payload image)) ((12, rule12 (payload image)) ∷ []) refl records)
 
-  pub as-the-source : rule12 w ≡ false → (a : ℕ) → a < length (allocs w) → sourceMarked w a ≡ marked w a
-  as-the-source distinct = source-marks w good order (blocks-below w good) distinct
+  pub order : OrderRule (payload image)
+  order = order-rule (payload image) good
 
-  pub owners-as-the-source : sourceState w .owner ≡ owners w
-  owners-as-the-source = source-owners w good order (blocks-below w good)
+  pub liveness : LivenessRule (payload image)
+  liveness = liveness-rule (payload image) good
 
-  pub swept : (a : ℕ) → marked w a ≡ false → sweep w a ≡ merged w a
-  swept a = sweep-merged w good order liveness (blocks-below w good) a
+  pub marks : MarkRule (payload image)
+  marks = mark-rule (payload image) good
+
+  pub walks : Lifetimes (payload image)
+  walks = lifetimes (payload image) good
+
+  -- the source's marks and owners
+  pub as-the-source : (a : ℕ) → a < length (allocs (payload image)) → sourceMarked (payload image) a ≡ marked (payload image) a
+  as-the-source = source-marks (payload image) good bases-distinct
+
+  pub owners-as-the-source : sourceState (payload image) .owner ≡ owners (payload image)
+  owners-as-the-source = source-owners (payload image) good
+
+  -- one backwards pass gives the merged intervals
+  pub swept : (a : ℕ) → marked (payload image) a ≡ false → sweep (payload image) a ≡ merged (payload image) a
+  swept a = sweep-merged (payload image) good a

@@ -1,6 +1,6 @@
 -- The owners as the source gives them are those of the definition. Assumes nothing.
 use mathlib.Core.Path.{_≡_, refl, sym, _∙_, ap}
-use mathlib.Core.Logic.{_⊎_, inl, inr}
+use mathlib.Core.Logic.{_⊎_, inl, inr, ⊎-elim}
 use mathlib.Core.Bool.{Bool, true, false, not, _&&_, cond}
 use Prim.Native.Nat.{ℕ, zero, suc, _+_, _-_, _≤_, _<_}
 use native.Mathlib.Omega.{arith}
@@ -8,18 +8,18 @@ use native.Mathlib.Decide.{ℕ-discrete}
 use mathlib.Core.List.{List, [], _∷_, _++_, List·Memᴰ·head, List·Memᴰ·tail, List·Memᴰ·not-nil, Memᴰ·append-left, Memᴰ·append-right, List·Memᴰ·append-cases, List·Memᴰ·eq-of-singleton}
 use lib.ListN.{length, getD, set, replicate, length-set, length-replicate}
 use lib.Seq.{getD-set-same, getD-set-other, ext-getD}
-use lib.Dec.{T, eqb, eqb→eq, T-not}
+use lib.Dec.{eqb}
+use borrow.Author.Tests.{eqb-true, eqb-false, eq-eqb}
 use Rattle.plank_core.specs.Lists.{foldl, bind, mem, upto, count, _∈_}
-use Rattle.sir_data.specs.Records.{blocks, locals}
+use Rattle.plank_core.specs.laws.Lists.{and-true-left, both-true, bool-or, none, keep-mem, keep-out, bind-mem, bind-out, mem-in, in-mem, length-none}
+use Rattle.sir_data.specs.Records.{locals}
 use Rattle.sir_data.specs.WellFormed.{WellFormed}
-use Rattle.sir_analyses.specs.Order.{blocksRpo}
 use Rattle.sir_analyses.specs.Liveness.{Use, uses, Set, has, addAll, members}
-use Rattle.sir_analyses.specs.Allocation.{allocs, allocAt, base, carried, next, unowned, firstReached, give, link, owners}
-use Rattle.sir_analyses.specs.Claims.{OrderRule}
+use Rattle.sir_analyses.specs.Allocation.{allocs, allocAt, base, carried, next, nextOf, spread, unowned, give, link, owners}
+use Rattle.sir_analyses.proofs.SetLaws.{members-in, members-out}
 use Rattle.sir_analyses.proofs.Source.{State, linkLocal, hurts, mark, followUse, pop, drain, propagate, sourceStart, sourceState}
-use Rattle.sir_analyses.proofs.Facts.{true-is, false-is, decide, both, pair, eqb-of, not-eqb, mem-yes, mem-member, keep-in, keep-out, bind-in, bind-out, members-in, members-out, length-addAll, add-keeps, add-in, add-out, none-in, missing, missing-most, missing-none, add-less}
-use Rattle.sir_analyses.proofs.Marks.{next-link, link-less, base-less}
-use Rattle.sir_analyses.proofs.SourceMarks.{zeros, zeros-most, zeros-fewer, zeros-no-more, bases-length}
+use Rattle.sir_analyses.proofs.Marks.{spread-sound, spread-base, spread-step, next-link, link-less, base-less}
+use Rattle.sir_analyses.proofs.SourceSteps.{zeros, zeros-most, zeros-fewer, zeros-no-more, bases-length}
 
 -- what the work list follows from v, where o has the owners before: v itself, and what nobody had
 pub data Followed (w o : List ℕ) (v : ℕ) : ℕ → Type 0 where
@@ -117,7 +117,7 @@ module _ (w o : List ℕ) (v a : ℕ) where
 
         go : (t : Bool) → eqb (getD (s .owner) x 0) 0 ≡ t → Out s (cond t (record { owner = now; marks = s .marks; work = x ∷ s .work }) (record { owner = now; marks = cond (eqb (getD (s .owner) x 0) (suc a)) (s .marks) (addAll (s .marks) (a ∷ (getD (s .owner) x 0 - 1) ∷ [])); work = s .work })) more (x ∷ [])
         go true e =
-            let z : getD (s .owner) x 0 ≡ 0 = eqb→eq (getD (s .owner) x 0) 0 (true-is e) in
+            let z : getD (s .owner) x 0 ≡ 0 = eqb-true (getD (s .owner) x 0) 0 e in
             record {
               inv = record {
                 size = length-set (s .owner) x (suc a) ∙ I .size;
@@ -134,7 +134,7 @@ module _ (w o : List ℕ) (v a : ℕ) where
             size = length-set (s .owner) x (suc a) ∙ I .size;
             from = λ y. from′ y (ℕ-discrete y x);
             works = I .works;
-            done = λ y. news (s .work) (λ y k. k) (λ k. absurd (not-eqb (getD (s .owner) x 0) 0 (false-is e) k)) y (ℕ-discrete y x);
+            done = λ y. news (s .work) (λ y k. k) (λ k. absurd (eqb-false (getD (s .owner) x 0) 0 e k)) y (ℕ-discrete y x);
           };
           still = stays;
           got = only;
@@ -181,13 +181,9 @@ module _ (w o : List ℕ) (v a : ℕ) where
       pending x (inr (inl (List·Memᴰ·tail h))) = inr (inl h)
       pending x (inr (inr h)) = inr (inr h)
 
-  no-length : (xs : List ℕ) → length xs ≡ 0 → xs ≡ []
-  no-length [] e = refl
-  no-length (x ∷ xs) e = absurd (omega arith)
-
   module _ (small : (u x : ℕ) → x ∈ next w u → x < locals w) where
     drained : (m : ℕ) (s : State) → Inv (s .owner) (s .work) [] → zeros (s .owner) + length (s .work) ≤ m → Inv (drain m w a s .owner) [] []
-    drained zero s I h = let e : s .work ≡ [] = no-length (s .work) (omega arith) in rw e at I
+    drained zero s I h = let e : s .work ≡ [] = length-none (s .work) (omega arith) in rw e at I
     drained (suc m) s I h = go (s .work) refl (drained m)
       where
         go : (vs : List ℕ) → s .work ≡ vs → ((t : State) → Inv (t .owner) (t .work) [] → zeros (t .owner) + length (t .work) ≤ m → Inv (drain m w a t .owner) [] [])
@@ -213,54 +209,6 @@ module _ (w o : List ℕ) (v a : ℕ) where
 
 -- ---- the definition's side
 
-module _ (w o : List ℕ) where
-  abbrev further : Set → Set
-  further s = addAll s (unowned o s (bind (members s) (next w)))
-
-  reached-length : (n : ℕ) (s : Set) → length (firstReached n w o s) ≡ length s
-  reached-length zero s = refl
-  reached-length (suc n) s = reached-length n (further s) ∙ length-addAll s (unowned o s (bind (members s) (next w)))
-
-  reached-keeps : (n : ℕ) (s : Set) (x : ℕ) → T (has s x) → T (has (firstReached n w o s) x)
-  reached-keeps zero s x t = t
-  reached-keeps (suc n) s x t = reached-keeps n (further s) x (add-keeps s (unowned o s (bind (members s) (next w))) x t)
-
-  reached-sound : (v n : ℕ) (s : Set) → ((x : ℕ) → T (has s x) → Followed w o v x) → (x : ℕ) → T (has (firstReached n w o s) x) → Followed w o v x
-  reached-sound v zero s h x t = h x t
-  reached-sound v (suc n) s h x t = reached-sound v n (further s) more x t
-    where
-      more : (x : ℕ) → T (has (further s) x) → Followed w o v x
-      more x k = go (add-out s (unowned o s (bind (members s) (next w))) k)
-        where
-          go : T (has s x) ⊎ (x ∈ unowned o s (bind (members s) (next w))) → Followed w o v x
-          go (inl l) = h x l
-          go (inr m) =
-              let p = keep-out (λ (x : ℕ). eqb (getD o x 0) 0 && not (has s x)) (bind (members s) (next w)) m in
-              let q = bind-out (next w) (members s) (p .0) in
-              onwards (h (q .0) (members-out s (q .1))) (q .2) (eqb→eq (getD o x 0) 0 ((both (eqb (getD o x 0) 0) (not (has s x)) (p .1)) .0))
-
-  abbrev Closed : Set → Type 0
-  Closed s = (u x : ℕ) → T (has s u) → x ∈ next w u → getD o x 0 ≡ 0 → x < length s → T (has s x)
-
-  stable-closed : (s : Set) → further s ≡ s → Closed s
-  stable-closed s e u x t m z l = go (decide (has s x))
-    where
-      go : T (has s x) ⊎ T (not (has s x)) → T (has s x)
-      go (inl k) = k
-      go (inr k) = rw e at (add-in s (keep-in (λ (x : ℕ). eqb (getD o x 0) 0 && not (has s x)) (bind-in (next w) (members-in s u t) m) (pair (eqb (getD o x 0) 0) (not (has s x)) (eqb-of z) k)) l)
-
-  stable-stays : (s : Set) → further s ≡ s → (n : ℕ) → firstReached n w o s ≡ s
-  stable-stays s e zero = refl
-  stable-stays s e (suc n) = ap (firstReached n w o) e ∙ stable-stays s e n
-
-  reached-closed : (n : ℕ) (s : Set) → missing s ≤ n → Closed (firstReached n w o s)
-  reached-closed zero s h = λ u x t m z l. missing-none s x (omega arith) l
-  reached-closed (suc n) s h = go (add-less s (unowned o s (bind (members s) (next w)))) (reached-closed n (further s))
-    where
-      go : (further s ≡ s) ⊎ (missing (further s) < missing s) → (missing (further s) ≤ n → Closed (firstReached n w o (further s))) → Closed (firstReached n w o (further s))
-      go (inl e) f = rw (e, stable-stays s e n) (stable-closed s e)
-      go (inr k) f = f (omega arith)
-
 length-give : (o vs : List ℕ) (a : ℕ) → length (give o vs a) ≡ length o
 length-give o [] a = refl
 length-give o (v ∷ vs) a = length-give (set o v (suc a)) vs a ∙ length-set o v (suc a)
@@ -283,47 +231,44 @@ give-out o (v ∷ vs) a x n = give-out (set o v (suc a)) vs a x (λ m. n (List·
 
 -- ---- both
 
-module _ (w : List ℕ) (good : WellFormed w) (order : OrderRule w) (bound : (b : ℕ) → b ∈ blocksRpo w → b < blocks w) where
+module _ (w : List ℕ) (good : WellFormed w) where
   small : (u x : ℕ) → x ∈ next w u → x < locals w
-  small u x m = link-less w good order bound (next-link w m)
+  small u x m = link-less w good (next-link w m)
 
   module _ (a : ℕ) (less : a < length (allocs w)) (o : List ℕ) (size : length o ≡ locals w) where
     v : ℕ
     v = base w (allocAt w a)
 
-    begin : Set
-    begin = addAll (replicate (locals w) false) (v ∷ [])
-
     reached : Set
-    reached = firstReached (locals w) w o begin
+    reached = spread w (unowned w o) v
 
-    begin-length : length begin ≡ locals w
-    unfolding begin
-    begin-length = length-addAll (replicate (locals w) false) (v ∷ []) ∙ length-replicate (locals w) false
+    reached-followed : (x : ℕ) → has reached x ≡ true → Followed w o v x
+    unfolding reached
+    reached-followed = spread-sound (unowned w o) w v (Followed w o v) (itself refl) (λ s h x m.
+        let p = keep-out (λ (x : ℕ). eqb (getD o x 0) 0 && not (has s x)) (nextOf w s) m in
+        let q = bind-out (next w) (members s) (p .0) in
+        onwards (h (q .0) (members-out s (q .1))) (q .2) (eqb-true (getD o x 0) 0 (and-true-left (eqb (getD o x 0) 0) (not (has s x)) (p .1))))
 
-    reached-followed : (x : ℕ) → T (has reached x) → Followed w o v x
-    unfolding begin reached
-    reached-followed x t = reached-sound w o v (locals w) begin first-one x t
-      where
-        first-one : (x : ℕ) → T (has begin x) → Followed w o v x
-        first-one x t = go (add-out (replicate (locals w) false) (v ∷ []) t)
-          where
-            go : T (has (replicate (locals w) false) x) ⊎ (x ∈ (v ∷ [])) → Followed w o v x
-            go (inl k) = absurd (rw (none-in (locals w) x) at k)
-            go (inr m) = itself (List·Memᴰ·eq-of-singleton m)
-
-    followed-reached : {x : ℕ} → Followed w o v x → T (has reached x)
-    unfolding begin reached v
-    followed-reached {x} (itself q) = reached-keeps w o (locals w) begin x (add-in (replicate (locals w) false) (List·Memᴰ·head {xs = []} q) (rw (q, length-replicate) (base-less w good order bound a less)))
-    followed-reached {x} (onwards {u} f m z) = reached-closed w o (locals w) begin (omega (arith, missing-most begin, begin-length)) u x (followed-reached f) m z (omega (arith, reached-length w o (locals w) begin, begin-length, small u x m))
+    followed-reached : {x : ℕ} → Followed w o v x → has reached x ≡ true
+    unfolding reached v
+    followed-reached {x} (itself q) = spread-base (unowned w o) w v q (base-less w good a less)
+    followed-reached {x} (onwards {u} f m z) =
+        ⊎-elim
+        (λ (t : has reached x ≡ true). t)
+        (λ (t : has reached x ≡ false).
+        spread-step (unowned w o) w v
+        (keep-mem (λ (x : ℕ). eqb (getD o x 0) 0 && not (has reached x)) (bind-mem (next w) (members-in reached u (followed-reached f)) m)
+        (both-true (eqb (getD o x 0) 0) (not (has reached x)) (eq-eqb (getD o x 0) 0 z) (ap not t)))
+        (small u x m))
+        (bool-or (has reached x))
 
     taken : List ℕ
-    taken = bind (members reached) (next w)
+    taken = nextOf w reached
 
     -- one turn of the source gives the owners that one turn of the definition gives
     turn : (marks : Set) (work : List ℕ) → propagate w (record { owner = o; marks = marks; work = work }) a .owner ≡ link w o a
-    unfolding begin reached v taken
-    turn marks work = ext-getD 0 after (link w o a) (I .size ∙ sym (length-give o taken a ∙ size)) (λ x h. each x (omega (arith, I .size)) (decide (mem x taken)))
+    unfolding reached v taken
+    turn marks work = ext-getD 0 after (link w o a) (I .size ∙ sym (length-give o taken a ∙ size)) (λ x h. each x (omega (arith, I .size)) (bool-or (mem x taken)))
       where
         s : State
         s = record { owner = o; marks = marks; work = v ∷ [] }
@@ -341,22 +286,22 @@ module _ (w : List ℕ) (good : WellFormed w) (order : OrderRule w) (bound : (b 
         I : Inv w o v a after [] []
         I = drained w o v a small (suc (locals w)) s I₀ (omega (arith, zeros-most o))
 
-        each : (x : ℕ) → x < locals w → T (mem x taken) ⊎ T (not (mem x taken)) → getD after x 0 ≡ getD (give o taken a) x 0
+        each : (x : ℕ) → x < locals w → (mem x taken ≡ true) ⊎ (mem x taken ≡ false) → getD after x 0 ≡ getD (give o taken a) x 0
         each x h (inl t) =
-            let m = mem-member x taken t in
+            let m = mem-in x taken t in
             let q = bind-out (next w) (members reached) m in
             ended-done w o v a small I (reached-followed (q .0) (members-out reached (q .1))) x (q .2) ∙ sym (give-in o a (omega arith) m)
         each x h (inr t) = go (I .from x)
           where
             not-in : ¬ (x ∈ taken)
-            not-in m = T-not (mem x taken) t (mem-yes m)
+            not-in m = none (mem x taken) (in-mem x m) t
 
             go : (getD after x 0 ≡ getD o x 0) ⊎ ((getD after x 0 ≡ suc a) × Taken w o v x) → getD after x 0 ≡ getD (give o taken a) x 0
             go (inl e) = e ∙ sym (give-out o taken a x not-in)
-            go (inr e) = absurd (not-in (bind-in (next w) (members-in reached (e .1 .by) (followed-reached (e .1 .followed))) (e .1 .carries)))
+            go (inr e) = absurd (not-in (bind-mem (next w) (members-in reached (e .1 .by) (followed-reached (e .1 .followed))) (e .1 .carries)))
 
   link-length : (a : ℕ) (o : List ℕ) → length (link w o a) ≡ length o
-  link-length a o = length-give o (bind (members (firstReached (locals w) w o (addAll (replicate (locals w) false) (base w (allocAt w a) ∷ [])))) (next w)) a
+  link-length a o = length-give o (nextOf w (spread w (unowned w o) (base w (allocAt w a)))) a
 
   turns : (k m : ℕ) (s : State) → length (s .owner) ≡ locals w → k + m ≡ length (allocs w) → foldl (propagate w) s (count k m) .owner ≡ foldl (link w) (s .owner) (count k m)
   turns k zero s size h = refl

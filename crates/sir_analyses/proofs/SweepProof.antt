@@ -4,249 +4,28 @@ use mathlib.Core.Logic.{_↔_, _⊎_, inl, inr}
 use mathlib.Core.Bool.{Bool, true, false, not, _&&_, _||_, cond}
 use Prim.Native.Nat.{ℕ, zero, suc, _+_, _-_, _*_, _≤_, _<_}
 use native.Mathlib.Omega.{arith}
-use native.Mathlib.Decide.{decLe}
 use mathlib.Core.List.{List, [], _∷_, _++_, foldr, List·Memᴰ, List·Memᴰ·head, List·Memᴰ·tail, List·Memᴰ·not-nil, List·Memᴰ·append-cases}
 use lib.ListN.{length}
 use lib.Seq.{ext-getD}
-use lib.Dec.{T, eqb, eqb→eq, eqb·suc-zero}
+use lib.Dec.{eqb, eqb·suc-zero}
+use borrow.Author.Tests.{eqb-true, eqb-false, ne-eqb, not-true}
 use Rattle.plank_core.specs.Lists.{bind, keep, mem, count, upto, _∈_}
-use Rattle.sir_data.specs.Records.{blocks, locals, operations, ops, condition, returned, ins, outs, blockWord}
+use Rattle.plank_core.specs.laws.Lists.{and-true-left, and-true-right, both-true, none, keep-mem, keep-out, bind-mem, bind-out, mem-keep, upto-mem}
+use Rattle.sir_data.specs.Records.{blocks, ops, condition, returned, ins, outs, blockWord}
 use Rattle.sir_data.specs.WellFormed.{WellFormed}
 use Rattle.sir_analyses.specs.Order.{blocksRpo, isVisited}
-use Rattle.sir_analyses.specs.Liveness.{Set, has, addAll, removeAll, members, exitSet, blockEnd, Interval, Scan, close, scanOp, blockIntervals, intervals}
+use Rattle.sir_analyses.specs.Liveness.{Set, has, addAll, removeAll, members, exitSet, blockEnd, Interval, Scan, close, blockIntervals, intervals}
 use Rattle.sir_analyses.specs.Allocation.{allocAt, reach, marked, merged}
-use Rattle.sir_analyses.specs.Claims.{OrderRule, LivenessRule}
-use Rattle.sir_analyses.proofs.Facts.{is-true, true-is, false-is, both, pair, eqb-not, not-eqb, keep-in, keep-out, bind-in, bind-out, upto-in, has-less, members-in, members-out}
-use Rattle.sir_analyses.proofs.SetLaws.{has-addAll, has-removeAll, length-addAll, length-removeAll}
-use Rattle.sir_analyses.proofs.SeenLaws.{seen-exact}
+use Rattle.sir_analyses.proofs.SetLaws.{has-less, members-in, members-out, has-addAll, has-removeAll, length-addAll, length-removeAll}
+use Rattle.sir_analyses.proofs.OrderProof.{blocks-seen, blocks-below}
+use Rattle.sir_analyses.proofs.GenKill.{length-through}
 use Rattle.sir_analyses.proofs.LivenessProof.{exit-size}
 use Rattle.sir_analyses.proofs.Marks.{reach-length}
-use Rattle.sir_analyses.proofs.Merging.{Spans, Normal, Apart, spans-in, put}
+use Rattle.sir_analyses.proofs.Merging.{Spans, nothing-spans, Normal, Apart, spans-in, put}
+use Rattle.sir_analyses.proofs.Scans.{piece, scan, liveIn}
 use Rattle.sir_analyses.proofs.Lifetime.{pieces, merged-unique}
 use Rattle.sir_analyses.proofs.Sweep.{meet, nonempty, liveAtEnd, liveBefore, shut, note, Sweep, sweepEnd, sweepOp, sweepBlock, sweepFrom, sweep}
-
--- ---- what a scan covers
-
-abbrev piece : ℕ → ℕ → ℕ → Interval
-piece b f t = record { block = b; from = f; to = t }
-
--- an end is none, or not before p
-abbrev Ahead : ℕ → Scan → Type 0
-Ahead p c = (c .open′ ≡ 0) ⊎ (p ≤ c .open′)
-
--- the scan c of block b stands at p: in block d, all from m to n is in a closed interval or in the open one
-data Covers (b d m n p : ℕ) (c : Scan) : Type 0 where
-  inside : Spans d m n (c .closed) → Covers b d m n p c
-  onwards : b ≡ d → ¬ (c .open′ ≡ 0) → p ≤ m → n ≤ c .open′ → Covers b d m n p c
-
--- new has one interval more than old
-record Emits (b f t : ℕ) (old new : List Interval) : Type 0 where
-  out : {d m n : ℕ} → Spans d m n new → Spans d m n old ⊎ ((b ≡ d) × (f ≤ m) × (n ≤ t))
-  keeps : {d m n : ℕ} → Spans d m n old → Spans d m n new
-  has-it : {d m n : ℕ} → b ≡ d → f ≤ m → n ≤ t → Spans d m n new
-
--- what passing operation o does to a scan
-data Step (b o : ℕ) (c c′ : Scan) : Type 0 where
-  same : c′ .open′ ≡ c .open′ → c′ .closed ≡ c .closed → Step b o c c′
-  opens : c .open′ ≡ 0 → c′ .open′ ≡ suc o → c′ .closed ≡ c .closed → Step b o c c′
-  ends : ¬ (c .open′ ≡ 0) → c′ .open′ ≡ 0 → Emits b (suc o) (c .open′) (c .closed) (c′ .closed) → Step b o c c′
-  turns : ¬ (c .open′ ≡ 0) → c′ .open′ ≡ suc o → Emits b (suc o) (c .open′) (c .closed) (c′ .closed) → Step b o c c′
-
--- the cell from o to o + 1
-abbrev Cell : ℕ → ℕ → ℕ → ℕ → ℕ → Type 0
-Cell b d m n o = (b ≡ d) × (o ≤ m) × (n ≤ suc o)
-
-step-ahead : {b o : ℕ} {c c′ : Scan} → Step b o c c′ → Ahead (suc o) c → Ahead o c′
-step-ahead (same e f) (inl z) = inl (e ∙ z)
-step-ahead (same e f) (inr h) = inr (omega arith)
-step-ahead (opens z e f) h = inr (omega arith)
-step-ahead (ends z e em) h = inl e
-step-ahead (turns z e em) h = inr (omega arith)
-
-module _ {b d m n o : ℕ} (le : n ≤ suc m) {c c′ : Scan} where
-  step-out : Step b o c c′ → Covers b d m n o c′ → Covers b d m n (suc o) c ⊎ (¬ (c′ .open′ ≡ 0) × Cell b d m n o)
-  step-out (same e f) (inside s) = inl (inside (rw f at s))
-  step-out (same e f) (onwards q h k l) = go (decLe (suc o) m)
-    where
-      go : Dec (suc o ≤ m) → Covers b d m n (suc o) c ⊎ (¬ (c′ .open′ ≡ 0) × Cell b d m n o)
-      go (yes y) = inl (onwards q (λ z. h (e ∙ z)) y (omega arith))
-      go (no y) = inr (h, (q, k, omega arith))
-  step-out (opens z e f) (inside s) = inl (inside (rw f at s))
-  step-out (opens z e f) (onwards q h k l) = inr (h, (q, k, omega arith))
-  step-out (ends z e em) (inside s) = inl (go (em .out s))
-    where
-      go : Spans d m n (c .closed) ⊎ ((b ≡ d) × (suc o ≤ m) × (n ≤ c .open′)) → Covers b d m n (suc o) c
-      go (inl t) = inside t
-      go (inr t) = onwards (t .0) z (t .1) (t .2)
-  step-out (ends z e em) (onwards q h k l) = absurd (h e)
-  step-out (turns z e em) (inside s) = inl (go (em .out s))
-    where
-      go : Spans d m n (c .closed) ⊎ ((b ≡ d) × (suc o ≤ m) × (n ≤ c .open′)) → Covers b d m n (suc o) c
-      go (inl t) = inside t
-      go (inr t) = onwards (t .0) z (t .1) (t .2)
-  step-out (turns z e em) (onwards q h k l) = inr (h, (q, k, omega arith))
-
-  step-old : Step b o c c′ → Covers b d m n (suc o) c → Covers b d m n o c′
-  step-old (same e f) (inside s) = inside (rw f s)
-  step-old (same e f) (onwards q h k l) = onwards q (λ z. h (sym e ∙ z)) (omega arith) (omega arith)
-  step-old (opens z e f) (inside s) = inside (rw f s)
-  step-old (opens z e f) (onwards q h k l) = absurd (h z)
-  step-old (ends z e em) (inside s) = inside (em .keeps s)
-  step-old (ends z e em) (onwards q h k l) = inside (em .has-it q k l)
-  step-old (turns z e em) (inside s) = inside (em .keeps s)
-  step-old (turns z e em) (onwards q h k l) = inside (em .has-it q k l)
-
-  step-new : Step b o c c′ → Ahead (suc o) c → ¬ (c′ .open′ ≡ 0) → Cell b d m n o → Covers b d m n o c′
-  step-new (same e f) (inl z) h k = absurd (h (e ∙ z))
-  step-new (same e f) (inr g) h k = onwards (k .0) h (k .1) (omega arith)
-  step-new (opens z e f) g h k = onwards (k .0) h (k .1) (omega arith)
-  step-new (ends z e em) g h k = absurd (h e)
-  step-new (turns z e em) g h k = onwards (k .0) h (k .1) (omega arith)
-
--- at the start of the block an open one gets start 0
-module _ {b d m n p : ℕ} (le : n ≤ suc m) {c : Scan} where
-  start-out : Covers b d m n 0 c → Covers b d m n p c ⊎ (¬ (c .open′ ≡ 0) × (b ≡ d) × (m < p))
-  start-out (inside s) = inl (inside s)
-  start-out (onwards q h k l) = go (decLe p m)
-    where
-      go : Dec (p ≤ m) → Covers b d m n p c ⊎ (¬ (c .open′ ≡ 0) × (b ≡ d) × (m < p))
-      go (yes y) = inl (onwards q h y l)
-      go (no y) = inr (h, q, omega arith)
-
-  start-old : Covers b d m n p c → Covers b d m n 0 c
-  start-old (inside s) = inside s
-  start-old (onwards q h k l) = onwards q h (omega arith) l
-
-  start-new : Ahead p c → ¬ (c .open′ ≡ 0) → b ≡ d → m < p → Covers b d m n 0 c
-  start-new (inl z) h q k = absurd (h z)
-  start-new (inr g) h q k = onwards q h (omega arith) (omega arith)
-
--- ---- one interval more, behind or in front
-
-spans-left : {d m n : ℕ} {is : List Interval} (js : List Interval) → Spans d m n is → Spans d m n (is ++ js)
-spans-left js (Spans.first p q r) = Spans.first p q r
-spans-left js (Spans.rest s) = Spans.rest (spans-left js s)
-
-spans-right : {d m n : ℕ} (is : List Interval) {js : List Interval} → Spans d m n js → Spans d m n (is ++ js)
-spans-right [] s = s
-spans-right (i ∷ is) s = Spans.rest (spans-right is s)
-
-spans-cases : {d m n : ℕ} (is : List Interval) {js : List Interval} → Spans d m n (is ++ js) → Spans d m n is ⊎ Spans d m n js
-spans-cases [] s = inr s
-spans-cases (i ∷ is) (Spans.first p q r) = inl (Spans.first p q r)
-spans-cases {d} {m} {n} (i ∷ is) {js} (Spans.rest s) = go (spans-cases is s)
-  where
-    go : Spans d m n is ⊎ Spans d m n js → Spans d m n (i ∷ is) ⊎ Spans d m n js
-    go (inl t) = inl (Spans.rest t)
-    go (inr t) = inr t
-
-nothing : {d m n : ℕ} {A : Type 0} → Spans d m n [] → A
-nothing c = elim c [ ]
-
-front : (b f t : ℕ) (is : List Interval) → Emits b f t is (piece b f t ∷ is)
-front b f t is = record { out = out′; keeps = λ s. Spans.rest s; has-it = λ q k l. Spans.first q k l }
-  where
-    out′ : {d m n : ℕ} → Spans d m n (piece b f t ∷ is) → Spans d m n is ⊎ ((b ≡ d) × (f ≤ m) × (n ≤ t))
-    out′ (Spans.first p q r) = inr (p, q, r)
-    out′ (Spans.rest s) = inl s
-
-back : (b f t : ℕ) (is : List Interval) → Emits b f t is (is ++ (piece b f t ∷ []))
-back b f t is = record { out = λ s. out′ (spans-cases is s); keeps = λ s. spans-left (piece b f t ∷ []) s; has-it = λ q k l. spans-right is (Spans.first q k l) }
-  where
-    out′ : {d m n : ℕ} → Spans d m n is ⊎ Spans d m n (piece b f t ∷ []) → Spans d m n is ⊎ ((b ≡ d) × (f ≤ m) × (n ≤ t))
-    out′ (inl s) = inl s
-    out′ (inr (Spans.first p q r)) = inr (p, q, r)
-    out′ (inr (Spans.rest s)) = nothing s
-
--- close and shut, where the scan stands at p
-module _ {b d m n : ℕ} (p : ℕ) (c : Scan) where
-  close-covers : Spans d m n (close b p c .closed) ↔ Covers b d m n p c
-  close-covers = go (eqb (c .open′) 0) refl
-    where
-      cases : ¬ (c .open′ ≡ 0) → Spans d m n (c .closed) ⊎ ((b ≡ d) × (p ≤ m) × (n ≤ c .open′)) → Covers b d m n p c
-      cases z (inl t) = inside t
-      cases z (inr t) = onwards (t .0) z (t .1) (t .2)
-
-      old : c .open′ ≡ 0 → Covers b d m n p c → Spans d m n (c .closed)
-      old z (inside s) = s
-      old z (onwards q h k l) = absurd (h z)
-
-      new : Covers b d m n p c → Spans d m n (c .closed ++ (piece b p (c .open′) ∷ []))
-      new (inside s) = back b p (c .open′) (c .closed) .keeps s
-      new (onwards q h k l) = back b p (c .open′) (c .closed) .has-it q k l
-
-      go : (t : Bool) → eqb (c .open′) 0 ≡ t → Spans d m n (cond t c (record { open′ = 0; closed = c .closed ++ (piece b p (c .open′) ∷ []) }) .closed) ↔ Covers b d m n p c
-      go true e = (λ s. inside s, λ k. old (eqb→eq (c .open′) 0 (true-is e)) k)
-      go false e = (λ s. cases (not-eqb (c .open′) 0 (false-is e)) (back b p (c .open′) (c .closed) .out s), λ k. new k)
-
-  shut-covers : Spans d m n (shut b p c .closed) ↔ Covers b d m n p c
-  shut-covers = go (eqb (c .open′) 0) refl
-    where
-      cases : ¬ (c .open′ ≡ 0) → Spans d m n (piece b p (c .open′) ∷ c .closed) → Covers b d m n p c
-      cases z (Spans.first q k l) = onwards q z k l
-      cases z (Spans.rest s) = inside s
-
-      old : c .open′ ≡ 0 → Covers b d m n p c → Spans d m n (c .closed)
-      old z (inside s) = s
-      old z (onwards q h k l) = absurd (h z)
-
-      new : Covers b d m n p c → Spans d m n (piece b p (c .open′) ∷ c .closed)
-      new (inside s) = Spans.rest s
-      new (onwards q h k l) = Spans.first q k l
-
-      go : (t : Bool) → eqb (c .open′) 0 ≡ t → Spans d m n (cond t c (record { open′ = 0; closed = piece b p (c .open′) ∷ c .closed }) .closed) ↔ Covers b d m n p c
-      go true e = (λ s. inside s, λ k. old (eqb→eq (c .open′) 0 (true-is e)) k)
-      go false e = (λ s. cases (not-eqb (c .open′) 0 (false-is e)) s, λ k. new k)
-
--- the step of a scan, and the step of a sweep
-abbrev scan-form : ℕ → ℕ → Bool → Bool → Scan → Scan
-scan-form b o x y c =
-    let d = cond x (close b (suc o) c) c in
-    cond (y && eqb (d .open′) 0) (record { open′ = suc o; closed = d .closed }) d
-
-scan-step : (b o : ℕ) (x y : Bool) (c : Scan) → Step b o c (scan-form b o x y c) × (not (eqb (scan-form b o x y c .open′) 0) ≡ ((not (eqb (c .open′) 0) && not x) || y))
-scan-step b o false y c = go y (eqb (c .open′) 0) refl
-  where
-    go : (y t : Bool) → eqb (c .open′) 0 ≡ t → Step b o c (cond (y && t) (record { open′ = suc o; closed = c .closed }) c) × (not (eqb (cond (y && t) (record { open′ = suc o; closed = c .closed }) c .open′) 0) ≡ ((not t && true) || y))
-    go true true e = (opens (eqb→eq (c .open′) 0 (true-is e)) refl refl, rw eqb·suc-zero)
-    go true false e = (same refl refl, rw e refl)
-    go false true e = (same refl refl, rw e refl)
-    go false false e = (same refl refl, rw e refl)
-scan-step b o true y c = go y (eqb (c .open′) 0) refl
-  where
-    shorter : Bool → Scan
-    shorter t = cond t c (record { open′ = 0; closed = c .closed ++ (piece b (suc o) (c .open′) ∷ []) })
-
-    go : (y t : Bool) → eqb (c .open′) 0 ≡ t → Step b o c (cond (y && eqb (shorter t .open′) 0) (record { open′ = suc o; closed = shorter t .closed }) (shorter t)) × (not (eqb (cond (y && eqb (shorter t .open′) 0) (record { open′ = suc o; closed = shorter t .closed }) (shorter t) .open′) 0) ≡ ((not t && false) || y))
-    go true true e = rw e (opens (eqb→eq (c .open′) 0 (true-is e)) refl refl, rw eqb·suc-zero)
-    go false true e = (same refl refl, rw e refl)
-    go true false e = (turns (not-eqb (c .open′) 0 (false-is e)) refl (back b (suc o) (c .open′) (c .closed)), rw eqb·suc-zero)
-    go false false e = (ends (not-eqb (c .open′) 0 (false-is e)) refl (back b (suc o) (c .open′) (c .closed)), refl)
-
-note-step : (b o : ℕ) (t : Bool) (c : Scan) → Step b o c (note b o t c)
-note-step b o true c = go (eqb (c .open′) 0) refl
-  where
-    go : (t : Bool) → eqb (c .open′) 0 ≡ t → Step b o c (record { open′ = cond t (suc o) (c .open′); closed = c .closed })
-    go true e = opens (eqb→eq (c .open′) 0 (true-is e)) refl refl
-    go false e = same refl refl
-note-step b o false c = go (eqb (c .open′) 0) refl
-  where
-    go : (t : Bool) → eqb (c .open′) 0 ≡ t → Step b o c (cond t c (record { open′ = 0; closed = piece b (suc o) (c .open′) ∷ c .closed }))
-    go true e = same refl refl
-    go false e = ends (not-eqb (c .open′) 0 (false-is e)) refl (front b (suc o) (c .open′) (c .closed))
-
--- after it, one is open exactly where something is live
-note-open : (b o : ℕ) (t : Bool) (c : Scan) → not (eqb (note b o t c .open′) 0) ≡ t
-note-open b o true c = go (eqb (c .open′) 0) refl
-  where
-    go : (t : Bool) → eqb (c .open′) 0 ≡ t → not (eqb (cond t (suc o) (c .open′)) 0) ≡ true
-    go true e = rw eqb·suc-zero
-    go false e = rw e refl
-note-open b o false c = go (eqb (c .open′) 0) refl
-  where
-    go : (t : Bool) → eqb (c .open′) 0 ≡ t → not (eqb (cond t c (record { open′ = 0; closed = piece b (suc o) (c .open′) ∷ c .closed }) .open′) 0) ≡ false
-    go true e = rw e refl
-    go false e = refl
+use Rattle.sir_analyses.proofs.SweepSteps.{Ahead, end-ahead, Covers, inside, onwards, Step, Cell, step-ahead, step-out, step-old, step-new, start-out, start-old, start-new, close-covers, shut-covers, scan-step, note-step, note-open}
 
 -- ---- the sets
 
@@ -264,26 +43,6 @@ pub length-meet : (r s : Set) → length r ≡ length s → length (meet r s) �
 length-meet [] s e = refl
 length-meet (x ∷ r) [] e = absurd (omega arith)
 length-meet (x ∷ r) (y ∷ s) e = ap suc (length-meet r s (omega arith))
-
-mem-keep : (f : ℕ → Bool) (v : ℕ) (xs : List ℕ) → mem v (keep f xs) ≡ (f v && mem v xs)
-mem-keep f v [] = go (f v)
-  where
-    go : (t : Bool) → false ≡ (t && false)
-    go true = refl
-    go false = refl
-mem-keep f v (x ∷ xs) = go (eqb v x) refl (f x) refl (mem-keep f v xs)
-  where
-    kept : (t a k : Bool) → k ≡ (a && mem v xs) → (t ≡ true → a ≡ true) → (t || k) ≡ (a && (t || mem v xs))
-    kept true a k h g = rw (g refl) refl
-    kept false a k h g = h
-
-    dropped : (t a k : Bool) → k ≡ (a && mem v xs) → (t ≡ true → a ≡ false) → k ≡ (a && (t || mem v xs))
-    dropped true a k h g = rw (g refl) (rw (g refl) at h)
-    dropped false a k h g = h
-
-    go : (t : Bool) → eqb v x ≡ t → (u : Bool) → f x ≡ u → mem v (keep f xs) ≡ (f v && mem v xs) → mem v (cond u (x ∷ keep f xs) (keep f xs)) ≡ (f v && (t || mem v xs))
-    go t e true g h = rw e (kept t (f v) (mem v (keep f xs)) h (λ q. ap f (eqb→eq v x (true-is (e ∙ q))) ∙ g))
-    go t e false g h = dropped t (f v) (mem v (keep f xs)) h (λ q. ap f (eqb→eq v x (true-is (e ∙ q))) ∙ g)
 
 -- the cut of the live set is had by the same operations on the cut
 pub meet-add : (r s : Set) (vs : List ℕ) → length r ≡ length s → meet r (addAll s vs) ≡ addAll (meet r s) (keep (has r) vs)
@@ -314,15 +73,15 @@ meet-remove r s vs e = ext-getD false (meet r (removeAll s vs)) (removeAll (meet
         let l : v < length (meet r s) = omega (arith, length-meet r s e) in
         rw (has-meet, has-removeAll s vs v (omega arith), has-removeAll (meet r s) vs v l, has-meet) (tests (has r v) (has s v) (not (mem v vs)))
 
-nonempty-has : (s : Set) → T (nonempty s) → (v : ℕ) × T (has s v)
-nonempty-has [] t = absurd t
-nonempty-has (true ∷ s) t = (0, tt)
+nonempty-has : (s : Set) → nonempty s ≡ true → (v : ℕ) × (has s v ≡ true)
+nonempty-has [] t = none false t refl
+nonempty-has (true ∷ s) t = (0, refl)
 nonempty-has (false ∷ s) t = let r = nonempty-has s t in (suc (r .0), r .1)
 
-has-nonempty : (s : Set) (v : ℕ) → T (has s v) → T (nonempty s)
-has-nonempty [] v t = absurd t
-has-nonempty (true ∷ s) v t = tt
-has-nonempty (false ∷ s) zero t = absurd t
+has-nonempty : (s : Set) (v : ℕ) → has s v ≡ true → nonempty s ≡ true
+has-nonempty [] v t = none false t refl
+has-nonempty (true ∷ s) v t = refl
+has-nonempty (false ∷ s) zero t = none false t refl
 has-nonempty (false ∷ s) (suc v) t = has-nonempty s v t
 
 ended : (t : Bool) → not (eqb (cond t blockEnd 0) 0) ≡ t
@@ -330,40 +89,34 @@ ended true = refl
 ended false = refl
 
 not-zero : (n : ℕ) → ¬ (n ≡ 0) → not (eqb n 0) ≡ true
-not-zero n h = is-true (eqb-not n 0 h)
+not-zero n h = ap not (ne-eqb n 0 h)
 
 -- ---- a block
 
 module _ (w : List ℕ) (b : ℕ) where
-  -- the live set of the block where the operations os are still to come
-  abbrev pub liveIn : List ℕ → Set
-  liveIn os = foldr (λ o s. addAll (removeAll s (outs w o)) (ins w o)) (addAll (exitSet w b) (condition w b ++ returned w b)) os
+  abbrev live : List ℕ → Set
+  live os = liveIn w b os
 
-  abbrev scan : ℕ → List ℕ → Scan
-  scan v os = foldr (scanOp w b v) (record { open′ = cond (has (exitSet w b) v || mem v (condition w b ++ returned w b)) blockEnd 0; closed = [] }) os
+  abbrev scanned : ℕ → List ℕ → Scan
+  scanned v os = scan w b v os
 
-  pub length-liveIn : (os : List ℕ) → length (liveIn os) ≡ length (exitSet w b)
-  length-liveIn [] = length-addAll (exitSet w b) (condition w b ++ returned w b)
-  length-liveIn (o ∷ os) = length-addAll (removeAll (liveIn os) (outs w o)) (ins w o) ∙ length-removeAll (liveIn os) (outs w o) ∙ length-liveIn os
+  length-live : (os : List ℕ) → length (live os) ≡ length (exitSet w b)
+  length-live os = length-through w (condition w b ++ returned w b) os (exitSet w b)
 
   -- a local has an open end exactly where it is live
-  pub scan-live : (v : ℕ) (os : List ℕ) → v < length (exitSet w b) → not (eqb (scan v os .open′) 0) ≡ has (liveIn os) v
+  pub scan-live : (v : ℕ) (os : List ℕ) → v < length (exitSet w b) → not (eqb (scanned v os .open′) 0) ≡ has (live os) v
   scan-live v [] h = ended (has (exitSet w b) v || mem v (condition w b ++ returned w b)) ∙ sym (has-addAll (exitSet w b) (condition w b ++ returned w b) v h)
   scan-live v (o ∷ os) h =
-      let l : v < length (liveIn os) = rw (length-liveIn os) h in
-      let k : v < length (removeAll (liveIn os) (outs w o)) = rw (length-removeAll (liveIn os) (outs w o)) l in
-      scan-step b o (mem v (outs w o)) (mem v (ins w o)) (scan v os) .1
-      ∙ rw (scan-live v os h, has-addAll (removeAll (liveIn os) (outs w o)) (ins w o) v k, has-removeAll (liveIn os) (outs w o) v l)
+      let l : v < length (live os) = rw (length-live os) h in
+      let k : v < length (removeAll (live os) (outs w o)) = rw (length-removeAll (live os) (outs w o)) l in
+      scan-step b o (mem v (outs w o)) (mem v (ins w o)) (scanned v os) .1
+      ∙ rw (scan-live v os h, has-addAll (removeAll (live os) (outs w o)) (ins w o) v k, has-removeAll (live os) (outs w o) v l)
 
-  scan-steps : (v o : ℕ) (os : List ℕ) → Step b o (scan v os) (scan v (o ∷ os))
-  scan-steps v o os = scan-step b o (mem v (outs w o)) (mem v (ins w o)) (scan v os) .0
+  scan-steps : (v o : ℕ) (os : List ℕ) → Step b o (scanned v os) (scanned v (o ∷ os))
+  scan-steps v o os = scan-step b o (mem v (outs w o)) (mem v (ins w o)) (scanned v os) .0
 
-  scan-ahead : (v k p : ℕ) → p + k ≤ blockEnd → Ahead p (scan v (count p k))
-  scan-ahead v zero p h = go (has (exitSet w b) v || mem v (condition w b ++ returned w b))
-    where
-      go : (t : Bool) → Ahead p (record { open′ = cond t blockEnd 0; closed = [] })
-      go true = inr (omega arith)
-      go false = inl refl
+  scan-ahead : (v k p : ℕ) → p + k ≤ blockEnd → Ahead p (scanned v (count p k))
+  scan-ahead v zero p h = end-ahead p (has (exitSet w b) v || mem v (condition w b ++ returned w b)) (omega arith)
   scan-ahead v (suc k) p h = step-ahead (scan-steps v p (count (suc p) k)) (scan-ahead v k (suc p) (omega arith))
 
   module _ (r : Set) (size : length r ≡ length (exitSet w b)) where
@@ -371,30 +124,26 @@ module _ (w : List ℕ) (b : ℕ) where
     state os = foldr (sweepOp w r b) (sweepEnd w r b []) os
 
     -- the set of the sweep is the live set, cut down to r
-    pub sweep-live : (os : List ℕ) → state os .live ≡ meet r (liveIn os)
+    pub sweep-live : (os : List ℕ) → state os .live ≡ meet r (live os)
     sweep-live [] = sym (meet-add r (exitSet w b) (condition w b ++ returned w b) size)
     sweep-live (o ∷ os) =
-        let l : length r ≡ length (liveIn os) = size ∙ sym (length-liveIn os) in
+        let l : length r ≡ length (live os) = size ∙ sym (length-live os) in
         ap (liveBefore w r o) (sweep-live os)
-        ∙ sym (meet-add r (removeAll (liveIn os) (outs w o)) (ins w o) (l ∙ sym (length-removeAll (liveIn os) (outs w o))) ∙ ap (λ (s : Set). addAll s (keep (has r) (ins w o))) (meet-remove r (liveIn os) (outs w o) l))
+        ∙ sym (meet-add r (removeAll (live os) (outs w o)) (ins w o) (l ∙ sym (length-removeAll (live os) (outs w o))) ∙ ap (λ (s : Set). addAll s (keep (has r) (ins w o))) (meet-remove r (live os) (outs w o) l))
 
     -- a local is in it exactly where it is of r and has an open end
-    pub sweep-each : (v : ℕ) (os : List ℕ) → has (state os .live) v ≡ (has r v && not (eqb (scan v os .open′) 0))
-    sweep-each v os = ap (λ (s : Set). has s v) (sweep-live os) ∙ has-meet r (liveIn os) v ∙ go (has r v) refl
+    pub sweep-each : (v : ℕ) (os : List ℕ) → has (state os .live) v ≡ (has r v && not (eqb (scanned v os .open′) 0))
+    sweep-each v os = ap (λ (s : Set). has s v) (sweep-live os) ∙ has-meet r (live os) v ∙ go (has r v) refl
       where
-        go : (t : Bool) → has r v ≡ t → (t && has (liveIn os) v) ≡ (t && not (eqb (scan v os .open′) 0))
-        go true e = sym (scan-live v os (omega (arith, has-less r v (true-is e), size)))
+        go : (t : Bool) → has r v ≡ t → (t && has (live os) v) ≡ (t && not (eqb (scanned v os .open′) 0))
+        go true e = sym (scan-live v os (omega (arith, has-less r v e, size)))
         go false e = refl
 
     sweep-steps : (o : ℕ) (os : List ℕ) → Step b o (state os .spans) (state (o ∷ os) .spans)
     sweep-steps o os = note-step b o (nonempty (liveBefore w r o (state os .live))) (state os .spans)
 
     sweep-ahead : (k p : ℕ) → p + k ≤ blockEnd → Ahead p (state (count p k) .spans)
-    sweep-ahead zero p h = go (nonempty (liveAtEnd w r b))
-      where
-        go : (t : Bool) → Ahead p (record { open′ = cond t blockEnd 0; closed = [] })
-        go true = inr (omega arith)
-        go false = inl refl
+    sweep-ahead zero p h = end-ahead p (nonempty (liveAtEnd w r b)) (omega arith)
     sweep-ahead (suc k) p h = step-ahead (sweep-steps p (count (suc p) k)) (sweep-ahead k (suc p) (omega arith))
 
     -- an interval is open exactly where the set is not empty
@@ -402,24 +151,25 @@ module _ (w : List ℕ) (b : ℕ) where
     sweep-open [] = ended (nonempty (liveAtEnd w r b))
     sweep-open (o ∷ os) = note-open b o (nonempty (liveBefore w r o (state os .live))) (state os .spans)
 
-    open-some : (os : List ℕ) → ¬ (state os .spans .open′ ≡ 0) → (v : ℕ) × T (has r v) × (¬ (scan v os .open′ ≡ 0))
+    open-some : (os : List ℕ) → ¬ (state os .spans .open′ ≡ 0) → (v : ℕ) × (has r v ≡ true) × (¬ (scanned v os .open′ ≡ 0))
     open-some os h =
-        let t : T (nonempty (meet r (liveIn os))) = true-is (ap nonempty (sym (sweep-live os)) ∙ sym (sweep-open os) ∙ not-zero (state os .spans .open′) h) in
-        let x = nonempty-has (meet r (liveIn os)) t in
-        let y = both (has r (x .0)) (has (liveIn os) (x .0)) (rw (has-meet r (liveIn os) (x .0)) at (x .1)) in
-        let l : x .0 < length (exitSet w b) = omega (arith, has-less r (x .0) (y .0), size) in
-        (x .0, y .0, not-eqb (scan (x .0) os .open′) 0 (true-is (scan-live (x .0) os l ∙ is-true (y .1))))
+        let t : nonempty (meet r (live os)) ≡ true = ap nonempty (sym (sweep-live os)) ∙ sym (sweep-open os) ∙ not-zero (state os .spans .open′) h in
+        let x = nonempty-has (meet r (live os)) t in
+        let y : (has r (x .0) && has (live os) (x .0)) ≡ true = sym (has-meet r (live os) (x .0)) ∙ x .1 in
+        let t : has r (x .0) ≡ true = and-true-left (has r (x .0)) (has (live os) (x .0)) y in
+        let l : x .0 < length (exitSet w b) = omega (arith, has-less r (x .0) t, size) in
+        (x .0, t, eqb-false (scanned (x .0) os .open′) 0 (not-true _ (scan-live (x .0) os l ∙ and-true-right (has r (x .0)) (has (live os) (x .0)) y)))
 
-    some-open : (os : List ℕ) (v : ℕ) → T (has r v) → ¬ (scan v os .open′ ≡ 0) → ¬ (state os .spans .open′ ≡ 0)
+    some-open : (os : List ℕ) (v : ℕ) → has r v ≡ true → ¬ (scanned v os .open′ ≡ 0) → ¬ (state os .spans .open′ ≡ 0)
     some-open os v t h =
         let l : v < length (exitSet w b) = omega (arith, has-less r v t, size) in
-        let y : T (has (liveIn os) v) = true-is (sym (scan-live v os l) ∙ not-zero (scan v os .open′) h) in
-        let x : T (has (meet r (liveIn os)) v) = rw (has-meet r (liveIn os) v) (pair (has r v) (has (liveIn os) v) t y) in
-        not-eqb (state os .spans .open′) 0 (true-is (sweep-open os ∙ ap nonempty (sweep-live os) ∙ is-true (has-nonempty (meet r (liveIn os)) v x)))
+        let y : has (live os) v ≡ true = sym (scan-live v os l) ∙ not-zero (scanned v os .open′) h in
+        let x : has (meet r (live os)) v ≡ true = has-meet r (live os) v ∙ both-true (has r v) (has (live os) v) t y in
+        eqb-false (state os .spans .open′) 0 (not-true _ (sweep-open os ∙ ap nonempty (sweep-live os) ∙ has-nonempty (meet r (live os)) v x))
 
     module _ {d m n : ℕ} (le : n ≤ suc m) where
-      end-out : (p : ℕ) → Covers b d m n p (state [] .spans) → (v : ℕ) × T (has r v) × Covers b d m n p (scan v [])
-      end-out p (inside s) = nothing s
+      end-out : (p : ℕ) → Covers b d m n p (state [] .spans) → (v : ℕ) × (has r v ≡ true) × Covers b d m n p (scanned v [])
+      end-out p (inside s) = absurd (nothing-spans s)
       end-out p (onwards q h k l) = let x = open-some [] h in (x .0, x .1, onwards q (x .2) k (go (nonempty (liveAtEnd w r b)) (has (exitSet w b) (x .0) || mem (x .0) (condition w b ++ returned w b)) (x .2) l))
         where
           go : (t u : Bool) → ¬ (cond u blockEnd 0 ≡ 0) → n ≤ cond t blockEnd 0 → n ≤ cond u blockEnd 0
@@ -427,8 +177,8 @@ module _ (w : List ℕ) (b : ℕ) where
           go false true h l = omega arith
           go t false h l = absurd (h refl)
 
-      end-in : (p v : ℕ) → T (has r v) → Covers b d m n p (scan v []) → Covers b d m n p (state [] .spans)
-      end-in p v t (inside s) = nothing s
+      end-in : (p v : ℕ) → has r v ≡ true → Covers b d m n p (scanned v []) → Covers b d m n p (state [] .spans)
+      end-in p v t (inside s) = absurd (nothing-spans s)
       end-in p v t (onwards q h k l) = let x = some-open [] v t h in onwards q x k (go (nonempty (liveAtEnd w r b)) (has (exitSet w b) v || mem v (condition w b ++ returned w b)) x l)
         where
           go : (t u : Bool) → ¬ (cond t blockEnd 0 ≡ 0) → n ≤ cond u blockEnd 0 → n ≤ cond t blockEnd 0
@@ -436,38 +186,38 @@ module _ (w : List ℕ) (b : ℕ) where
           go true false h l = omega arith
           go false u h l = absurd (h refl)
 
-      covers-out : (k p : ℕ) → p + k ≤ blockEnd → Covers b d m n p (state (count p k) .spans) → (v : ℕ) × T (has r v) × Covers b d m n p (scan v (count p k))
+      covers-out : (k p : ℕ) → p + k ≤ blockEnd → Covers b d m n p (state (count p k) .spans) → (v : ℕ) × (has r v ≡ true) × Covers b d m n p (scanned v (count p k))
       covers-out zero p h c = end-out p c
       covers-out (suc k) p h c = go (covers-out k (suc p) (omega arith)) (step-out le (sweep-steps p (count (suc p) k)) c)
         where
-          go : (Covers b d m n (suc p) (state (count (suc p) k) .spans) → (v : ℕ) × T (has r v) × Covers b d m n (suc p) (scan v (count (suc p) k)))
+          go : (Covers b d m n (suc p) (state (count (suc p) k) .spans) → (v : ℕ) × (has r v ≡ true) × Covers b d m n (suc p) (scanned v (count (suc p) k)))
               → Covers b d m n (suc p) (state (count (suc p) k) .spans) ⊎ (¬ (state (count p (suc k)) .spans .open′ ≡ 0) × Cell b d m n p)
-              → (v : ℕ) × T (has r v) × Covers b d m n p (scan v (count p (suc k)))
+              → (v : ℕ) × (has r v ≡ true) × Covers b d m n p (scanned v (count p (suc k)))
           go f (inl x) = let y = f x in (y .0, y .1, step-old le (scan-steps (y .0) p (count (suc p) k)) (y .2))
           go f (inr x) = let y = open-some (count p (suc k)) (x .0) in (y .0, y .1, step-new le (scan-steps (y .0) p (count (suc p) k)) (scan-ahead (y .0) k (suc p) (omega arith)) (y .2) (x .1))
 
-      covers-in : (k p v : ℕ) → p + k ≤ blockEnd → T (has r v) → Covers b d m n p (scan v (count p k)) → Covers b d m n p (state (count p k) .spans)
+      covers-in : (k p v : ℕ) → p + k ≤ blockEnd → has r v ≡ true → Covers b d m n p (scanned v (count p k)) → Covers b d m n p (state (count p k) .spans)
       covers-in zero p v h t c = end-in p v t c
       covers-in (suc k) p v h t c = go (covers-in k (suc p) v (omega arith) t) (step-out le (scan-steps v p (count (suc p) k)) c)
         where
-          go : (Covers b d m n (suc p) (scan v (count (suc p) k)) → Covers b d m n (suc p) (state (count (suc p) k) .spans))
-              → Covers b d m n (suc p) (scan v (count (suc p) k)) ⊎ (¬ (scan v (count p (suc k)) .open′ ≡ 0) × Cell b d m n p)
+          go : (Covers b d m n (suc p) (scanned v (count (suc p) k)) → Covers b d m n (suc p) (state (count (suc p) k) .spans))
+              → Covers b d m n (suc p) (scanned v (count (suc p) k)) ⊎ (¬ (scanned v (count p (suc k)) .open′ ≡ 0) × Cell b d m n p)
               → Covers b d m n p (state (count p (suc k)) .spans)
           go f (inl x) = step-old le (sweep-steps p (count (suc p) k)) (f x)
           go f (inr x) = step-new le (sweep-steps p (count (suc p) k)) (sweep-ahead k (suc p) (omega arith)) (some-open (count p (suc k)) v t (x .0)) (x .1)
 
       -- the block's intervals cover what the intervals of all its locals of r cover
-      block-out : (k p : ℕ) → p + k ≤ blockEnd → Spans d m n (shut b 0 (state (count p k) .spans) .closed) → (v : ℕ) × T (has r v) × Spans d m n (close b 0 (scan v (count p k)) .closed)
+      block-out : (k p : ℕ) → p + k ≤ blockEnd → Spans d m n (shut b 0 (state (count p k) .spans) .closed) → (v : ℕ) × (has r v ≡ true) × Spans d m n (close b 0 (scanned v (count p k)) .closed)
       block-out k p h s = go (start-out {p = p} le (shut-covers 0 (state (count p k) .spans) .0 s))
         where
-          go : Covers b d m n p (state (count p k) .spans) ⊎ (¬ (state (count p k) .spans .open′ ≡ 0) × (b ≡ d) × (m < p)) → (v : ℕ) × T (has r v) × Spans d m n (close b 0 (scan v (count p k)) .closed)
-          go (inl x) = let y = covers-out k p h x in (y .0, y .1, close-covers 0 (scan (y .0) (count p k)) .1 (start-old le (y .2)))
-          go (inr x) = let y = open-some (count p k) (x .0) in (y .0, y .1, close-covers 0 (scan (y .0) (count p k)) .1 (start-new le (scan-ahead (y .0) k p h) (y .2) (x .1) (x .2)))
+          go : Covers b d m n p (state (count p k) .spans) ⊎ (¬ (state (count p k) .spans .open′ ≡ 0) × (b ≡ d) × (m < p)) → (v : ℕ) × (has r v ≡ true) × Spans d m n (close b 0 (scanned v (count p k)) .closed)
+          go (inl x) = let y = covers-out k p h x in (y .0, y .1, close-covers 0 (scanned (y .0) (count p k)) .1 (start-old le (y .2)))
+          go (inr x) = let y = open-some (count p k) (x .0) in (y .0, y .1, close-covers 0 (scanned (y .0) (count p k)) .1 (start-new le (scan-ahead (y .0) k p h) (y .2) (x .1) (x .2)))
 
-      block-in : (k p v : ℕ) → p + k ≤ blockEnd → T (has r v) → Spans d m n (close b 0 (scan v (count p k)) .closed) → Spans d m n (shut b 0 (state (count p k) .spans) .closed)
-      block-in k p v h t s = shut-covers 0 (state (count p k) .spans) .1 (go (start-out {p = p} le (close-covers 0 (scan v (count p k)) .0 s)))
+      block-in : (k p v : ℕ) → p + k ≤ blockEnd → has r v ≡ true → Spans d m n (close b 0 (scanned v (count p k)) .closed) → Spans d m n (shut b 0 (state (count p k) .spans) .closed)
+      block-in k p v h t s = shut-covers 0 (state (count p k) .spans) .1 (go (start-out {p = p} le (close-covers 0 (scanned v (count p k)) .0 s)))
         where
-          go : Covers b d m n p (scan v (count p k)) ⊎ (¬ (scan v (count p k) .open′ ≡ 0) × (b ≡ d) × (m < p)) → Covers b d m n 0 (state (count p k) .spans)
+          go : Covers b d m n p (scanned v (count p k)) ⊎ (¬ (scanned v (count p k) .open′ ≡ 0) × (b ≡ d) × (m < p)) → Covers b d m n 0 (state (count p k) .spans)
           go (inl x) = start-old le (covers-in k p v h t x)
           go (inr x) = start-new le (sweep-ahead k p h) (some-open (count p k) v t (x .0)) (x .1) (x .2)
 
@@ -492,11 +242,11 @@ note-tidy {b} {o} true c y = go (eqb (c .open′) 0) refl
 note-tidy {b} {o} false c y = go (eqb (c .open′) 0) refl
   where
     go : (t : Bool) → eqb (c .open′) 0 ≡ t → Tidy b o (cond t c (record { open′ = 0; closed = piece b (suc o) (c .open′) ∷ c .closed }))
-    go true e = record { normal = y .normal; mine = λ i h. let k = y .mine i h in (k .0, omega arith, k .2); end = inl (eqb→eq (c .open′) 0 (true-is e)) }
+    go true e = record { normal = y .normal; mine = λ i h. let k = y .mine i h in (k .0, omega arith, k .2); end = inl (eqb-true (c .open′) 0 e) }
     go false e = record { normal = put (c .closed) (proper (y .end)) (λ j h. let k = y .mine j h in Apart.gapped (sym (k .0)) (k .2)) (y .normal); mine = ours; end = inl refl }
       where
         proper : Ahead (suc o) c → suc o ≤ c .open′
-        proper (inl z) = absurd (not-eqb (c .open′) 0 (false-is e) z)
+        proper (inl z) = absurd (eqb-false (c .open′) 0 e z)
         proper (inr g) = g
 
         ours : (i : Interval) → List·Memᴰ i (piece b (suc o) (c .open′) ∷ c .closed) → (i .block ≡ b) × (o < i .from) × (0 < i .from)
@@ -520,11 +270,7 @@ shut-own {b} {p} c y = go (eqb (c .open′) 0)
     go false = record { normal = put (c .closed) (omega arith) (λ j h. let k = y .mine j h in Apart.gapped (sym (k .0)) (k .2)) (y .normal); mine = ours }
 
 sweep-tidy : (w : List ℕ) (r : Set) (b k p : ℕ) → p + k ≤ blockEnd → Tidy b p (foldr (sweepOp w r b) (sweepEnd w r b []) (count p k) .spans)
-sweep-tidy w r b zero p h = record { normal = Normal.empty; mine = λ i m. absurd (List·Memᴰ·not-nil m); end = go (nonempty (liveAtEnd w r b)) }
-  where
-    go : (t : Bool) → Ahead p (record { open′ = cond t blockEnd 0; closed = [] })
-    go true = inr (omega arith)
-    go false = inl refl
+sweep-tidy w r b zero p h = record { normal = Normal.empty; mine = λ i m. absurd (List·Memᴰ·not-nil m); end = end-ahead p (nonempty (liveAtEnd w r b)) (omega arith) }
 sweep-tidy w r b (suc k) p h =
     let c = foldr (sweepOp w r b) (sweepEnd w r b []) (count (suc p) k) in
     note-tidy (nonempty (liveBefore w r p (c .live))) (c .spans) (sweep-tidy w r b k (suc p) (omega arith))
@@ -535,18 +281,18 @@ append-normal {js = js} (Normal.one {i = i} h) nj f = put js h (λ j m. f i j (L
 append-normal (Normal.next h a n) nj f = Normal.next h a (append-normal n nj (λ i j m k. f i j (List·Memᴰ·tail m) k))
 
 -- lists of blocks that ascend
-blocks-normal : (f : ℕ → Bool) (g : ℕ → List Interval) → ((b : ℕ) → T (f b) → Own b (g b)) → (s n : ℕ) → Normal (bind (keep f (count s n)) g) × ((i : Interval) → List·Memᴰ i (bind (keep f (count s n)) g) → s ≤ i .block)
+blocks-normal : (f : ℕ → Bool) (g : ℕ → List Interval) → ((b : ℕ) → f b ≡ true → Own b (g b)) → (s n : ℕ) → Normal (bind (keep f (count s n)) g) × ((i : Interval) → List·Memᴰ i (bind (keep f (count s n)) g) → s ≤ i .block)
 blocks-normal f g own s zero = (Normal.empty, λ i m. absurd (List·Memᴰ·not-nil m))
 blocks-normal f g own s (suc n) = go (f s) refl (blocks-normal f g own (suc s) n)
   where
     go : (t : Bool) → f s ≡ t → Normal (bind (keep f (count (suc s) n)) g) × ((i : Interval) → List·Memᴰ i (bind (keep f (count (suc s) n)) g) → suc s ≤ i .block)
         → Normal (bind (cond t (s ∷ keep f (count (suc s) n)) (keep f (count (suc s) n))) g) × ((i : Interval) → List·Memᴰ i (bind (cond t (s ∷ keep f (count (suc s) n)) (keep f (count (suc s) n))) g) → s ≤ i .block)
     go true e x =
-        let o = own s (true-is e) in
+        let o = own s e in
         (append-normal (o .normal) (x .0) (λ i j m k. Apart.farther (omega (arith, o .mine i m, x .1 j k))), λ i m. low i (List·Memᴰ·append-cases (g s) m))
       where
         low : (i : Interval) → List·Memᴰ i (g s) ⊎ List·Memᴰ i (bind (keep f (count (suc s) n)) g) → s ≤ i .block
-        low i (inl m) = omega (arith, own s (true-is e) .mine i m)
+        low i (inl m) = omega (arith, own s e .mine i m)
         low i (inr m) = omega (arith, x .1 i m)
     go false e x = (x .0, λ i m. omega (arith, x .1 i m))
 
@@ -644,51 +390,51 @@ spans-bind-out f xs s =
     (x .0, x .1, spans-in (x .2) (i .2) (i .3) (i .4))
 
 spans-bind-in : {d m n x : ℕ} (f : ℕ → List Interval) {xs : List ℕ} → x ∈ xs → Spans d m n (f x) → Spans d m n (bind xs f)
-spans-bind-in f k s = let i = spans-out s in spans-in (bind-in f k (i .1)) (i .2) (i .3) (i .4)
+spans-bind-in f k s = let i = spans-out s in spans-in (bind-mem f k (i .1)) (i .2) (i .3) (i .4)
 
-module _ (w : List ℕ) (good : WellFormed w) (order : OrderRule w) (live : LivenessRule w) (bound : (b : ℕ) → b ∈ blocksRpo w → b < blocks w) where
+module _ (w : List ℕ) (good : WellFormed w) where
   inside-block : {b : ℕ} → b ∈ blocksRpo w → blockWord w b 4 + (blockWord w b 5 - blockWord w b 4) ≤ blockEnd
-  inside-block {b} mb = let k = good .in-range .ops-range b (bound b mb) in omega (arith, good .sized .operations-most)
+  inside-block {b} mb = let k = good .in-range .ops-range b (blocks-below w good b mb) in omega (arith, good .sized .operations-most)
 
   module _ (a : ℕ) where
     abbrev r : Set
     r = reach w (allocAt w a)
 
     size : {b : ℕ} → b ∈ blocksRpo w → length r ≡ length (exitSet w b)
-    size {b} mb = reach-length w good order bound a ∙ sym (exit-size w order (seen-exact w) bound b (bound b mb))
+    size {b} mb = reach-length w good a ∙ sym (exit-size w good b (blocks-below w good b mb))
 
     sweep-normal : Normal (listed w r)
     sweep-normal = blocks-normal (isVisited w) (λ b. sweepBlock w r b []) own 0 (blocks w) .0
       where
-        own : (b : ℕ) → T (isVisited w b) → Own b (sweepBlock w r b [])
+        own : (b : ℕ) → isVisited w b ≡ true → Own b (sweepBlock w r b [])
         own b t =
-            let mb = seen-exact w b .0 t in
+            let mb = blocks-seen w b .1 t in
             shut-own (foldr (sweepOp w r b) (sweepEnd w r b []) (ops w b) .spans) (sweep-tidy w r b (blockWord w b 5 - blockWord w b 4) (blockWord w b 4) (inside-block mb))
 
-    sweep-spans : {d m n : ℕ} → n ≤ suc m → Spans d m n (listed w r) ↔ Spans d m n (pieces w good order live bound a)
+    sweep-spans : {d m n : ℕ} → n ≤ suc m → Spans d m n (listed w r) ↔ Spans d m n (pieces w a)
     sweep-spans {d} {m} {n} le = (out, back-in)
       where
-        out : Spans d m n (listed w r) → Spans d m n (pieces w good order live bound a)
+        out : Spans d m n (listed w r) → Spans d m n (pieces w a)
         out s =
             let x = spans-bind-out (λ (b : ℕ). sweepBlock w r b []) (keep (isVisited w) (upto (blocks w))) s in
             let k = keep-out (isVisited w) (upto (blocks w)) (x .1) in
-            let mb = seen-exact w (x .0) .0 (k .1) in
+            let mb = blocks-seen w (x .0) .1 (k .1) in
             let y = block-out w (x .0) r (size mb) le (blockWord w (x .0) 5 - blockWord w (x .0) 4) (blockWord w (x .0) 4) (inside-block mb) (x .2) in
             spans-bind-in (intervals w) (members-in r (y .0) (y .1)) (spans-bind-in (λ (b : ℕ). blockIntervals w (exitSet w b) (y .0) b) mb (y .2))
 
-        back-in : Spans d m n (pieces w good order live bound a) → Spans d m n (listed w r)
+        back-in : Spans d m n (pieces w a) → Spans d m n (listed w r)
         back-in s =
             let x = spans-bind-out (intervals w) (members r) s in
             let y = spans-bind-out (λ (b : ℕ). blockIntervals w (exitSet w b) (x .0) b) (blocksRpo w) (x .2) in
             let mb = y .1 in
             let z = block-in w (y .0) r (size mb) le (blockWord w (y .0) 5 - blockWord w (y .0) 4) (blockWord w (y .0) 4) (x .0) (inside-block mb) (members-out r (x .1)) (y .2) in
-            spans-bind-in (λ (b : ℕ). sweepBlock w r b []) (keep-in (isVisited w) (upto-in (y .0) (blocks w) (bound (y .0) mb)) (seen-exact w (y .0) .1 mb)) z
+            spans-bind-in (λ (b : ℕ). sweepBlock w r b []) (keep-mem (isVisited w) (upto-mem (y .0) (blocks w) (blocks-below w good (y .0) mb)) (blocks-seen w (y .0) .0 mb)) z
 
     -- the sweep of an unmarked allocation is its merged intervals
     pub sweep-merged : marked w a ≡ false → sweep w a ≡ merged w a
     sweep-merged u =
         sweep-listed w r 0 (blocks w)
-        ∙ merged-unique w good order live bound a (listed w r) (false-is u) sweep-normal (λ b n. sweep-spans (omega arith)) (λ b n. sweep-spans (omega arith))
+        ∙ merged-unique w good a (listed w r) u sweep-normal (λ b n. sweep-spans (omega arith)) (λ b n. sweep-spans (omega arith))
 
     pub merged-sweep : merged w a ≡ cond (marked w a) [] (sweep w a)
     merged-sweep = go (marked w a) refl

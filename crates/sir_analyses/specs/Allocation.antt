@@ -1,12 +1,12 @@
 -- Allocations: records, reach, marks, owners and merged intervals (document 01, "Rules of the analyses"). Assumes nothing.
-use mathlib.Core.Bool.{Bool, true, false, not, _&&_, _||_, cond}
-use Prim.Native.Nat.{ℕ, zero, suc, _+_, _-_, _*_}
-use mathlib.Core.List.{List, [], _∷_, _++_, map, foldr, reverse}
+use mathlib.Core.Bool.{Bool, false, not, _&&_, _||_, cond}
+use Prim.Native.Nat.{ℕ, zero, suc}
+use mathlib.Core.List.{List, [], _∷_, map, foldr}
 use lib.ListN.{length, getD, set, replicate}
 use lib.Dec.{eqb, leb, ltb}
-use Rattle.plank_core.specs.Lists.{foldl, bind, keep, mem, upto, any, all, distinct}
-use Rattle.sir_data.specs.Records.{blocks, locals, control, inputs, outputs, ops, successors, code, ins, outs, extra}
-use Rattle.sir_data.specs.Codes.{isAlloc, isDynamicAlloc, derives, escaping}
+use Rattle.plank_core.specs.Lists.{foldl, bind, keep, upto, any, distinct}
+use Rattle.sir_data.specs.Records.{locals, control, inputs, ops, successors, code, ins, outs}
+use Rattle.sir_data.specs.Codes.{isAlloc, derives, escaping}
 use Rattle.sir_analyses.specs.Order.{blocksRpo}
 use Rattle.sir_analyses.specs.Liveness.{Use, uses, positions, Set, has, addAll, members, Interval, intervals}
 
@@ -14,7 +14,7 @@ pub record Alloc : Type 0 where
   pub block : ℕ
   pub op : ℕ
 
--- the allocation operations met in visited blocks, in the order's sequence
+-- allocations: the allocation operations met in visited blocks
 abbrev pub allocs : List ℕ → List Alloc
 allocs w = bind (blocksRpo w) (λ b. map (λ o. record { block = b; op = o }) (keep (λ o. isAlloc (code w o)) (ops w b)))
 
@@ -24,73 +24,87 @@ noAlloc = record { block = 0; op = 0 }
 abbrev pub allocAt : List ℕ → ℕ → Alloc
 allocAt w a = getD (allocs w) a noAlloc
 
+-- base local
 abbrev pub base : List ℕ → Alloc → ℕ
 base w a = getD (outs w (a .op)) 0 0
 
+-- refusal 12: two allocations with one base local
 abbrev pub rule12 : List ℕ → Bool
 rule12 w = not (distinct (map (base w) (allocs w)))
 
 -- ---- reach
 
--- the locals that one use of a reached local brings into the reach
+-- what one use of a reached local brings into the reach: outputs of a deriving operation; the successor input at the position of a
+-- block output
 abbrev pub carried : List ℕ → Use → List ℕ
 carried w u =
     cond (eqb (u .kind) 0) (cond (derives (code w (u .place))) (outs w (u .place)) [])
     (cond (eqb (u .kind) 2 && not (eqb (control w (u .block)) 1)) (map (λ s. getD (inputs w s) (u .place) 0) (successors w (u .block)))
     [])
 
+-- what all uses of a local bring, and all uses of a set
 abbrev pub next : List ℕ → ℕ → List ℕ
 next w v = bind (uses w v) (carried w)
 
--- the closure of a set under `next`: as many steps as there are locals suffice
-abbrev pub closure : ℕ → List ℕ → Set → Set
-closure zero w s = s
-closure (suc n) w s = closure n w (addAll s (bind (members s) (next w)))
+abbrev pub nextOf : List ℕ → Set → List ℕ
+nextOf w s = bind (members s) (next w)
 
+-- what f finds from a set is added to it, n times over; as often as there are locals suffices
+abbrev pub closure : (Set → List ℕ) → ℕ → Set → Set
+closure f zero s = s
+closure f (suc n) s = closure f n (addAll s (f s))
+
+-- base v, and all that f finds from there
+abbrev pub spread : List ℕ → (Set → List ℕ) → ℕ → Set
+spread w f v = closure f (locals w) (addAll (replicate (locals w) false) (v ∷ []))
+
+-- the reach of an allocation
 abbrev pub reach : List ℕ → Alloc → Set
-reach w a = closure (locals w) w (addAll (replicate (locals w) false) (base w a ∷ []))
+reach w a = spread w (nextOf w) (base w a)
 
 -- ---- marks
 
+-- used in an escaping operand
 abbrev pub escapes : List ℕ → ℕ → Bool
 escapes w v = any (λ u. eqb (u .kind) 0 && any (escaping (code w (u .place))) (positions v (ins w (u .place)) 0)) (uses w v)
 
+-- an `InternalReturn` output
 abbrev pub isReturned : List ℕ → ℕ → Bool
 isReturned w v = any (λ u. eqb (u .kind) 2 && eqb (control w (u .block)) 1) (uses w v)
 
+-- reached by another allocation too
 abbrev pub reachedByOther : List ℕ → ℕ → ℕ → Bool
 reachedByOther w a v = any (λ k. not (eqb k a) && has (reach w (allocAt w k)) v) (upto (length (allocs w)))
 
+-- the mark
 abbrev pub marked : List ℕ → ℕ → Bool
 marked w a = any (λ v. escapes w v || isReturned w v || reachedByOther w a v) (members (reach w (allocAt w a)))
 
--- ---- owners: allocations in turn, each linking what it carries from the locals that it was the first to reach
+-- ---- owners: allocations in turn; each takes all that it links, but goes on only from its base and from locals that nobody had
 
-abbrev pub unowned : List ℕ → Set → List ℕ → List ℕ
-unowned owner s vs = keep (λ v. eqb (getD owner v 0) 0 && not (has s v)) vs
+-- what nobody has yet of what comes next
+abbrev pub unowned : List ℕ → List ℕ → Set → List ℕ
+unowned w owner s = keep (λ v. eqb (getD owner v 0) 0 && not (has s v)) (nextOf w s)
 
-abbrev pub firstReached : ℕ → List ℕ → List ℕ → Set → Set
-firstReached zero w owner s = s
-firstReached (suc n) w owner s = firstReached n w owner (addAll s (unowned owner s (bind (members s) (next w))))
-
+-- a new owner replaces the old one
 abbrev pub give : List ℕ → List ℕ → ℕ → List ℕ
 give owner [] a = owner
 give owner (v ∷ vs) a = give (set owner v (suc a)) vs a
 
 abbrev pub link : List ℕ → List ℕ → ℕ → List ℕ
-link w owner a =
-    give owner
-    (bind (members (firstReached (locals w) w owner (addAll (replicate (locals w) false) (base w (allocAt w a) ∷ [])))) (next w))
-    a
+link w owner a = give owner (nextOf w (spread w (unowned w owner) (base w (allocAt w a)))) a
 
+-- every base first for its own
 abbrev pub bases : List ℕ → List ℕ
 bases w = foldl (λ owner a. set owner (base w (allocAt w a)) (suc a)) (replicate (locals w) 0) (upto (length (allocs w)))
 
+-- allocation + 1, or 0, for each local
 abbrev pub owners : List ℕ → List ℕ
 owners w = foldl (link w) (bases w) (upto (length (allocs w)))
 
 -- ---- merged intervals
 
+-- by block, start, end
 abbrev pub before : Interval → Interval → Bool
 before i j =
     ltb (i .block) (j .block)
@@ -106,7 +120,7 @@ sort is = foldr insert [] is
 abbrev pub furthest : ℕ → ℕ → ℕ
 furthest a b = cond (leb a b) b a
 
--- join from a sorted list, i being the one grown so far
+-- joined, up to the furthest end, where a start is at or before the furthest end so far in the same block; i has grown so far
 abbrev pub join : Interval → List Interval → List Interval
 join i [] = i ∷ []
 join i (j ∷ js) =
@@ -118,5 +132,6 @@ abbrev pub merge : List Interval → List Interval
 merge [] = []
 merge (i ∷ is) = join i is
 
+-- merged: the intervals of all locals in an unmarked allocation's reach, sorted and joined; marked allocations have none
 abbrev pub merged : List ℕ → ℕ → List Interval
 merged w a = cond (marked w a) [] (merge (sort (bind (members (reach w (allocAt w a))) (intervals w))))

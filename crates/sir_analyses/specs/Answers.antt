@@ -1,78 +1,88 @@
--- What each question answers, as bytes, and the outcome of a call (document 01, "What can be put to an image"). Assumes nothing.
-use mathlib.Core.Bool.{Bool, true, false, not, _&&_, _||_, cond}
-use Prim.Native.Nat.{ℕ, zero, suc, _+_, _-_, _*_}
-use mathlib.Core.List.{List, [], _∷_, _++_, map}
+-- What each question answers, as words, and the outcome of a call (document 01, "What can be put to an image" and "Refusals").
+-- Assumes nothing.
+use mathlib.Core.Bool.{cond}
+use Prim.Native.Nat.{ℕ}
+use mathlib.Core.List.{List, [], _∷_, _++_}
 use lib.ListN.{length, getD, drop}
-use lib.Dec.{eqb, leb, ltb}
-use Rattle.plank_core.specs.Lists.{bind, upto}
+use lib.Dec.{eqb, ltb}
+use Rattle.plank_core.specs.Lists.{bind, oneIf}
 use Rattle.sir_data.specs.Pages.{payload, bytesOf}
-use Rattle.sir_data.specs.Records.{locals, code, ins, extra}
+use Rattle.sir_data.specs.Records.{code, ins, extra}
 use Rattle.sir_data.specs.Codes.{isDynamicAlloc}
 use Rattle.sir_data.specs.Rules.{first, pageRules, recordRules}
 use Rattle.sir_analyses.specs.Order.{functionsRpo, functionBlocks, predecessors}
-use Rattle.sir_analyses.specs.Liveness.{Use, uses, members, entrySet, exitSet, rounds, Interval, intervals}
-use Rattle.sir_analyses.specs.Allocation.{Alloc, allocs, allocAt, base, rule12, marked, merged, owners}
+use Rattle.sir_analyses.specs.Liveness.{uses, members, entrySet, exitSet, rounds, Interval, intervals}
+use Rattle.sir_analyses.specs.Allocation.{allocAt, base, rule12, marked, merged, owners}
 
--- the refusal of an image by rules 1 to 12, or 0
+-- the refusal of an image: the lowest number of rules 1 to 12 that applies, or 0
 abbrev pub refusal : List ℕ → ℕ
 refusal s = first (pageRules s ++ recordRules (payload s) ++ ((12, rule12 (payload s)) ∷ []))
 
+-- order: for each function of `functions_rpo` its id, its block count, its block ids
 abbrev pub orderAnswer : List ℕ → List ℕ
 orderAnswer w = bind (functionsRpo w) (λ f. f ∷ length (functionBlocks w f) ∷ functionBlocks w f)
 
+-- predecessors of a block, repeats kept
 abbrev pub predecessorsAnswer : List ℕ → ℕ → List ℕ
 predecessorsAnswer w b = predecessors w b
 
+-- entry set of a block, ids ascending
 abbrev pub entryAnswer : List ℕ → ℕ → List ℕ
 entryAnswer w b = members (entrySet w b)
 
+-- exit set of a block, ids ascending
 abbrev pub exitAnswer : List ℕ → ℕ → List ℕ
 exitAnswer w b = members (exitSet w b)
 
+-- uses of a local, three words each: block, kind, then operation index, 0, or position
 abbrev pub usesAnswer : List ℕ → ℕ → List ℕ
 usesAnswer w v = bind (uses w v) (λ u. u .block ∷ u .kind ∷ u .place ∷ [])
 
+-- three words for each interval: block, start, end
 abbrev pub intervalWords : List Interval → List ℕ
 intervalWords is = bind is (λ i. i .block ∷ i .from ∷ i .to ∷ [])
 
+-- intervals of a local
 abbrev pub intervalsAnswer : List ℕ → ℕ → List ℕ
 intervalsAnswer w v = intervalWords (intervals w v)
 
-abbrev pub bit : Bool → ℕ
-bit true = 1
-bit false = 0
-
+-- an allocation: defining block, operation, base local, kind (0 static, 1 dynamic), size or size local, static id (0 if dynamic), mark,
+-- interval count, intervals
 abbrev pub allocationAnswer : List ℕ → ℕ → List ℕ
 allocationAnswer w a =
     let x = allocAt w a in
     let dynamic = isDynamicAlloc (code w (x .op)) in
-    x .block ∷ x .op ∷ base w x ∷ bit dynamic
+    x .block ∷ x .op ∷ base w x ∷ oneIf dynamic
     ∷ cond dynamic (getD (ins w (x .op)) 0 0) (extra w (x .op) 0)
     ∷ cond dynamic 0 (extra w (x .op) 1)
-    ∷ bit (marked w a) ∷ length (merged w a) ∷ intervalWords (merged w a)
+    ∷ oneIf (marked w a) ∷ length (merged w a) ∷ intervalWords (merged w a)
 
+-- owner of a local: allocation + 1, or 0
 abbrev pub ownerAnswer : List ℕ → ℕ → List ℕ
 ownerAnswer w v = getD (owners w) v 0 ∷ []
 
+-- rounds
 abbrev pub roundsAnswer : List ℕ → List ℕ
 roundsAnswer w = rounds w ∷ []
 
--- ---- the outcome of a call: number, length, and the result slice as it is left
+-- ---- the outcome of a call: number, answer length in bytes, and the result slice as it is left
 
 pub record Outcome : Type 0 where
   pub number : ℕ
   pub len : ℕ
   pub result : List ℕ
 
+-- a refusal gives its number and answer length 0, and the result slice keeps its bytes
 abbrev pub refused : ℕ → List ℕ → Outcome
 refused n out = record { number = n; len = 0; result = out }
 
+-- success is number 0, and bytes past the answer stay; 14: result slice shorter than the answer
 abbrev pub answered : List ℕ → List ℕ → Outcome
 answered bytes out =
     cond (ltb (length out) (length bytes)) (refused 14 out)
     (record { number = 0; len = length bytes; result = bytes ++ drop (length bytes) out })
 
--- a question about id, of which there are `bound w`, answered by `words w id`
+-- a question about id, of which there are `bound w`, answered by `words w id`; 13: id asked for not below its count
 abbrev pub outcome : (List ℕ → ℕ) → (List ℕ → ℕ → List ℕ) → List ℕ → ℕ → List ℕ → Outcome
 outcome bound words image id out =
     cond (eqb (refusal image) 0)

@@ -1,17 +1,16 @@
 -- What is claimed of the answers beyond their definitions: that the order visits exactly what can be reached, that the sets are
--- the least solution of the equations, that the round number is bounded, and that marks follow the reach rule. The claim on
--- walks is in Walk. Definitions and statements only; each record is a claim on the payload words of an accepted image.
+-- the least solution of the equations, that the round number counts passes and is bounded, and that marks follow the reach rule. The
+-- claim on walks is in Walk. Definitions and statements only; each record is a claim on the payload words of an accepted image.
 use mathlib.Core.Path.{_≡_}
 use mathlib.Core.Logic.{_↔_}
-use mathlib.Core.Bool.{Bool, true, false, not}
-use Prim.Native.Nat.{ℕ, suc, _+_, _≤_, _<_}
-use mathlib.Core.List.{List, [], _∷_, map, List·Memᴰ}
-use lib.ListN.{length, replicate}
-use lib.Dec.{T}
-use Rattle.plank_core.specs.Lists.{foldl, distinct, upto, sum, _∈_}
-use Rattle.sir_data.specs.Records.{blocks, locals, initFunction, mainPlusOne, entryBlock, ops, successors, callees}
-use Rattle.sir_analyses.specs.Order.{isVisited, functionsRpo, blocksRpo}
-use Rattle.sir_analyses.specs.Liveness.{Use, uses, Set, has, addAll, members, entryFrom, exitFrom, entrySet, exitSet, rounds}
+use mathlib.Core.Bool.{true, not, _&&_, _||_}
+use Prim.Native.Nat.{ℕ, zero, suc, _+_, _≤_, _<_}
+use mathlib.Core.List.{List, [], map, List·Memᴰ}
+use lib.ListN.{length}
+use Rattle.plank_core.specs.Lists.{distinct, upto, sum, _∈_}
+use Rattle.sir_data.specs.Records.{blocks, initFunction, mainPlusOne, entryBlock, ops, successors, callees}
+use Rattle.sir_analyses.specs.Order.{functionsRpo, blocksRpo, predecessors}
+use Rattle.sir_analyses.specs.Liveness.{Use, uses, Set, has, members, useSet, defSet, entryFrom, exitFrom, rowOf, noExits, pass, entrySet, exitSet, rounds}
 use Rattle.sir_analyses.specs.Allocation.{allocs, allocAt, base, carried, escapes, isReturned, reach, marked}
 
 pub data Item : Type 0 where
@@ -21,7 +20,7 @@ pub data Item : Type 0 where
 module _ (w : List ℕ) where
   -- ---- order
 
-  -- init, main if any; then a visited function's entry, a visited block's successors and callees; nothing else
+  -- visited: init, main if any; then a visited function's entry, a visited block's successors and callees; nothing else
   pub data Visited : Item → Type 0 where
     init : Visited (function (initFunction w))
     main : {m : ℕ} → mainPlusOne w ≡ suc m → Visited (function m)
@@ -34,19 +33,38 @@ module _ (w : List ℕ) where
     pub functions-exact : (f : ℕ) → f ∈ functionsRpo w ↔ Visited (function f)
     pub blocks-once : distinct (blocksRpo w) ≡ true
     pub functions-once : distinct (functionsRpo w) ≡ true
+    -- an unvisited block has no predecessors
+    pub unvisited : (b : ℕ) → ¬ Visited (block b) → predecessors w b ≡ []
 
   -- ---- liveness
 
+  -- x gives each visited block the exit set that the equations give it
   pub record Solves (x : ℕ → Set) : Type 0 where
     pub exit : (b : ℕ) → Visited (block b) → x b ≡ exitFrom w x b
 
   pub record Least (x : ℕ → Set) : Type 0 where
     pub solution : Solves x
-    pub least : (y : ℕ → Set) → Solves y → (b v : ℕ) → Visited (block b) → T (has (x b) v) → T (has (y b) v)
+    pub least : (y : ℕ → Set) → Solves y → (b v : ℕ) → Visited (block b) → has (x b) v ≡ true → has (y b) v ≡ true
+
+  -- the exit sets after n passes; the first pass starts from empty sets
+  abbrev pub after : ℕ → List Set
+  after zero = noExits w
+  after (suc n) = pass w (after n)
 
   pub record LivenessRule : Type 0 where
     pub exits : Least (exitSet w)
     pub entries : (b : ℕ) → Visited (block b) → entrySet w b ≡ entryFrom w b (exitSet w b)
+    -- the same in the form of the Dragon Book: entry = use ∪ (exit − def)
+    pub use-def : (b v : ℕ) → Visited (block b) → has (entrySet w b) v ≡ (has (useSet w b) v || (has (exitSet w b) v && not (has (defSet w b) v)))
+    -- an unvisited block has empty sets
+    pub unvisited-entry : (b : ℕ) → ¬ Visited (block b) → members (entrySet w b) ≡ []
+    pub unvisited-exit : (b : ℕ) → ¬ Visited (block b) → members (exitSet w b) ≡ []
+    -- the exit sets are those after all passes; the last pass changes nothing, and each one before it does
+    pub passes : (b : ℕ) → exitSet w b ≡ rowOf (after (rounds w)) b
+    pub last-pass : (n : ℕ) → rounds w ≡ suc n → after (suc n) ≡ after n
+    pub earlier-pass : (n : ℕ) → suc n < rounds w → ¬ (after (suc n) ≡ after n)
+    pub some-pass : 1 ≤ rounds w
+    -- the number is at most the final number of exit members plus 1
     pub bound : rounds w ≤ sum (map (λ b. length (members (exitSet w b))) (upto (blocks w))) + 1
 
   -- ---- marks
@@ -56,11 +74,12 @@ module _ (w : List ℕ) where
     itself : {v : ℕ} → v ≡ base w (allocAt w a) → Reached a v
     linked : {u v : ℕ} {x : Use} → Reached a u → List·Memᴰ x (uses w u) → v ∈ carried w x → Reached a v
 
+  -- some reached local is used in an escaping operand, or is an `InternalReturn` output, or is reached by another allocation too
   pub data Marked (a : ℕ) : Type 0 where
-    escaped : {v : ℕ} → Reached a v → T (escapes w v) → Marked a
-    returned : {v : ℕ} → Reached a v → T (isReturned w v) → Marked a
+    escaped : {v : ℕ} → Reached a v → escapes w v ≡ true → Marked a
+    returned : {v : ℕ} → Reached a v → isReturned w v ≡ true → Marked a
     met : {v b : ℕ} → Reached a v → b < length (allocs w) → ¬ (a ≡ b) → Reached b v → Marked a
 
   pub record MarkRule : Type 0 where
-    pub reach-exact : (a v : ℕ) → a < length (allocs w) → T (has (reach w (allocAt w a)) v) ↔ Reached a v
-    pub mark-exact : (a : ℕ) → a < length (allocs w) → T (marked w a) ↔ Marked a
+    pub reach-exact : (a v : ℕ) → a < length (allocs w) → (has (reach w (allocAt w a)) v ≡ true) ↔ Reached a v
+    pub mark-exact : (a : ℕ) → a < length (allocs w) → (marked w a ≡ true) ↔ Marked a

@@ -1,12 +1,12 @@
 -- The examples of document 01, "Paths and joins", as one table that one proof computes; and a walk through a loop.
 -- Assumes nothing.
 use mathlib.Core.Path.{_≡_, refl}
-use mathlib.Core.Bool.{Bool, true, false, not, _&&_}
+use mathlib.Core.Bool.{Bool, true, false, _&&_}
 use mathlib.Core.List.{List, [], _∷_, _++_, map, List·Memᴰ·head, List·Memᴰ·tail, List·Memᴰ·eq-of-singleton}
-use Prim.Native.Nat.{ℕ, zero, suc, _+_, _-_, _≤_}
+use Prim.Native.Nat.{ℕ, _+_, _-_, _≤_}
 use native.Mathlib.Omega.{arith}
 use lib.ListN.{length, replicate}
-use lib.Dec.{eqb, T}
+use lib.Dec.{eqb}
 use Rattle.plank_core.specs.Lists.{all, bind, _∈_}
 use Rattle.sir_data.specs.Pages.{pageWord, checkOf, payload, bytesOf}
 use Rattle.sir_data.specs.Records.{blocks, ins}
@@ -14,7 +14,7 @@ use Rattle.sir_data.specs.Rules.{first, recordRules, rule4, rule5, rule6, rule7
 use Rattle.sir_analyses.specs.Liveness.{Interval, blockEnd}
 use Rattle.sir_analyses.specs.Allocation.{rule12, sort, merge, marked}
 use Rattle.sir_analyses.specs.Answers.{orderAnswer, predecessorsAnswer, entryAnswer, exitAnswer, usesAnswer, intervalsAnswer, intervalWords, allocationAnswer, ownerAnswer, roundsAnswer, Outcome, outcome}
-use Rattle.sir_analyses.specs.Walk.{Event, op, edge, Walk, enter, step, follow, Holds, given, kept, moved, Executed, now, before, Paired}
+use Rattle.sir_analyses.specs.Walk.{Event, op, edge, Walk, enter, step, follow, Holds, given, kept, moved, Executed, now, before}
 
 -- ---- images of one page, written as blocks with their operations
 
@@ -180,7 +180,7 @@ outcomeWords o = o .number ∷ o .len ∷ o .result
 -- each row: what is computed, what document 01 says
 abbrev table : List (List ℕ × List ℕ)
 table =
-    -- none of the images is refused by its records
+    -- rules 4 to 12 refuse none of the images
     (map (λ w. first (recordRules w ++ ((12, rule12 w) ∷ []))) images, replicate 11 0)
     -- function 0 calls 1 and 1 calls 0: order 0, 1
     ∷ (orderAnswer calls, 0 ∷ 1 ∷ 0 ∷ 1 ∷ 1 ∷ 1 ∷ [])
@@ -224,6 +224,7 @@ table =
     ∷ (intervalsAnswer report 3, [])
     -- a0 b0 op1 v1 kept b0 1..end b1 start..3
     ∷ (allocationAnswer report 0, 0 ∷ 1 ∷ 1 ∷ 0 ∷ 32 ∷ 0 ∷ 0 ∷ 2 ∷ 0 ∷ 2 ∷ blockEnd ∷ 1 ∷ 0 ∷ 4 ∷ [])
+    -- v1 is used by operation 2 and as output 0 of block 0; v2 is owned by allocation 0
     ∷ (usesAnswer report 1, 0 ∷ 0 ∷ 2 ∷ 0 ∷ 2 ∷ 0 ∷ [])
     ∷ (ownerAnswer report 2, 1 ∷ [])
     -- as bytes, into a slice of 9: rounds; exit of block 0; a block that is not there; order, for which it is too short; a bad check
@@ -268,7 +269,7 @@ pub record ReadsAgain (w : List ℕ) : Type 0 where
   pub walk : Walk w history block′ (next ∷ rest)
   pub reads : local ∈ ins w next
   pub holds : Holds w history local allocation given-at
-  pub unmarked : T (not (marked w allocation))
+  pub unmarked : marked w allocation ≡ false
   pub again : Executed history carried-out-at block′ next
   pub since : given-at ≤ carried-out-at
 
@@ -290,7 +291,7 @@ loops =
           moved {u = 3} (record { position = 0; left = refl; right = refl })
           (moved {u = 1} (record { position = 0; left = refl; right = refl })
           (kept other (moved {u = 0} (record { position = 0; left = refl; right = refl }) (given refl (List·Memᴰ·head refl) refl))));
-      unmarked = tt;
+      unmarked = refl;
       again = before (before (now refl));
       since = omega arith;
     }

@@ -1,11 +1,11 @@
--- Uses, liveness and intervals of locals (document 01, "Rules of the analyses"). Assumes nothing.
+-- Uses, liveness, rounds and intervals of locals (document 01, "Rules of the analyses"). Assumes nothing.
 use mathlib.Core.Bool.{Bool, true, false, not, _&&_, _||_, cond, Bool·beq}
-use Prim.Native.Nat.{ℕ, zero, suc, _+_, _-_, _*_, _<_}
+use Prim.Native.Nat.{ℕ, zero, suc, _+_, _*_}
 use mathlib.Core.List.{List, [], _∷_, _++_, map, foldr, reverse}
 use lib.ListN.{length, getD, set, replicate}
-use lib.Dec.{eqb, T}
-use Rattle.plank_core.specs.Lists.{foldl, bind, keep, mem, upto, any, all}
-use Rattle.sir_data.specs.Records.{blocks, locals, control, inputs, outputs, ops, successors, condition, returned, ins, outs}
+use lib.Dec.{eqb}
+use Rattle.plank_core.specs.Lists.{foldl, bind, keep, mem, upto, any}
+use Rattle.sir_data.specs.Records.{blocks, locals, inputs, outputs, ops, successors, condition, returned, ins, outs}
 use Rattle.sir_analyses.specs.Order.{blocksRpo, isVisited, predecessors}
 
 -- ---- uses
@@ -15,6 +15,7 @@ abbrev pub positions : ℕ → List ℕ → ℕ → List ℕ
 positions v [] k = []
 positions v (x ∷ xs) k = cond (eqb x v) (k ∷ positions v xs (suc k)) (positions v xs (suc k))
 
+-- kind 0 operation, 1 control, 2 block output; then operation index, 0, or position
 pub record Use : Type 0 where
   pub block : ℕ
   pub kind : ℕ
@@ -26,6 +27,7 @@ usesIn w v b =
     ++ map (λ k. record { block = b; kind = 1; place = 0 }) (positions v (condition w b) 0)
     ++ map (λ k. record { block = b; kind = 2; place = k }) (positions v (outputs w b) 0)
 
+-- coverage and order as `DefUse` fills them
 abbrev pub uses : List ℕ → ℕ → List Use
 uses w v = bind (blocksRpo w) (usesIn w v)
 
@@ -45,15 +47,29 @@ abbrev pub removeAll : Set → List ℕ → Set
 removeAll s [] = s
 removeAll s (v ∷ vs) = removeAll (set s v false) vs
 
+-- ids ascending
 abbrev pub members : Set → List ℕ
 members s = keep (has s) (upto (length s))
 
 -- ---- the equations
 
--- the entry set of b, given its exit set: operations backwards, outputs removed before inputs are added
+-- the entry set of b from its exit set: plus a branch or switch condition or an `InternalReturn` block's outputs, then operations
+-- backwards, outputs removed before inputs are added
 abbrev pub entryFrom : List ℕ → ℕ → Set → Set
 entryFrom w b exit =
     foldr (λ o s. addAll (removeAll s (outs w o)) (ins w o)) (addAll exit (condition w b ++ returned w b)) (ops w b)
+
+-- use: the locals that b reads before it gives them; behind its operations it reads its condition and what it returns
+abbrev pub readFirst : List ℕ → List ℕ → List ℕ → ℕ → Bool
+readFirst w end [] v = mem v end
+readFirst w end (o ∷ os) v = mem v (ins w o) || (not (mem v (outs w o)) && readFirst w end os v)
+
+abbrev pub useSet : List ℕ → ℕ → Set
+useSet w b = map (readFirst w (condition w b ++ returned w b) (ops w b)) (upto (locals w))
+
+-- def: the locals that an operation of b gives
+abbrev pub defSet : List ℕ → ℕ → Set
+defSet w b = map (λ v. any (λ o. mem v (outs w o)) (ops w b)) (upto (locals w))
 
 abbrev pub indexOf : ℕ → List ℕ → ℕ
 indexOf v [] = 0
@@ -79,6 +95,7 @@ back w e b =
     let entry = entryFrom w b (rowOf e b) in
     foldl (λ x p. set x p (addAll (rowOf x p) (map (renamed w p b) (members entry)))) e (predecessors w b)
 
+-- a pass takes the blocks of the order backwards
 abbrev pub pass : List ℕ → List Set → List Set
 pass w e = foldl (back w) e (reverse (blocksRpo w))
 
@@ -97,15 +114,22 @@ abbrev pub settle : ℕ → List ℕ → ℕ → List Set → ℕ × List Set
 settle zero w k e = (k, e)
 settle (suc n) w k e = let next = pass w e in cond (sameRows next e) (suc k, e) (settle n w (suc k) next)
 
-abbrev pub settled : List ℕ → ℕ × List Set
-settled w = settle (blocks w * locals w + 1) w 0 (replicate (blocks w) (replicate (locals w) false))
+-- the first pass starts from empty sets
+abbrev pub noExits : List ℕ → List Set
+noExits w = replicate (blocks w) (replicate (locals w) false)
 
+-- more passes than there can be exit members suffice
+abbrev pub settled : List ℕ → ℕ × List Set
+settled w = settle (blocks w * locals w + 1) w 0 (noExits w)
+
+-- rounds: passes of liveness until one pass adds no exit member, that pass included
 abbrev pub rounds : List ℕ → ℕ
 rounds w = settled w .0
 
 abbrev pub exitSet : List ℕ → ℕ → Set
 exitSet w b = rowOf (settled w .1) b
 
+-- an unvisited block has empty sets
 abbrev pub entrySet : List ℕ → ℕ → Set
 entrySet w b = cond (isVisited w b) (entryFrom w b (exitSet w b)) []
 
@@ -114,6 +138,7 @@ entrySet w b = cond (isVisited w b) (entryFrom w b (exitSet w b)) []
 abbrev pub blockEnd : ℕ
 blockEnd = 4294967295
 
+-- start 0 is the block start, else operation + 1; an end is operation + 1, or `blockEnd`
 pub record Interval : Type 0 where
   pub block : ℕ
   pub from : ℕ
@@ -140,5 +165,6 @@ blockIntervals w exit v b =
     (ops w b))
     .closed
 
+-- intervals of a local: per block, in the sequence of the Order answer, backwards through definitions, a block start last
 abbrev pub intervals : List ℕ → ℕ → List Interval
 intervals w v = bind (blocksRpo w) (λ b. blockIntervals w (exitSet w b) v b)

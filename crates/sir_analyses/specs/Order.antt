@@ -1,8 +1,8 @@
--- The order of functions and blocks, as `ReversePostOrder` fills it. Assumes nothing.
-use mathlib.Core.Bool.{Bool, true, false, not, _&&_, _||_, cond}
-use Prim.Native.Nat.{ℕ, zero, suc, _+_, _-_, _*_}
+-- The order of functions and blocks, as `ReversePostOrder` fills it, and predecessors (document 01, "Rules of the analyses").
+-- Assumes nothing.
+use mathlib.Core.Bool.{Bool, cond}
+use Prim.Native.Nat.{ℕ, zero, suc, _+_}
 use mathlib.Core.List.{List, [], _∷_, _++_, map, reverse}
-use lib.ListN.{length, getD}
 use lib.Dec.{eqb}
 use Rattle.plank_core.specs.Lists.{foldl, bind, keep, mem, upto}
 use Rattle.sir_data.specs.Records.{functions, blocks, initFunction, mainPlusOne, optional, entryBlock, ops, successors, callees}
@@ -29,7 +29,8 @@ finishFunction v f = record { seenBlocks = v .seenBlocks; seenFunctions = v .see
 abbrev pub finishBlock : Visit → ℕ → ℕ → Visit
 finishBlock v f b = record { seenBlocks = v .seenBlocks; seenFunctions = v .seenFunctions; finished = v .finished ++ ((f, b) ∷ []); finishedFunctions = v .finishedFunctions }
 
--- n bounds the depth; unseen blocks plus unseen functions suffice
+-- a block's calls are visited before its successors, and visited blocks are shared by all functions. n bounds the depth: unseen
+-- blocks plus unseen functions suffice
 abbrev mutual
   pub visitFunction : ℕ → List ℕ → ℕ → Visit → Visit
   visitFunction zero w f v = v
@@ -47,15 +48,19 @@ abbrev mutual
       (successors w b))
       f b)
 
+-- init, then main
 abbrev pub visited : List ℕ → Visit
 visited w = foldl (λ v f. visitFunction (functions w + blocks w) w f v) start (initFunction w ∷ optional (mainPlusOne w))
 
+-- `functions_rpo`
 abbrev pub functionsRpo : List ℕ → List ℕ
 functionsRpo w = reverse (visited w .finishedFunctions)
 
+-- the blocks of one function: those whose visit it finished, last first; empty where its entry was seen before
 abbrev pub functionBlocks : List ℕ → ℕ → List ℕ
 functionBlocks w f = reverse (map (λ p. p .1) (keep (λ p. eqb (p .0) f) (visited w .finished)))
 
+-- the visited blocks in the sequence of the Order answer
 abbrev pub blocksRpo : List ℕ → List ℕ
 blocksRpo w = bind (functionsRpo w) (functionBlocks w)
 

@@ -1,17 +1,16 @@
 -- Walks over the blocks of an image and what the locals hold on them (document 01, "Walk"), and the claim on lifetimes.
 -- Assumes nothing.
 use mathlib.Core.Path.{_≡_}
-use mathlib.Core.Bool.{Bool, true, false, not}
-use mathlib.Core.Option.{Option, none, some}
-use Prim.Native.Nat.{ℕ, suc, _+_, _≤_, _<_}
-use mathlib.Core.List.{List, [], _∷_, List·Memᴰ}
-use lib.ListN.{length, getElem?}
-use lib.Dec.{T}
+use mathlib.Core.Bool.{true, false}
+use mathlib.Core.Option.{some}
+use Prim.Native.Nat.{ℕ, suc, _+_, _≤_}
+use mathlib.Core.List.{List, [], _∷_}
+use lib.ListN.{getElem?}
 use Rattle.sir_data.specs.Records.{entryBlock, ops, ins, outs, code, inputs, outputs, successors, condition}
 use Rattle.sir_data.specs.Codes.{derives}
 use Rattle.sir_analyses.specs.Order.{functionsRpo}
 use Rattle.sir_analyses.specs.Liveness.{Interval}
-use Rattle.sir_analyses.specs.Allocation.{Alloc, allocs, marked, merged}
+use Rattle.sir_analyses.specs.Allocation.{allocs, marked, merged}
 use Rattle.plank_core.specs.Lists.{_∈_, _∉_}
 
 -- at some position ws has w and vs has v
@@ -42,7 +41,8 @@ pub data Lies (b o : ℕ) : List Interval → Type 0 where
   there : {i : Interval} {is : List Interval} → Lies b o is → Lies b o (i ∷ is)
 
 module _ (w : List ℕ) where
-  -- the walk with history τ stands in block b, before the operations os
+  -- the walk with history τ stands in block b, before the operations os: the first block is a visited function's entry, each next one a
+  -- successor of the one before
   pub data Walk : List Event → ℕ → List ℕ → Type 0 where
     enter : {f : ℕ} → f ∈ functionsRpo w → Walk [] (entryBlock w f) (ops w (entryBlock w f))
     step : {τ : List Event} {b o : ℕ} {os : List ℕ} → Walk τ b (o ∷ os) → Walk (op b o ∷ τ) b os
@@ -52,22 +52,24 @@ module _ (w : List ℕ) where
   abbrev pub Gives : ℕ → ℕ → ℕ → Type 0
   Gives a b o = getElem? (allocs w) a ≡ some (record { block = b; op = o })
 
-  -- after τ local v holds the pointer that allocation a gave at step n
+  -- after τ local v holds the pointer that allocation a gave at step n; at first nothing is held
   pub data Holds : List Event → ℕ → ℕ → ℕ → Type 0 where
+    -- an allocation's output holds just its new pointer, a deriving output all that the inputs held, any other output none
     given : {τ : List Event} {a b o v n : ℕ} → Gives a b o → v ∈ outs w o → n ≡ steps τ → Holds (op b o ∷ τ) v a n
-    derived : {τ : List Event} {b o u v a n : ℕ} → T (derives (code w o)) → u ∈ ins w o → v ∈ outs w o → Holds τ u a n → Holds (op b o ∷ τ) v a n
+    derived : {τ : List Event} {b o u v a n : ℕ} → derives (code w o) ≡ true → u ∈ ins w o → v ∈ outs w o → Holds τ u a n → Holds (op b o ∷ τ) v a n
     kept : {τ : List Event} {b o v a n : ℕ} → v ∉ outs w o → Holds τ v a n → Holds (op b o ∷ τ) v a n
+    -- over an edge all inputs of the next block together take the holdings of the outputs at their positions; other locals keep theirs
     moved : {τ : List Event} {b s u v a n : ℕ} → Paired (outputs w b) (inputs w s) u v → Holds τ u a n → Holds (edge b s ∷ τ) v a n
     stayed : {τ : List Event} {b s v a n : ℕ} → v ∉ inputs w s → Holds τ v a n → Holds (edge b s ∷ τ) v a n
 
   -- demand 3
   pub record Lifetimes : Type 0 where
     -- a read by an operation, itself counted
-    pub read : {τ : List Event} {b o v a n u c p : ℕ} {os : List ℕ} → Walk τ b (o ∷ os) → v ∈ ins w o → Holds τ v a n → T (not (marked w a))
+    pub read : {τ : List Event} {b o v a n u c p : ℕ} {os : List ℕ} → Walk τ b (o ∷ os) → v ∈ ins w o → Holds τ v a n → marked w a ≡ false
         → Executed (op b o ∷ τ) u c p → n ≤ u → Lies c p (merged w a)
     -- a read as the condition at the end of a block
-    pub tested : {τ : List Event} {b v a n u c p : ℕ} → Walk τ b [] → v ∈ condition w b → Holds τ v a n → T (not (marked w a))
+    pub tested : {τ : List Event} {b v a n u c p : ℕ} → Walk τ b [] → v ∈ condition w b → Holds τ v a n → marked w a ≡ false
         → Executed τ u c p → n ≤ u → Lies c p (merged w a)
     -- pointers of two allocations in one local
     pub mixed : {τ : List Event} {b v a n a′ n′ : ℕ} {os : List ℕ} → Walk τ b os → Holds τ v a n → Holds τ v a′ n′ → ¬ (a ≡ a′)
-        → T (marked w a) × T (marked w a′)
+        → (marked w a ≡ true) × (marked w a′ ≡ true)

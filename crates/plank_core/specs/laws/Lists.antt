@@ -2,14 +2,14 @@
 use mathlib.Core.Path.{_≡_, refl, sym, ap, _∙_, subst}
 use mathlib.Core.Logic.{_↔_, ⊎-elim, _⊎_, inl, inr}
 use mathlib.Core.Bool.{Bool, true, false, not, _&&_, _||_, cond}
-use mathlib.Core.Option.{Option, some}
+use mathlib.Core.Option.{some}
 use Prim.Native.Nat.{ℕ, zero, suc, _+_, _-_, _≤_, _<_}
 use native.Mathlib.Omega.{arith}
 use mathlib.Core.List.{List, [], _∷_, _++_, map, reverse, reverseAux, reverse-reverse, List·Memᴰ, List·Memᴰ·head, List·Memᴰ·tail, List·Memᴰ·not-nil, List·Memᴰ·cases-cons, List·Memᴰ·append-cases, Memᴰ·append-left, Memᴰ·append-right, Memᴰ·cast}
 use lib.ListN.{length, getD, getElem?}
 use lib.Dec.{eqb, T}
-use borrow.Author.Tests.{eqb-true, eqb-false, eq-eqb, ne-eqb, not-true}
-use Rattle.plank_core.specs.Lists.{count, range, upto, foldl, bind, all, any, keep, mem, distinct, _∈_}
+use borrow.Author.Tests.{eqb-true, eqb-false, eq-eqb, not-true}
+use Rattle.plank_core.specs.Lists.{count, range, upto, foldl, bind, all, any, keep, mem, distinct, oneIf, _∈_}
 
 -- ---- tests
 
@@ -29,9 +29,9 @@ pub and-true-right : (a b : Bool) → (a && b) ≡ true → b ≡ true
 and-true-right true b h = h
 and-true-right false b h = let z : false ≡ true = h in cc
 
-pub and-true : (a b : Bool) → a ≡ true → b ≡ true → (a && b) ≡ true
-and-true true b h k = k
-and-true false b h k = h
+pub both-true : (a b : Bool) → a ≡ true → b ≡ true → (a && b) ≡ true
+both-true true b h k = k
+both-true false b h k = h
 
 pub or-true-left : (a b : Bool) → a ≡ true → (a || b) ≡ true
 or-true-left true b h = refl
@@ -197,6 +197,10 @@ module _ {A : Type 0} where
   getD-mem (y ∷ ys) zero d h = List·Memᴰ·head refl
   getD-mem (y ∷ ys) (suc i) d h = List·Memᴰ·tail (getD-mem ys i d (omega arith))
 
+  pub no-members : (xs : List A) → ((x : A) → List·Memᴰ x xs → ⊥) → xs ≡ []
+  no-members [] h = refl
+  no-members (x ∷ xs) h = absurd (h x (List·Memᴰ·head refl))
+
   pub length-none : (xs : List A) → length xs ≡ 0 → xs ≡ []
   length-none [] e = refl
   length-none (x ∷ xs) e = absurd (omega arith)
@@ -206,13 +210,9 @@ all-upto p n h i l = all-mem p (upto n) h i (upto-mem i n l)
 
 -- ---- how often a number is in a list
 
-abbrev pub bit : Bool → ℕ
-bit true = 1
-bit false = 0
-
 abbrev pub times : ℕ → List ℕ → ℕ
 times x [] = 0
-times x (y ∷ ys) = bit (eqb x y) + times x ys
+times x (y ∷ ys) = oneIf (eqb x y) + times x ys
 
 pub times-append : (x : ℕ) (ys zs : List ℕ) → times x (ys ++ zs) ≡ times x ys + times x zs
 times-append x [] zs = omega arith
@@ -260,7 +260,7 @@ mem-not x ys n = refuted (mem x ys) (λ h. n (mem-in x ys h))
 pub mem-keep : (p : ℕ → Bool) (x : ℕ) (ys : List ℕ) → mem x (keep p ys) ≡ (p x && mem x ys)
 mem-keep p x ys =
     same-tests (mem x (keep p ys)) (p x && mem x ys)
-    (λ h. let k = keep-out p ys (mem-in x (keep p ys) h) in and-true (p x) (mem x ys) (k .1) (in-mem x (k .0)))
+    (λ h. let k = keep-out p ys (mem-in x (keep p ys) h) in both-true (p x) (mem x ys) (k .1) (in-mem x (k .0)))
     (λ h. in-mem x (keep-mem p (mem-in x ys (and-true-right (p x) (mem x ys) h)) (and-true-left (p x) (mem x ys) h)))
 
 -- ---- distinct lists
@@ -287,17 +287,17 @@ distinct-places (x ∷ xs) i j d t h k e = go i j h k e (distinct-places xs)
 pub times-distinct : (xs : List ℕ) → ((x : ℕ) → times x xs ≤ 1) → distinct xs ≡ true
 times-distinct [] h = refl
 times-distinct (x ∷ xs) h =
-    let a : bit (eqb x x) ≡ 1 = ap bit (eq-eqb x x refl) in
+    let a : oneIf (eqb x x) ≡ 1 = ap oneIf (eq-eqb x x refl) in
     let n : mem x xs ≡ false = times-none x xs (omega (arith, h x)) in
     rw n (times-distinct xs (λ y. omega (arith, h y)))
 
-pub bit-most : (t : Bool) → bit t ≤ 1
-bit-most true = omega arith
-bit-most false = omega arith
+pub oneIf-most : (t : Bool) → oneIf t ≤ 1
+oneIf-most true = omega arith
+oneIf-most false = omega arith
 
-pub bit-some : (t : Bool) → 1 ≤ bit t → t ≡ true
-bit-some true h = refl
-bit-some false h = absurd (omega arith)
+pub oneIf-some : (t : Bool) → 1 ≤ oneIf t → t ≡ true
+oneIf-some true h = refl
+oneIf-some false h = absurd (omega arith)
 
 -- ---- numbers in turn
 

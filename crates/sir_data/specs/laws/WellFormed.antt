@@ -55,6 +55,23 @@ keeps (r ∷ rs) h = go (r .1) refl (keeps rs)
     go true e rest = let z : r .0 ≡ 0 = rw e at h in λ l. absurd (omega arith)
     go false e rest = λ l. (e, rest (rw e at h))
 
+-- none of two lists is broken: none of the first, and none of the second
+pub first-left : (rs qs : List (ℕ × Bool)) → first (rs ++ qs) ≡ 0 → first rs ≡ 0
+first-left [] qs h = refl
+first-left (r ∷ rs) qs h = go (r .1) h (first-left rs qs)
+  where
+    go : (t : Bool) → cond t (r .0) (first (rs ++ qs)) ≡ 0 → (first (rs ++ qs) ≡ 0 → first rs ≡ 0) → cond t (r .0) (first rs) ≡ 0
+    go true e rest = e
+    go false e rest = rest e
+
+pub first-right : (rs qs : List (ℕ × Bool)) → all (λ r. ltb 0 (r .0)) rs ≡ true → first (rs ++ qs) ≡ 0 → first qs ≡ 0
+first-right [] qs p h = h
+first-right (r ∷ rs) qs p h = go (r .1) h (first-right rs qs (and-true-right (ltb 0 (r .0)) (all (λ q. ltb 0 (q .0)) rs) p))
+  where
+    go : (t : Bool) → cond t (r .0) (first (rs ++ qs)) ≡ 0 → (first (rs ++ qs) ≡ 0 → first qs ≡ 0) → first qs ≡ 0
+    go true e rest = absurd (omega (arith, ltb-true 0 (r .0) (and-true-left (ltb 0 (r .0)) (all (λ q. ltb 0 (q .0)) rs) p)))
+    go false e rest = rest e
+
 pub record Rules (w : List ℕ) : Type 0 where
   pub r4 : rule4 w ≡ false
   pub r5 : rule5 w ≡ false
