@@ -1,4 +1,5 @@
 pub mod OrderLaws
+pub mod Visiting
 pub mod OrderOnce
 pub mod OrderProof
 pub mod SetLaws

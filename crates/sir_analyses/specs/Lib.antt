@@ -1,4 +1,5 @@
 pub mod Order
+pub mod Visiting
 pub mod Liveness
 pub mod Allocation
 pub mod Answers

@@ -1,1 +1,2 @@
-// Layer 3: the analyses.
+// Layer 3: the analyses, one file for each of the source's, and the questions that can be put to an image.
+pub mod reverse_post_order;

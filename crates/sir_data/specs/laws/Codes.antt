@@ -6,12 +6,12 @@ use Prim.Native.Nat.{ℕ, _*_, _^_, _≤_}
 use native.Mathlib.Omega.{arith}
 use borrow.Author.Tests.{ne-eqb}
 use Rattle.plank_core.specs.Lists.{upto, sum}
-use Rattle.plank_core.specs.laws.Lists.{bit}
+use Rattle.plank_core.specs.Lists.{oneIf}
 use Rattle.sir_data.specs.Codes.{isStaticAlloc, isDynamicAlloc, escaping}
 
 -- bit k of the mask for position k
 abbrev pub mask : ℕ → ℕ
-mask c = sum (map (λ k. bit (escaping c k) * 2 ^ k) (upto 8))
+mask c = sum (map (λ k. oneIf (escaping c k) * 2 ^ k) (upto 8))
 
 abbrev pub allocates : ℕ → ℕ
 allocates c = cond (isStaticAlloc c) 1 (cond (isDynamicAlloc c) 2 0)

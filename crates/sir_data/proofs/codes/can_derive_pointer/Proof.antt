@@ -1,7 +1,7 @@
 -- `can_derive_pointer`: the table DERIVES against `derives`. Assumes nothing.
 use mathlib.Core.Path.{refl}
 use lib.Dec.{eqb}
-use Rattle.plank_core.specs.laws.Lists.{bit}
+use Rattle.plank_core.specs.Lists.{oneIf}
 use Rattle.plank_core.specs.laws.Table.{table-rule}
 use Rattle.sir_data.specs.Codes.{derives}
 use borrow.Author.Needs.{needs}
@@ -12,7 +12,7 @@ array-read-result : tie.Need-array-read-result
 array-read-result c = search needs
 
 returns : tie.Need-returns
-returns c = table-rule (λ k. bit (derives k)) (λ x. eqb x 1) derives 93 refl (c .args .code) (search needs)
+returns c = table-rule (λ k. oneIf (derives k)) (λ x. eqb x 1) derives 93 refl (c .args .code) (search needs)
 
 pub can-derive-pointer-spec : {M : Type 1} → statement M
 can-derive-pointer-spec = tie.close (tie.spec array-read-result returns)

@@ -1,0 +1,51 @@
+-- The arrays in which a visit of functions and blocks is kept. Assumes nothing.
+-- `seen` is a table of two sets, the functions seen and the blocks seen. `post` has what is finished, in that order: f for a
+-- function, 256 * (f + 1) + b for block b on behalf of function f.
+use mathlib.Core.Path.{_≡_}
+use mathlib.Core.Bool.{Bool, not, cond}
+use mathlib.Core.List.{List, [], _∷_}
+use Prim.Native.Nat.{ℕ, zero, suc, _+_, _-_, _*_, _/_, _%_, _≤_, _<_}
+use lib.ListN.{length, take}
+use lib.Dec.{leb}
+use Rattle.plank_core.specs.Lists.{bind, mem, oneIf}
+use Rattle.plank_core.specs.DenseIndexSet.{contains}
+use Rattle.sir_data.specs.Records.{functions, blocks}
+use Rattle.sir_analyses.specs.Order.{Visit}
+
+abbrev pub blockKey : ℕ → ℕ → ℕ
+blockKey f b = 256 * (f + 1) + b
+
+abbrev pub keyedBlock : ℕ → List (ℕ × ℕ)
+keyedBlock k = cond (leb 256 k) ((k / 256 - 1, k % 256) ∷ []) []
+
+abbrev pub keyedFunction : ℕ → List ℕ
+keyedFunction k = cond (leb 256 k) [] (k ∷ [])
+
+-- the arrays, with n keys in `post`, show the visit v
+pub record Shows (seen post : List ℕ) (n : ℕ) (v : Visit) : Type 0 where
+  pub functions-seen : (f : ℕ) → f < 64 → mem f (v .seenFunctions) ≡ contains seen f
+  pub blocks-seen : (b : ℕ) → b < 256 → mem b (v .seenBlocks) ≡ contains seen (512 + b)
+  pub blocks-finished : v .finished ≡ bind (take n post) keyedBlock
+  pub functions-finished : v .finishedFunctions ≡ bind (take n post) keyedFunction
+
+-- how many numbers below n fail a test
+unfoldable pub missing : ℕ → (ℕ → Bool) → ℕ
+missing zero p = 0
+missing (suc n) p = oneIf (not (p n)) + missing n p
+
+-- the falling number: unseen functions plus unseen blocks
+unfoldable pub unseen : List ℕ → List ℕ → ℕ
+unseen w seen = missing (functions w) (contains seen) + missing (blocks w) (λ b. contains seen (512 + b))
+
+-- the arrays have their lengths, and there is room in `post` for all that is unseen
+pub record Held (w seen post : List ℕ) (n : ℕ) : Type 0 where
+  pub wide : length seen ≡ 16
+  pub long : length post ≡ 320
+  pub room : n + unseen w seen ≤ functions w + blocks w
+
+-- the arrays went on by one step of a visit, whatever visit they showed
+pub record Went (w : List ℕ) (step : Visit → Visit) (seen post : List ℕ) (n : ℕ) (seen′ post′ : List ℕ) (r : ℕ) : Type 0 where
+  pub same : (v : Visit) → Shows seen post n v → Shows seen′ post′ r (step v)
+  pub held : Held w seen′ post′ r
+  pub less : r + unseen w seen′ ≤ n + unseen w seen
+  pub down : unseen w seen′ ≤ unseen w seen

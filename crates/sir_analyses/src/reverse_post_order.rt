@@ -1,0 +1,80 @@
+// The order of functions and blocks, as `ReversePostOrder` of the source fills it, over arrays of fixed length.
+use plank_core::index::{BlockId, FunctionId, OpIdx};
+use plank_core::rows::row_add;
+use sir_data::records::{block_operations, entry_block, op_word, successor, successor_count};
+
+ghost use mathlib.Core.Path.{_≡_};
+ghost use mathlib.Core.List.{_++_, _∷_, []};
+ghost use Prim.Native.Nat.{_+_, _<_};
+ghost use lib.ListN.{length, take};
+ghost use Rattle.sir_data.specs.Records.{functions, blocks, operations, optional, callees};
+ghost use Rattle.sir_data.specs.WellFormed.{WellFormed};
+ghost use Rattle.sir_analyses.specs.Order.{visitFunction, visitBlock};
+ghost use Rattle.sir_analyses.specs.Visiting.{Held, Went};
+
+// One more than the function that an operation calls, 0 where it calls none.
+fn callee_plus_one(words: &[u32], o: OpIdx) -> u32
+    requires { ⌜ WellFormed (now words) ⌝ }
+    requires { ⌜ o .0 < operations (now words) ⌝ }
+    ensures { λ r. ⌜ optional r ≡ callees (now (words .entry)) (o .0) ⌝ }
+{
+    if sir_data::codes::is_call(op_word(words, o, 0)) {
+        op_word(words, o, 5) + 1
+    } else {
+        0
+    }
+}
+
+// Writes a key behind the first n.
+fn push(post: &mut [u32], n: usize, key: u32) -> usize
+    requires { ⌜ n < length (now post) ⌝ }
+    ensures { λ r. ⌜ (r ≡ n + 1) × (take r (now (post .exit)) ≡ take n (now (post .entry)) ++ (key ∷ [])) ⌝ }
+{
+    post[n] = key;
+    n + 1
+}
+
+// Visits a function that was not seen: its entry block, then the function is finished.
+pub fn visit_function(words: &[u32], f: FunctionId, seen: &mut [u64], post: &mut [u32], n: usize) -> usize
+    requires { ⌜ WellFormed (now words) ⌝ }
+    requires { ⌜ f .0 < functions (now words) ⌝ }
+    requires { ⌜ Held (now words) (now seen) (now post) n ⌝ }
+    ensures { λ r. ⌜ Went (now (words .entry)) (visitFunction (functions (now (words .entry)) + blocks (now (words .entry))) (now (words .entry)) (f .0)) (now (seen .entry)) (now (post .entry)) n (now (seen .exit)) (now (post .exit)) r ⌝ }
+{
+    if !row_add(seen, 0, f.0) {
+        return n;
+    }
+    let m = visit_block(words, f, entry_block(words, f), seen, post, n);
+    push(post, m, f.0)
+}
+
+// Visits a block that was not seen, on behalf of f: what it calls, then its successors, then the block is finished.
+pub fn visit_block(words: &[u32], f: FunctionId, b: BlockId, seen: &mut [u64], post: &mut [u32], n: usize) -> usize
+    requires { ⌜ WellFormed (now words) ⌝ }
+    requires { ⌜ f .0 < functions (now words) ⌝ }
+    requires { ⌜ b .0 < blocks (now words) ⌝ }
+    requires { ⌜ Held (now words) (now seen) (now post) n ⌝ }
+    ensures { λ r. ⌜ Went (now (words .entry)) (visitBlock (functions (now (words .entry)) + blocks (now (words .entry))) (now (words .entry)) (f .0) (b .0)) (now (seen .entry)) (now (post .entry)) n (now (seen .exit)) (now (post .exit)) r ⌝ }
+{
+    if !row_add(seen, 1, b.0) {
+        return n;
+    }
+    let span = block_operations(words, b);
+    let last = span.end;
+    let mut m = n;
+    let mut o = span.start;
+    'calls: while o < last {
+        let c = callee_plus_one(words, OpIdx(o));
+        if c != 0 {
+            m = visit_function(words, FunctionId(c - 1), seen, post, m);
+        }
+        o += 1;
+    }
+    let count = successor_count(words, b);
+    let mut i: usize = 0;
+    'successors: while i < count {
+        m = visit_block(words, f, successor(words, b, i), seen, post, m);
+        i += 1;
+    }
+    push(post, m, 256 * (f.0 + 1) + b.0)
+}
