@@ -95,6 +95,7 @@ module _ (w : List ℕ) (good : WellFormed w) where
     last-pass = λ n e.
         let k : n ≡ live-ended .before = omega (arith, live-ended .last) in
         ap (λ (m : ℕ). after w (suc m)) k ∙ ap (pass w) (sym (live-ended .state)) ∙ settles ∙ live-ended .state ∙ ap (after w) (sym k);
+    one-more = ap (pass w) at-end ∙ settles ∙ sym at-end;
     earlier-pass = λ n l. live-ended .earlier n (omega (arith, live-ended .last));
     some-pass = omega (arith, live-ended .last);
     bound =

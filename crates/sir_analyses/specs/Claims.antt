@@ -59,9 +59,10 @@ module _ (w : List ℕ) where
     -- an unvisited block has empty sets
     pub unvisited-entry : (b : ℕ) → ¬ Visited (block b) → members (entrySet w b) ≡ []
     pub unvisited-exit : (b : ℕ) → ¬ Visited (block b) → members (exitSet w b) ≡ []
-    -- the exit sets are those after all passes; the last pass changes nothing, and each one before it does
+    -- the exit sets are those after all passes; the last pass changes nothing, nor does one more, and each one before it does
     pub passes : (b : ℕ) → exitSet w b ≡ rowOf (after (rounds w)) b
     pub last-pass : (n : ℕ) → rounds w ≡ suc n → after (suc n) ≡ after n
+    pub one-more : pass w (after (rounds w)) ≡ after (rounds w)
     pub earlier-pass : (n : ℕ) → suc n < rounds w → ¬ (after (suc n) ≡ after n)
     pub some-pass : 1 ≤ rounds w
     -- the number is at most the final number of exit members plus 1
