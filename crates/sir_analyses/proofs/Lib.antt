@@ -1,5 +1,6 @@
 pub mod OrderLaws
 pub mod Visiting
+pub mod Writing
 pub mod OrderOnce
 pub mod OrderProof
 pub mod SetLaws

@@ -246,7 +246,7 @@ module _ {w : List ℕ} {step : ℕ → Visit → Visit} {full seen₀ post₀ :
     pub going-all : {rest : List ℕ} → rest ≡ [] → Going w step full seen₀ post₀ m₀ rest seen post m → Went w (λ v. foldl (λ u x. step x u) v full) seen₀ post₀ m₀ seen post m
     going-all e g = record {
       same = λ v s. let q = g .same v s in
-      subst (λ (u : Visit). Shows seen post m u) (ap (λ (l : List ℕ). foldl (λ u x. step x u) (q .0) l) (sym e) ∙ q .2) (q .1);
+          subst (λ (u : Visit). Shows seen post m u) (ap (λ (l : List ℕ). foldl (λ u x. step x u) (q .0) l) (sym e) ∙ q .2) (q .1);
       held = g .held;
       less = g .less;
       down = g .down;

@@ -1,5 +1,6 @@
 pub mod Order
 pub mod Visiting
+pub mod Writing
 pub mod Liveness
 pub mod Allocation
 pub mod Answers

@@ -1,8 +1,13 @@
 // The order of functions and blocks, as `ReversePostOrder` of the source fills it, over arrays of fixed length.
-use plank_core::index::{BlockId, FunctionId, OpIdx};
+use plank_core::index::BlockId;
+use plank_core::index::FunctionId;
+use plank_core::index::OpIdx;
 use plank_core::rows::row_add;
-use sir_data::records::{block_operations, entry_block, op_word, successor, successor_count};
-
+use sir_data::records::block_operations;
+use sir_data::records::entry_block;
+use sir_data::records::op_word;
+use sir_data::records::successor;
+use sir_data::records::successor_count;
 ghost use mathlib.Core.Path.{_≡_};
 ghost use mathlib.Core.List.{_++_, _∷_, []};
 ghost use Prim.Native.Nat.{_+_, _<_};
@@ -35,7 +40,13 @@ fn push(post: &mut [u32], n: usize, key: u32) -> usize
 }
 
 // Visits a function that was not seen: its entry block, then the function is finished.
-pub fn visit_function(words: &[u32], f: FunctionId, seen: &mut [u64], post: &mut [u32], n: usize) -> usize
+pub fn visit_function(
+    words: &[u32],
+    f: FunctionId,
+    seen: &mut [u64],
+    post: &mut [u32],
+    n: usize,
+) -> usize
     requires { ⌜ WellFormed (now words) ⌝ }
     requires { ⌜ f .0 < functions (now words) ⌝ }
     requires { ⌜ Held (now words) (now seen) (now post) n ⌝ }
@@ -49,7 +60,14 @@ pub fn visit_function(words: &[u32], f: FunctionId, seen: &mut [u64], post: &mut
 }
 
 // Visits a block that was not seen, on behalf of f: what it calls, then its successors, then the block is finished.
-pub fn visit_block(words: &[u32], f: FunctionId, b: BlockId, seen: &mut [u64], post: &mut [u32], n: usize) -> usize
+pub fn visit_block(
+    words: &[u32],
+    f: FunctionId,
+    b: BlockId,
+    seen: &mut [u64],
+    post: &mut [u32],
+    n: usize,
+) -> usize
     requires { ⌜ WellFormed (now words) ⌝ }
     requires { ⌜ f .0 < functions (now words) ⌝ }
     requires { ⌜ b .0 < blocks (now words) ⌝ }

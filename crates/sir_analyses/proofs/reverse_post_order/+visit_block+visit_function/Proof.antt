@@ -147,9 +147,10 @@ block-successor-requires t c κs = let S = c .before .before .before .before .be
 block-visit-block-requires : (t : ℕ) → visit-block-lts.Need-visit-block-requires (block-claims t) (visit-block-at t) visit-block.Post Inv-calls μ-calls Inv-successors μ-successors
 block-visit-block-requires t c κs = let S = c .before .before .before .before .before .before .before .before .before .before .before .before .before .before .before .before .before in
     let L = c .before .before .before .before .successors in
-    let l = successor-below (S .pre .1 .0) (S .args .b .0) (L .i) (S .pre .1 .1 .1 .0) (omega (arith, c .before .before .before .before .before .successor-count .ensures, c .before .before .before .successors-test .taken)) in
-    (omega (arith, block-entered t (c .before .before .before .before .before .before .before .before .before) .fewer, S .pre .0, L .inv .down, c .before .before .before .before .before .before .before .calls .inv .1 .down),
-    (S .pre .1 .0, (S .pre .1 .1 .0, (omega (arith, c .before .before .successor .ensures, l), L .inv .held))))
+    let l = successor-below (S .pre .1 .0) (S .args .b .0) (L .i) (S .pre .1 .1 .1 .0) (omega (arith, c .before .before .before .before .before .successor-count .ensures, c .before .before .before .successors-test .taken)) in (
+      omega (arith, block-entered t (c .before .before .before .before .before .before .before .before .before) .fewer, S .pre .0, L .inv .down, c .before .before .before .before .before .before .before .calls .inv .1 .down),
+      (S .pre .1 .0, (S .pre .1 .1 .0, (omega (arith, c .before .before .successor .ensures, l), L .inv .held))),
+    )
 
 block-add-i : (t : ℕ) → visit-block-lts.Need-add-i (block-claims t) (visit-block-at t) visit-block.Post Inv-calls μ-calls Inv-successors μ-successors
 block-add-i t c = omega arith

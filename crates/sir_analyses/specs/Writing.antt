@@ -1,0 +1,23 @@
+-- How the words of an answer go into a slice: word by word, each only where a limit allows it. With the limit 0 the words are only
+-- counted, and with the slice's length as the limit an answer that fits is written whole. Assumes nothing.
+use mathlib.Core.Path.{_≡_}
+use mathlib.Core.Bool.{cond}
+use mathlib.Core.List.{List, [], _∷_, _++_}
+use Prim.Native.Nat.{ℕ, _+_, _*_}
+use lib.ListN.{length, take, drop}
+use lib.Dec.{leb}
+use Rattle.sir_data.specs.Pages.{bytesOf}
+
+-- word n of an answer is x
+unfoldable pub wordPut : ℕ → ℕ → ℕ → List ℕ → List ℕ
+wordPut limit n x out = cond (leb (4 * n + 4) limit) (take (4 * n) out ++ bytesOf x ++ drop (4 * n + 4) out) out
+
+-- the words from number n on are xs
+unfoldable pub wordsPut : ℕ → ℕ → List ℕ → List ℕ → List ℕ
+wordsPut limit n [] out = out
+wordsPut limit n (x ∷ xs) out = wordsPut limit (n + 1) xs (wordPut limit n x out)
+
+-- a call that puts xs from number n on, and gives the next number
+pub record Puts (limit n : ℕ) (xs out out′ : List ℕ) (r : ℕ) : Type 0 where
+  pub next : r ≡ n + length xs
+  pub left : out′ ≡ wordsPut limit n xs out

@@ -1,0 +1,54 @@
+// Writing answers: little-endian words, counted first and stored after by the same functions.
+ghost use mathlib.Core.Path.{_≡_};
+ghost use mathlib.Core.List.{_++_, _∷_, []};
+ghost use Prim.Native.Nat.{_+_, _<_, _≤_, _^_};
+ghost use lib.ListN.{length, take, drop};
+ghost use Rattle.sir_data.specs.Pages.{bytesOf};
+ghost use Rattle.sir_analyses.specs.Writing.{Puts};
+
+// Stores the bytes of a word.
+fn store(out: &mut [u8], at: usize, word: u32)
+    requires { ⌜ at + 4 ≤ length (now out) ⌝ }
+    ensures { λ _. ⌜ now (out .exit) ≡ take at (now (out .entry)) ++ bytesOf word ++ drop (at + 4) (now (out .entry)) ⌝ }
+{
+    out[at] = (word % 256) as u8;
+    out[at + 1] = (word / 256 % 256) as u8;
+    out[at + 2] = (word / 65536 % 256) as u8;
+    out[at + 3] = (word / 16777216 % 256) as u8;
+}
+
+// Word n of an answer, stored where the limit allows; the next number.
+pub fn put_word(out: &mut [u8], limit: usize, n: usize, word: u32) -> usize
+    requires { ⌜ (limit ≤ length (now out)) × (n < 2 ^ 60) ⌝ }
+    ensures { λ r. ⌜ Puts limit n (word ∷ []) (now (out .entry)) (now (out .exit)) r ⌝ }
+{
+    if limit < 4 * n + 4 {
+        return n + 1;
+    }
+    store(out, 4 * n, word);
+    n + 1
+}
+
+// Some words in turn.
+pub fn put_words(out: &mut [u8], limit: usize, n: usize, words: &[u32]) -> usize
+    requires { ⌜ (limit ≤ length (now out)) × (n + length (now words) < 2 ^ 60) ⌝ }
+    ensures { λ r. ⌜ Puts limit n (now (words .entry)) (now (out .entry)) (now (out .exit)) r ⌝ }
+{
+    let mut m = n;
+    let mut i: usize = 0;
+    while i < words.len() {
+        m = put_word(out, limit, m, words[i]);
+        i += 1;
+    }
+    m
+}
+
+// A triple of words.
+pub fn put_triple(out: &mut [u8], limit: usize, n: usize, a: u32, b: u32, c: u32) -> usize
+    requires { ⌜ (limit ≤ length (now out)) × (n + 3 < 2 ^ 60) ⌝ }
+    ensures { λ r. ⌜ Puts limit n (a ∷ b ∷ c ∷ []) (now (out .entry)) (now (out .exit)) r ⌝ }
+{
+    let m = put_word(out, limit, n, a);
+    let k = put_word(out, limit, m, b);
+    put_word(out, limit, k, c)
+}
