@@ -1,4 +1,8 @@
 // Layer 2: the image.
+pub mod block_rules;
+pub mod bounds;
 pub mod codes;
+pub mod operation_rules;
 pub mod pages;
 pub mod records;
+pub mod rules;

@@ -5,7 +5,7 @@ use mathlib.Core.Bool.{Bool, true, false, not, _&&_, _||_, cond}
 use Prim.Native.Nat.{ℕ, zero, suc, _+_, _-_, _≤_, _<_}
 use native.Mathlib.Omega.{arith}
 use mathlib.Core.List.{List, [], _∷_, _++_, map, reverse, reverseAux, List·Memᴰ, List·Memᴰ·head, List·Memᴰ·tail, List·Memᴰ·not-nil, List·Memᴰ·cases-cons, List·Memᴰ·append-cases, Memᴰ·append-left, Memᴰ·append-right}
-use lib.ListN.{length}
+use lib.ListN.{length, getD, drop}
 use lib.Dec.{eqb, T}
 use borrow.Author.Tests.{eqb-true, eqb-false, eq-eqb}
 use Rattle.plank_core.specs.Lists.{count, range, upto, bind, all, any, keep, mem, distinct}
@@ -79,6 +79,17 @@ count-mem x s (suc n) a b = go (eqb x s) refl (count-mem x (suc s) n)
 
 pub all-upto : (p : ℕ → Bool) (n : ℕ) → all p (upto n) ≡ true → (i : ℕ) → i < n → p i ≡ true
 all-upto p n h i l = all-mem p (upto n) h i (count-mem i 0 n (omega arith) (omega arith))
+
+-- an element by its place, and one of those from a place on
+pub getD-mem : (xs : List ℕ) (i : ℕ) → i < length xs → List·Memᴰ (getD xs i 0) xs
+getD-mem [] i h = absurd (omega arith)
+getD-mem (x ∷ xs) zero h = List·Memᴰ·head refl
+getD-mem (x ∷ xs) (suc i) h = List·Memᴰ·tail (getD-mem xs i (omega arith))
+
+pub drop-mem : (x : ℕ) (xs : List ℕ) (i : ℕ) → List·Memᴰ x (drop i xs) → List·Memᴰ x xs
+drop-mem x xs zero m = m
+drop-mem x [] (suc i) m = m
+drop-mem x (y ∷ ys) (suc i) m = List·Memᴰ·tail (drop-mem x ys i m)
 
 -- ---- members of maps and binds: what holds of each f x holds of each member of the map, and so for the bind
 
