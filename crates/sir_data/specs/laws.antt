@@ -1,3 +1,4 @@
 pub mod WellFormed
 pub mod Records
 pub mod Codes
+pub mod Rules

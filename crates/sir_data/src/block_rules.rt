@@ -19,8 +19,8 @@ ghost use Prim.Native.Nat.{ℕ, _+_, _≤_, _<_};
 ghost use lib.Dec.{eqb, leb, ltb};
 ghost use lib.ListN.{length};
 ghost use Rattle.plank_core.specs.Lists.{all, upto, distinct, _∈_};
-ghost use Rattle.sir_data.specs.Records.{blocks, caseTargets, locals, field, inputs, outputs, successors};
-ghost use Rattle.sir_data.specs.Rules.{zeroFrom, blockFieldsOk, optionalBelow, controlIdsOk, blockIdsOk, rule10, rule11};
+ghost use Rattle.sir_data.specs.Records.{blocks, caseTargets, locals, blockWord, field, inputs, outputs, successors};
+ghost use Rattle.sir_data.specs.Rules.{zeroFrom, blockFieldsOk, rangeOk, optionalBelow, controlIdsOk, blockIdsOk, rule10, rule11};
 ghost use Rattle.sir_data.specs.WellFormed.{Sized, InRange};
 
 // Are the control fields of a block 0 from field k on?
@@ -127,6 +127,16 @@ fn control_ids_ok(words: &[u32], b: BlockId) -> bool
     true
 }
 
+// Is the run that words k and k + 1 of the block give within a list of n?
+fn block_range_ok(words: &[u32], b: BlockId, k: usize, n: u32) -> bool
+    requires { ⌜ Sized (now words) ⌝ }
+    requires { ⌜ b .0 < blocks (now words) ⌝ }
+    requires { ⌜ k < 10 ⌝ }
+    ensures { λ r. ⌜ r ≡ rangeOk (blockWord (now (words .entry)) (b .0) k) (blockWord (now (words .entry)) (b .0) (k + 1)) n ⌝ }
+{
+    range_ok(block_word(words, b, k), block_word(words, b, k + 1), n)
+}
+
 // Are the block's ranges within their lists, and the ids of its control below their counts?
 fn block_ids_ok(words: &[u32], b: BlockId) -> bool
     requires { ⌜ Sized (now words) ⌝ }
@@ -134,17 +144,13 @@ fn block_ids_ok(words: &[u32], b: BlockId) -> bool
     ensures { λ r. ⌜ r ≡ blockIdsOk (now (words .entry)) (b .0) ⌝ }
 {
     let n = operand_count(words);
-    if !range_ok(block_word(words, b, 0), block_word(words, b, 1), n) {
+    if !block_range_ok(words, b, 0, n) {
         return false;
     }
-    if !range_ok(block_word(words, b, 2), block_word(words, b, 3), n) {
+    if !block_range_ok(words, b, 2, n) {
         return false;
     }
-    if !range_ok(
-        block_word(words, b, 4),
-        block_word(words, b, 5),
-        operation_count(words),
-    ) {
+    if !block_range_ok(words, b, 4, operation_count(words)) {
         return false;
     }
     control_ids_ok(words, b)

@@ -12,13 +12,13 @@ use crate::records::operation_count;
 use plank_core::index::OpIdx;
 ghost use mathlib.Core.Path.{_≡_};
 ghost use mathlib.Core.Bool.{not, _||_};
-ghost use Prim.Native.Nat.{_<_};
+ghost use Prim.Native.Nat.{_+_, _<_};
 ghost use lib.Dec.{eqb, ltb};
 ghost use lib.ListN.{length};
 ghost use Rattle.plank_core.specs.Lists.{all, upto};
-ghost use Rattle.sir_data.specs.Records.{operations, functions, code, ins, outs, extra, isCall};
+ghost use Rattle.sir_data.specs.Records.{operations, operandWords, functions, opWord, code, ins, outs, extra, isCall};
 ghost use Rattle.sir_data.specs.Codes.{arityOk, isStaticAlloc};
-ghost use Rattle.sir_data.specs.Rules.{opFieldsOk, opIdsOk, rule9};
+ghost use Rattle.sir_data.specs.Rules.{rangeOk, opFieldsOk, opIdsOk, rule9};
 ghost use Rattle.sir_data.specs.WellFormed.{Sized, InRange};
 
 // Is the code known, and is each extra that it does not use 0?
@@ -84,17 +84,26 @@ fn static_id_ok(code: u32, id: u32) -> bool
     true
 }
 
+// Is the run that words k and k + 1 of the operation give within the operands?
+fn op_range_ok(words: &[u32], o: OpIdx, k: usize) -> bool
+    requires { ⌜ Sized (now words) ⌝ }
+    requires { ⌜ o .0 < operations (now words) ⌝ }
+    requires { ⌜ k < 6 ⌝ }
+    ensures { λ r. ⌜ r ≡ rangeOk (opWord (now (words .entry)) (o .0) k) (opWord (now (words .entry)) (o .0) (k + 1)) (operandWords (now (words .entry))) ⌝ }
+{
+    range_ok(op_word(words, o, k), op_word(words, o, k + 1), operand_count(words))
+}
+
 // Are the operation's ranges within the operands, and its ids below their counts?
 fn op_ids_ok(words: &[u32], o: OpIdx) -> bool
     requires { ⌜ Sized (now words) ⌝ }
     requires { ⌜ o .0 < operations (now words) ⌝ }
     ensures { λ r. ⌜ r ≡ opIdsOk (now (words .entry)) (o .0) ⌝ }
 {
-    let n = operand_count(words);
-    if !range_ok(op_word(words, o, 1), op_word(words, o, 2), n) {
+    if !op_range_ok(words, o, 1) {
         return false;
     }
-    if !range_ok(op_word(words, o, 3), op_word(words, o, 4), n) {
+    if !op_range_ok(words, o, 3) {
         return false;
     }
     if !callee_ok(words, o) {

@@ -10,7 +10,6 @@ use crate::operation_rules::each_op_ids_ok;
 use crate::operation_rules::rule_9;
 use crate::records::block_count;
 use crate::records::function_count;
-use crate::records::init_function;
 use crate::records::local_count;
 use crate::records::main_plus_one;
 use crate::records::operand_count;
@@ -19,14 +18,14 @@ use crate::records::operation_count;
 use crate::records::target_count;
 use crate::records::targets_at;
 ghost use mathlib.Core.Path.{_≡_};
-ghost use mathlib.Core.Bool.{not};
+ghost use mathlib.Core.Bool.{not, _&&_};
 ghost use Prim.Native.Nat.{_≤_};
-ghost use lib.Dec.{eqb};
+ghost use lib.Dec.{eqb, ltb};
 ghost use lib.ListN.{length, drop};
-ghost use Rattle.plank_core.specs.Lists.{any};
-ghost use Rattle.sir_data.specs.Records.{wordCount};
-ghost use Rattle.sir_data.specs.Rules.{rule4, rule5, rule6, rule7, rule8, first, recordRules};
-ghost use Rattle.sir_data.specs.WellFormed.{Sized};
+ghost use Rattle.plank_core.specs.Lists.{all, any, upto};
+ghost use Rattle.sir_data.specs.Records.{functions, blocks, operandWords, caseTargets, locals, initFunction, mainPlusOne, wordCount, entryBlock, operand, target};
+ghost use Rattle.sir_data.specs.Rules.{rule4, rule5, rule6, rule7, rule8, optionalBelow, first, recordRules};
+ghost use Rattle.sir_data.specs.WellFormed.{Sized, InRange};
 
 // Rule 4: the edition is not 1.
 fn rule_4(words: &[u32]) -> bool
@@ -41,14 +40,34 @@ fn rule_5(words: &[u32]) -> bool
     requires { ⌜ 9 ≤ length (now words) ⌝ }
     ensures { λ r. ⌜ r ≡ rule5 (now (words .entry)) ⌝ }
 {
-    words[1] > 64
-        || words[2] > 256
-        || words[3] > 1024
-        || words[4] > 4096
-        || words[5] > 512
-        || words[6] > 512
-        || words[1] == 0
-        || words[2] == 0
+    let functions = words[1];
+    let blocks = words[2];
+    let operations = words[3];
+    let operands = words[4];
+    let targets = words[5];
+    let locals = words[6];
+    if functions > 64 {
+        return true;
+    }
+    if blocks > 256 {
+        return true;
+    }
+    if operations > 1024 {
+        return true;
+    }
+    if operands > 4096 {
+        return true;
+    }
+    if targets > 512 {
+        return true;
+    }
+    if locals > 512 {
+        return true;
+    }
+    if functions == 0 {
+        return true;
+    }
+    blocks == 0
 }
 
 // How many words the counts call for.
@@ -102,20 +121,43 @@ fn rule_7(words: &[u32]) -> bool
     !each_op_fields_ok(words)
 }
 
+// Are init and main functions, and is each function's entry a block?
+fn functions_ok(words: &[u32]) -> bool
+    requires { ⌜ Sized (now words) ⌝ }
+    ensures { λ r. ⌜ r ≡ (ltb (initFunction (now (words .entry))) (functions (now (words .entry))) && optionalBelow (mainPlusOne (now (words .entry))) (functions (now (words .entry))) && all (λ f. ltb (entryBlock (now (words .entry)) f) (blocks (now (words .entry)))) (upto (functions (now (words .entry))))) ⌝ }
+{
+    let n = function_count(words);
+    if words[7] >= n {
+        return false;
+    }
+    if !optional_below(main_plus_one(words), n) {
+        return false;
+    }
+    all_below(words, 9, n, block_count(words))
+}
+
+// Is each operand a local?
+fn operands_ok(words: &[u32]) -> bool
+    requires { ⌜ Sized (now words) ⌝ }
+    ensures { λ r. ⌜ r ≡ all (λ i. ltb (operand (now (words .entry)) i) (locals (now (words .entry)))) (upto (operandWords (now (words .entry)))) ⌝ }
+{
+    all_below(words, operands_at(words), operand_count(words), local_count(words))
+}
+
+// Is each case target a block?
+fn targets_ok(words: &[u32]) -> bool
+    requires { ⌜ Sized (now words) ⌝ }
+    ensures { λ r. ⌜ r ≡ all (λ i. ltb (target (now (words .entry)) i) (blocks (now (words .entry)))) (upto (caseTargets (now (words .entry)))) ⌝ }
+{
+    all_below(words, targets_at(words), target_count(words), block_count(words))
+}
+
 // Rule 8: a range is not within its list, or an id is not below its count.
 fn rule_8(words: &[u32]) -> bool
     requires { ⌜ Sized (now words) ⌝ }
     ensures { λ r. ⌜ r ≡ rule8 (now (words .entry)) ⌝ }
 {
-    let f = function_count(words);
-    let b = block_count(words);
-    if init_function(words).0 >= f {
-        return true;
-    }
-    if !optional_below(main_plus_one(words), f) {
-        return true;
-    }
-    if !all_below(words, 9, f, b) {
+    if !functions_ok(words) {
         return true;
     }
     if !each_block_ids_ok(words) {
@@ -124,18 +166,45 @@ fn rule_8(words: &[u32]) -> bool
     if !each_op_ids_ok(words) {
         return true;
     }
-    if !all_below(
-        words,
-        operands_at(words),
-        operand_count(words),
-        local_count(words),
-    ) {
+    if !operands_ok(words) {
         return true;
     }
-    !all_below(words, targets_at(words), target_count(words), b)
+    !targets_ok(words)
 }
 
-// 0, or the lowest number of the rules 4 to 11 that is broken. Each rule is looked at only where those before it are kept.
+// 0, or the lowest of the rules 9 to 11 that is broken, where ranges and ids are in order.
+fn check_in_range(words: &[u32]) -> u32
+    requires { ⌜ Sized (now words) ⌝ }
+    requires { ⌜ InRange (now words) ⌝ }
+    ensures { λ r. ⌜ r ≡ first (drop 5 (recordRules (now (words .entry)))) ⌝ }
+{
+    if rule_9(words) {
+        return 9;
+    }
+    if rule_10(words) {
+        return 10;
+    }
+    if rule_11(words) {
+        return 11;
+    }
+    0
+}
+
+// 0, or the lowest of the rules 7 to 11 that is broken, where the counts are in order and their words are there.
+fn check_sized(words: &[u32]) -> u32
+    requires { ⌜ Sized (now words) ⌝ }
+    ensures { λ r. ⌜ r ≡ first (drop 3 (recordRules (now (words .entry)))) ⌝ }
+{
+    if rule_7(words) {
+        return 7;
+    }
+    if rule_8(words) {
+        return 8;
+    }
+    check_in_range(words)
+}
+
+// 0, or the lowest of the rules 4 to 11 that is broken. A rule is looked at only where those before it are kept.
 pub fn check_records(words: &[u32]) -> u32
     requires { ⌜ 9 ≤ length (now words) ⌝ }
     ensures { λ r. ⌜ r ≡ first (recordRules (now (words .entry))) ⌝ }
@@ -149,20 +218,5 @@ pub fn check_records(words: &[u32]) -> u32
     if rule_6(words) {
         return 6;
     }
-    if rule_7(words) {
-        return 7;
-    }
-    if rule_8(words) {
-        return 8;
-    }
-    if rule_9(words) {
-        return 9;
-    }
-    if rule_10(words) {
-        return 10;
-    }
-    if rule_11(words) {
-        return 11;
-    }
-    0
+    check_sized(words)
 }

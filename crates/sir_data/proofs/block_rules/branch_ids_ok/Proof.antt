@@ -1,43 +1,37 @@
+-- `branch_ids_ok` meets its contract: each test in turn.
+use borrow.Author.Tests.{lt-ltb, le-ltb}
 use borrow.Author.Needs.{needs}
 use Rattle.sir_data.proofs.block_rules.branch_ids_ok.Statement.{statement}
 use Rattle.sir_data.proofs.block_rules.branch_ids_ok.Tie as tie
-use Rattle.sir_data.proofs.block_rules.branch_ids_ok.Reads as reads
-use Rattle.sir_data.proofs.block_rules.branch_ids_ok.Lts as lts
-use Rattle.sir_data.proofs.records.block_count.Reads as block-count-reads
-use Rattle.sir_data.proofs.records.block_word.Reads as block-word-reads
-use Rattle.sir_data.proofs.records.local_count.Reads as local-count-reads
 
--- src/block_rules.rt:84:8
 block-word-requires : tie.Need-block-word-requires
 block-word-requires c κs = search needs
 
--- src/block_rules.rt:84:35
 local-count-requires : tie.Need-local-count-requires
 local-count-requires c κs = search needs
 
--- src/block_rules.rt:85:9
 returns : tie.Need-returns
-returns c = ?
+returns c = rw (← c .before .before .block-word .ensures, ← c .before .local-count .ensures, le-ltb _ _ (c .if1 .taken))
 
--- src/block_rules.rt:87:9
 block-count-requires : tie.Need-block-count-requires
 block-count-requires c κs = search needs
 
--- src/block_rules.rt:88:8
 block-word-requires-2 : tie.Need-block-word-requires-2
 block-word-requires-2 c κs = search needs
 
--- src/block_rules.rt:89:9
 returns-2 : tie.Need-returns-2
-returns-2 c = ?
+returns-2 c =
+    let c1 = c .before .before .before in
+    rw (← c1 .before .before .block-word .ensures, ← c1 .before .local-count .ensures, lt-ltb _ _ (c1 .if1 .left), ← c .before .block-word2 .ensures, ← c .before .before .block-count .ensures, le-ltb _ _ (c .if2 .taken))
 
--- src/block_rules.rt:91:5
 block-word-requires-3 : tie.Need-block-word-requires-3
 block-word-requires-3 c κs = search needs
 
--- src/block_rules.rt:79:1
 returns-3 : tie.Need-returns-3
-returns-3 c = ?
+returns-3 c =
+    let c2 = c .before in
+    let c1 = c2 .before .before .before in
+    rw (← c1 .before .before .block-word .ensures, ← c1 .before .local-count .ensures, lt-ltb _ _ (c1 .if1 .left), ← c2 .before .block-word2 .ensures, ← c2 .before .before .block-count .ensures, lt-ltb _ _ (c2 .if2 .left), c .block-word3 .ensures)
 
 pub branch-ids-ok-spec : {M : Type 1} → statement M
 branch-ids-ok-spec =

@@ -1,46 +1,57 @@
+-- `zero_from` meets its contract. The loop's invariant: the fields that are left decide.
+use mathlib.Core.Path.{_≡_, refl, sym, _∙_}
+use mathlib.Core.Bool.{Bool}
+use mathlib.Core.List.{List}
+use Prim.Native.Nat.{ℕ, _-_, _≤_}
+use native.Mathlib.Omega.{arith}
+use borrow.Author.Needs.{needs}
+use lib.Dec.{eqb}
+use borrow.Author.Tests.{eq-eqb, ne-eqb}
+use Rattle.plank_core.specs.Lists.{range, all}
+use Rattle.plank_core.specs.laws.Loops.{all-step, all-stop, all-end}
+use Rattle.sir_data.specs.Records.{field}
 use Rattle.sir_data.proofs.block_rules.zero_from.Statement.{statement}
 use Rattle.sir_data.proofs.block_rules.zero_from.Tie as tie
-use Rattle.sir_data.proofs.block_rules.zero_from.Reads as reads
-use Rattle.sir_data.proofs.block_rules.zero_from.Lts as lts
-use Rattle.sir_data.proofs.records.block_word.Reads as block-word-reads
+
+-- field j is 0
+abbrev zero : List ℕ → ℕ → ℕ → Bool
+zero w b j = eqb (field w b j) 0
 
 abbrev Inv-loop : tie.InvT-loop
-Inv-loop words b k j₀ j = ?
+Inv-loop words b k j₀ j = (j ≤ 4) × (all (zero words (b .0)) (range j 4) ≡ all (zero words (b .0)) (range k 4))
 
 abbrev μ-loop : tie.MeasureT-loop
-μ-loop words b k j₀ j = ?
+μ-loop words b k j₀ j = 4 - j
 
--- src/block_rules.rt:34:5
 loop-holds : tie.Need-loop-holds Inv-loop μ-loop
-loop-holds c = ?
+loop-holds c = (omega arith, refl)
 
--- src/block_rules.rt:35:33
 add-block-word : tie.Need-add-block-word Inv-loop μ-loop
-add-block-word c = ?
+add-block-word c = omega arith
 
--- src/block_rules.rt:35:12
 block-word-requires : tie.Need-block-word-requires Inv-loop μ-loop
-block-word-requires c κs = ?
+block-word-requires c κs = search needs
 
--- src/block_rules.rt:36:13
 returns : tie.Need-returns Inv-loop μ-loop
-returns c = ?
+returns c =
+    let l = c .before .before .before .loop in
+    sym (all-stop _ (l .j) 4 (omega arith) (ne-eqb _ 0 (λ z. c .if1 .taken (c .before .block-word .ensures ∙ z)))) ∙ l .inv .1
 
--- src/block_rules.rt:38:9
 add-j : tie.Need-add-j Inv-loop μ-loop
-add-j c = ?
+add-j c = omega arith
 
--- src/block_rules.rt:34:5
 loop-less : tie.Need-loop-less Inv-loop μ-loop
-loop-less c = ?
+loop-less c = omega arith
 
--- src/block_rules.rt:34:5
 loop-again : tie.Need-loop-again Inv-loop μ-loop
-loop-again c = ?
+loop-again c =
+    let l = c .before .before .before .loop in
+    (omega arith, all-step _ (l .j) 4 (omega arith) (eq-eqb _ 0 (sym (c .before .block-word .ensures) ∙ c .if1 .left)) ∙ l .inv .1)
 
--- src/block_rules.rt:27:1
 returns-2 : tie.Need-returns-2 Inv-loop μ-loop
-returns-2 c = ?
+returns-2 c =
+    let l = c .before .loop in
+    sym (all-end _ (l .j) 4 (omega arith)) ∙ l .inv .1
 
 pub zero-from-spec : {M : Type 1} → statement M
 zero-from-spec =

@@ -1,47 +1,51 @@
+-- `each_op_fields_ok` meets its contract. The loop's invariant: the operations that are left decide.
+use mathlib.Core.Path.{_≡_, sym, _∙_}
+use Prim.Native.Nat.{_-_, _≤_}
+use native.Mathlib.Omega.{arith}
+use borrow.Author.Tests.{not-true, not-false}
+use Rattle.plank_core.specs.Lists.{upto, range, all}
+use Rattle.plank_core.specs.laws.Loops.{range-all, all-step, all-stop, all-end}
+use Rattle.sir_data.specs.Records.{operations}
+use Rattle.sir_data.specs.Rules.{opFieldsOk}
+use borrow.Author.Needs.{needs}
 use Rattle.sir_data.proofs.operation_rules.each_op_fields_ok.Statement.{statement}
 use Rattle.sir_data.proofs.operation_rules.each_op_fields_ok.Tie as tie
-use Rattle.sir_data.proofs.operation_rules.each_op_fields_ok.Reads as reads
-use Rattle.sir_data.proofs.operation_rules.each_op_fields_ok.Lts as lts
-use Rattle.sir_data.proofs.operation_rules.op_fields_ok.Reads as op-fields-ok-reads
-use Rattle.sir_data.proofs.records.operation_count.Reads as operation-count-reads
 
 abbrev Inv-loop : tie.InvT-loop
-Inv-loop words n o₀ o = ?
+Inv-loop words n o₀ o = (o ≤ operations words) × (all (opFieldsOk words) (range o (operations words)) ≡ all (opFieldsOk words) (upto (operations words)))
 
 abbrev μ-loop : tie.MeasureT-loop
-μ-loop words n o₀ o = ?
+μ-loop words n o₀ o = n - o
 
--- src/operation_rules.rt:51:9
 operation-count-requires : tie.Need-operation-count-requires Inv-loop μ-loop
-operation-count-requires c κs = ?
+operation-count-requires c κs = search needs
 
--- src/operation_rules.rt:53:5
 loop-holds : tie.Need-loop-holds Inv-loop μ-loop
-loop-holds c = ?
+loop-holds c = (omega arith, rw range-all)
 
--- src/operation_rules.rt:54:13
 op-fields-ok-requires : tie.Need-op-fields-ok-requires Inv-loop μ-loop
-op-fields-ok-requires c κs = ?
+op-fields-ok-requires c κs = search needs
 
--- src/operation_rules.rt:55:13
 returns : tie.Need-returns Inv-loop μ-loop
-returns c = ?
+returns c =
+    let l = c .before .before .before .loop in
+    sym (all-stop _ (l .o) _ (omega arith) (sym (c .before .op-fields-ok .ensures) ∙ not-true _ (c .if1 .taken))) ∙ l .inv .1
 
--- src/operation_rules.rt:57:9
 add-o : tie.Need-add-o Inv-loop μ-loop
-add-o c = ?
+add-o c = omega arith
 
--- src/operation_rules.rt:53:5
 loop-less : tie.Need-loop-less Inv-loop μ-loop
-loop-less c = ?
+loop-less c = omega arith
 
--- src/operation_rules.rt:53:5
 loop-again : tie.Need-loop-again Inv-loop μ-loop
-loop-again c = ?
+loop-again c =
+    let l = c .before .before .before .loop in
+    (omega arith, all-step _ (l .o) _ (omega arith) (sym (c .before .op-fields-ok .ensures) ∙ not-false _ (c .if1 .left)) ∙ l .inv .1)
 
--- src/operation_rules.rt:47:1
 returns-2 : tie.Need-returns-2 Inv-loop μ-loop
-returns-2 c = ?
+returns-2 c =
+    let l = c .before .loop in
+    sym (all-end _ (l .o) _ (omega arith)) ∙ l .inv .1
 
 pub each-op-fields-ok-spec : {M : Type 1} → statement M
 each-op-fields-ok-spec =

@@ -1,47 +1,51 @@
+-- `each_op_ids_ok` meets its contract. The loop's invariant: the operations that are left decide.
+use mathlib.Core.Path.{_≡_, sym, _∙_}
+use Prim.Native.Nat.{_-_, _≤_}
+use native.Mathlib.Omega.{arith}
+use borrow.Author.Tests.{not-true, not-false}
+use Rattle.plank_core.specs.Lists.{upto, range, all}
+use Rattle.plank_core.specs.laws.Loops.{range-all, all-step, all-stop, all-end}
+use Rattle.sir_data.specs.Records.{operations}
+use Rattle.sir_data.specs.Rules.{opIdsOk}
+use borrow.Author.Needs.{needs}
 use Rattle.sir_data.proofs.operation_rules.each_op_ids_ok.Statement.{statement}
 use Rattle.sir_data.proofs.operation_rules.each_op_ids_ok.Tie as tie
-use Rattle.sir_data.proofs.operation_rules.each_op_ids_ok.Reads as reads
-use Rattle.sir_data.proofs.operation_rules.each_op_ids_ok.Lts as lts
-use Rattle.sir_data.proofs.operation_rules.op_ids_ok.Reads as op-ids-ok-reads
-use Rattle.sir_data.proofs.records.operation_count.Reads as operation-count-reads
 
 abbrev Inv-loop : tie.InvT-loop
-Inv-loop words n o₀ o = ?
+Inv-loop words n o₀ o = (o ≤ operations words) × (all (opIdsOk words) (range o (operations words)) ≡ all (opIdsOk words) (upto (operations words)))
 
 abbrev μ-loop : tie.MeasureT-loop
-μ-loop words n o₀ o = ?
+μ-loop words n o₀ o = n - o
 
--- src/operation_rules.rt:111:9
 operation-count-requires : tie.Need-operation-count-requires Inv-loop μ-loop
-operation-count-requires c κs = ?
+operation-count-requires c κs = search needs
 
--- src/operation_rules.rt:113:5
 loop-holds : tie.Need-loop-holds Inv-loop μ-loop
-loop-holds c = ?
+loop-holds c = (omega arith, rw range-all)
 
--- src/operation_rules.rt:114:13
 op-ids-ok-requires : tie.Need-op-ids-ok-requires Inv-loop μ-loop
-op-ids-ok-requires c κs = ?
+op-ids-ok-requires c κs = search needs
 
--- src/operation_rules.rt:115:13
 returns : tie.Need-returns Inv-loop μ-loop
-returns c = ?
+returns c =
+    let l = c .before .before .before .loop in
+    sym (all-stop _ (l .o) _ (omega arith) (sym (c .before .op-ids-ok .ensures) ∙ not-true _ (c .if1 .taken))) ∙ l .inv .1
 
--- src/operation_rules.rt:117:9
 add-o : tie.Need-add-o Inv-loop μ-loop
-add-o c = ?
+add-o c = omega arith
 
--- src/operation_rules.rt:113:5
 loop-less : tie.Need-loop-less Inv-loop μ-loop
-loop-less c = ?
+loop-less c = omega arith
 
--- src/operation_rules.rt:113:5
 loop-again : tie.Need-loop-again Inv-loop μ-loop
-loop-again c = ?
+loop-again c =
+    let l = c .before .before .before .loop in
+    (omega arith, all-step _ (l .o) _ (omega arith) (sym (c .before .op-ids-ok .ensures) ∙ not-false _ (c .if1 .left)) ∙ l .inv .1)
 
--- src/operation_rules.rt:107:1
 returns-2 : tie.Need-returns-2 Inv-loop μ-loop
-returns-2 c = ?
+returns-2 c =
+    let l = c .before .loop in
+    sym (all-end _ (l .o) _ (omega arith)) ∙ l .inv .1
 
 pub each-op-ids-ok-spec : {M : Type 1} → statement M
 each-op-ids-ok-spec =

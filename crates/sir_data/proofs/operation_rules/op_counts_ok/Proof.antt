@@ -1,32 +1,25 @@
+-- `op_counts_ok` meets its contract: a run is as long as the part of the words that it is.
+use mathlib.Core.Path.{_∙_}
 use borrow.Author.Needs.{needs}
 use Rattle.sir_data.proofs.operation_rules.op_counts_ok.Statement.{statement}
 use Rattle.sir_data.proofs.operation_rules.op_counts_ok.Tie as tie
-use Rattle.sir_data.proofs.operation_rules.op_counts_ok.Reads as reads
-use Rattle.sir_data.proofs.operation_rules.op_counts_ok.Lts as lts
-use Rattle.sir_data.proofs.codes.operand_counts_right.Reads as operand-counts-right-reads
-use Rattle.sir_data.proofs.records.op_inputs.Reads as op-inputs-reads
-use Rattle.sir_data.proofs.records.op_outputs.Reads as op-outputs-reads
-use Rattle.sir_data.proofs.records.op_word.Reads as op-word-reads
 
--- src/operation_rules.rt:129:9
 op-inputs-requires : tie.Need-op-inputs-requires
 op-inputs-requires c κs = search needs
 
--- src/operation_rules.rt:130:9
 op-outputs-requires : tie.Need-op-outputs-requires
 op-outputs-requires c κs = search needs
 
--- src/operation_rules.rt:131:26
 op-word-requires : tie.Need-op-word-requires
 op-word-requires c κs = search needs
 
--- src/operation_rules.rt:131:5
 operand-counts-right-requires : tie.Need-operand-counts-right-requires
-operand-counts-right-requires c κs = ?
+operand-counts-right-requires c κs =
+    let start = c .before .before .before .before in
+    rw (c .op-word .ensures) (start .pre .1 .0 .code-most (start .args .o .0) (start .pre .1 .1))
 
--- src/operation_rules.rt:123:1
 returns : tie.Need-returns
-returns c = ?
+returns c = c .operand-counts-right .ensures ∙ rw (c .before .op-word .ensures, c .before .before .op-outputs .ensures, c .before .before .before .op-inputs .ensures)
 
 pub op-counts-ok-spec : {M : Type 1} → statement M
 op-counts-ok-spec =

@@ -1,60 +1,75 @@
+-- `rule_5` meets its contract: each test in turn.
+use borrow.Author.Tests.{lt-ltb, le-ltb, eq-eqb, ne-eqb}
+use Rattle.sir_data.specs.Rules.{rule5}
 use borrow.Author.Needs.{needs}
 use Rattle.sir_data.proofs.rules.rule_5.Statement.{statement}
 use Rattle.sir_data.proofs.rules.rule_5.Tie as tie
-use Rattle.sir_data.proofs.rules.rule_5.Reads as reads
-use Rattle.sir_data.proofs.rules.rule_5.Lts as lts
 
--- src/rules.rt:44:5
-shared-slice-read-if1 : tie.Need-shared-slice-read-if1
-shared-slice-read-if1 c = search needs
+shared-slice-read-functions : tie.Need-shared-slice-read-functions
+shared-slice-read-functions c = search needs
 
--- src/rules.rt:45:12
-shared-slice-read-if2 : tie.Need-shared-slice-read-if2
-shared-slice-read-if2 c = search needs
+shared-slice-read-blocks : tie.Need-shared-slice-read-blocks
+shared-slice-read-blocks c = search needs
 
--- src/rules.rt:46:12
-shared-slice-read-if3 : tie.Need-shared-slice-read-if3
-shared-slice-read-if3 c = search needs
+shared-slice-read-operations : tie.Need-shared-slice-read-operations
+shared-slice-read-operations c = search needs
 
--- src/rules.rt:47:12
-shared-slice-read-if4 : tie.Need-shared-slice-read-if4
-shared-slice-read-if4 c = search needs
+shared-slice-read-operands : tie.Need-shared-slice-read-operands
+shared-slice-read-operands c = search needs
 
--- src/rules.rt:48:12
-shared-slice-read-if5 : tie.Need-shared-slice-read-if5
-shared-slice-read-if5 c = search needs
+shared-slice-read-targets : tie.Need-shared-slice-read-targets
+shared-slice-read-targets c = search needs
 
--- src/rules.rt:49:12
-shared-slice-read-if6 : tie.Need-shared-slice-read-if6
-shared-slice-read-if6 c = search needs
+shared-slice-read-locals : tie.Need-shared-slice-read-locals
+shared-slice-read-locals c = search needs
 
--- src/rules.rt:50:12
-shared-slice-read-if7 : tie.Need-shared-slice-read-if7
-shared-slice-read-if7 c = search needs
-
--- src/rules.rt:51:12
-shared-slice-read-result : tie.Need-shared-slice-read-result
-shared-slice-read-result c = search needs
-
--- src/rules.rt:40:1
 returns : tie.Need-returns
-returns c = ?
+unfolding rule5
+returns c = simp (lt-ltb 64 _ (c .if1 .taken))
 
--- src/rules.rt:40:1
 returns-2 : tie.Need-returns-2
-returns-2 c = ?
+unfolding rule5
+returns-2 c = simp (le-ltb 64 _ (c .before .if1 .left), lt-ltb 256 _ (c .if2 .taken))
+
+returns-3 : tie.Need-returns-3
+unfolding rule5
+returns-3 c = simp (le-ltb 64 _ (c .before .before .if1 .left), le-ltb 256 _ (c .before .if2 .left), lt-ltb 1024 _ (c .if3 .taken))
+
+returns-4 : tie.Need-returns-4
+unfolding rule5
+returns-4 c = simp (le-ltb 64 _ (c .before .before .before .if1 .left), le-ltb 256 _ (c .before .before .if2 .left), le-ltb 1024 _ (c .before .if3 .left), lt-ltb 4096 _ (c .if4 .taken))
+
+returns-5 : tie.Need-returns-5
+unfolding rule5
+returns-5 c = simp (le-ltb 64 _ (c .before .before .before .before .if1 .left), le-ltb 256 _ (c .before .before .before .if2 .left), le-ltb 1024 _ (c .before .before .if3 .left), le-ltb 4096 _ (c .before .if4 .left), lt-ltb 512 _ (c .if5 .taken))
+
+returns-6 : tie.Need-returns-6
+unfolding rule5
+returns-6 c = simp (le-ltb 64 _ (c .before .before .before .before .before .if1 .left), le-ltb 256 _ (c .before .before .before .before .if2 .left), le-ltb 1024 _ (c .before .before .before .if3 .left), le-ltb 4096 _ (c .before .before .if4 .left), le-ltb 512 _ (c .before .if5 .left), lt-ltb 512 _ (c .if6 .taken))
+
+returns-7 : tie.Need-returns-7
+unfolding rule5
+returns-7 c = simp (le-ltb 64 _ (c .before .before .before .before .before .before .if1 .left), le-ltb 256 _ (c .before .before .before .before .before .if2 .left), le-ltb 1024 _ (c .before .before .before .before .if3 .left), le-ltb 4096 _ (c .before .before .before .if4 .left), le-ltb 512 _ (c .before .before .if5 .left), le-ltb 512 _ (c .before .if6 .left), eq-eqb _ 0 (c .if7 .taken))
+
+returns-8 : tie.Need-returns-8
+unfolding rule5
+returns-8 c = simp (le-ltb 64 _ (c .before .before .before .before .before .before .if1 .left), le-ltb 256 _ (c .before .before .before .before .before .if2 .left), le-ltb 1024 _ (c .before .before .before .before .if3 .left), le-ltb 4096 _ (c .before .before .before .if4 .left), le-ltb 512 _ (c .before .before .if5 .left), le-ltb 512 _ (c .before .if6 .left), ne-eqb _ 0 (c .if7 .left))
 
 pub rule-5-spec : {M : Type 1} → statement M
 rule-5-spec =
     tie.close
     (tie.spec
-    shared-slice-read-if1
-    shared-slice-read-if2
-    shared-slice-read-if3
-    shared-slice-read-if4
-    shared-slice-read-if5
-    shared-slice-read-if6
-    shared-slice-read-if7
-    shared-slice-read-result
+    shared-slice-read-functions
+    shared-slice-read-blocks
+    shared-slice-read-operations
+    shared-slice-read-operands
+    shared-slice-read-targets
+    shared-slice-read-locals
     returns
-    returns-2)
+    returns-2
+    returns-3
+    returns-4
+    returns-5
+    returns-6
+    returns-7
+    returns-8)
