@@ -1,57 +1,80 @@
+-- `edges_ok` meets its contract. The loop's invariant: the successors that are left decide.
+use mathlib.Core.Path.{_≡_, refl, sym, ap, _∙_}
+use mathlib.Core.Bool.{Bool}
+use mathlib.Core.List.{List}
+use Prim.Native.Nat.{ℕ, _-_, _≤_, _<_}
+use native.Mathlib.Omega.{arith}
+use borrow.Author.Needs.{needs}
+use lib.ListN.{length, getD, drop}
+use lib.Dec.{eqb}
+use borrow.Author.Tests.{eq-eqb, ne-eqb}
+use Rattle.plank_core.specs.Lists.{all}
+use Rattle.plank_core.specs.laws.Lists.{getD-mem}
+use Rattle.plank_core.specs.laws.Loops.{all-drop-step, all-drop-stop, all-drop-end}
+use Rattle.sir_data.specs.Records.{inputs, outputs, successors}
 use Rattle.sir_data.proofs.block_rules.edges_ok.Statement.{statement}
 use Rattle.sir_data.proofs.block_rules.edges_ok.Tie as tie
-use Rattle.sir_data.proofs.block_rules.edges_ok.Reads as reads
-use Rattle.sir_data.proofs.block_rules.edges_ok.Lts as lts
-use Rattle.sir_data.proofs.records.block_inputs.Reads as block-inputs-reads
-use Rattle.sir_data.proofs.records.block_outputs.Reads as block-outputs-reads
-use Rattle.sir_data.proofs.records.successor.Reads as successor-reads
-use Rattle.sir_data.proofs.records.successor_count.Reads as successor-count-reads
+
+-- over an edge from block b to block s the lengths are equal
+abbrev same : List ℕ → ℕ → ℕ → Bool
+same w b s = eqb (length (outputs w b)) (length (inputs w s))
 
 abbrev Inv-loop : tie.InvT-loop
-Inv-loop words b passed n i₀ i = ?
+Inv-loop words b passed n i₀ i = (i ≤ length (successors words (b .0))) × (all (same words (b .0)) (drop i (successors words (b .0))) ≡ all (same words (b .0)) (successors words (b .0)))
 
 abbrev μ-loop : tie.MeasureT-loop
-μ-loop words b passed n i₀ i = ?
+μ-loop words b passed n i₀ i = n - i
 
--- src/block_rules.rt:176:9
 block-outputs-requires : tie.Need-block-outputs-requires Inv-loop μ-loop
-block-outputs-requires c κs = ?
+block-outputs-requires c κs = search needs
 
--- src/block_rules.rt:178:9
 successor-count-requires : tie.Need-successor-count-requires Inv-loop μ-loop
-successor-count-requires c κs = ?
+successor-count-requires c κs = search needs
 
--- src/block_rules.rt:180:5
 loop-holds : tie.Need-loop-holds Inv-loop μ-loop
-loop-holds c = ?
+loop-holds c = (omega arith, refl)
 
--- src/block_rules.rt:181:42
 successor-requires : tie.Need-successor-requires Inv-loop μ-loop
-successor-requires c κs = ?
+successor-requires c κs =
+    let start = c .before .before .before .before .before in
+    (start .pre .0, (start .pre .1 .0, (start .pre .1 .1, omega arith)))
 
--- src/block_rules.rt:181:13
 block-inputs-requires : tie.Need-block-inputs-requires Inv-loop μ-loop
-block-inputs-requires c κs = ?
+block-inputs-requires c κs =
+    let start = c .before .before .before .before .before .before in
+    let w = start .args .words .now in
+    let b = start .args .b .0 in
+    let inside = start .pre .1 .0 .successor b _ (start .pre .1 .1) (getD-mem (successors w b) (c .before .before .loop .i) (omega arith)) in
+    (start .pre .0, (start .pre .1 .0, rw (c .successor .ensures) inside))
 
--- src/block_rules.rt:183:13
+-- the test of a turn is that of the next edge
+edge : (c : tie.After-block-inputs Inv-loop μ-loop)
+    → let start = c .before .before .before .before .before .before .before in
+    let w = start .args .words .now in
+    let b = start .args .b .0 in
+    same w b (getD (successors w b) (c .before .before .before .loop .i) 0) ≡ eqb (length (c .before .before .before .before .before .block-outputs .result .now)) (length (c .block-inputs .result .now))
+edge c = rw (c .before .before .before .before .before .block-outputs .ensures, c .block-inputs .ensures, c .before .successor .ensures)
+
 returns : tie.Need-returns Inv-loop μ-loop
-returns c = ?
+returns c =
+    let l = c .before .before .before .before .loop in
+    sym (all-drop-stop _ (l .i) _ (omega arith) (edge (c .before) ∙ ne-eqb _ _ (c .if1 .taken))) ∙ l .inv .1
 
--- src/block_rules.rt:185:9
 add-i : tie.Need-add-i Inv-loop μ-loop
-add-i c = ?
+add-i c = omega arith
 
--- src/block_rules.rt:180:5
 loop-less : tie.Need-loop-less Inv-loop μ-loop
-loop-less c = ?
+loop-less c = omega arith
 
--- src/block_rules.rt:180:5
 loop-again : tie.Need-loop-again Inv-loop μ-loop
-loop-again c = ?
+loop-again c =
+    let l = c .before .before .before .before .loop in
+    (omega arith, all-drop-step _ (l .i) _ (omega arith) (edge (c .before) ∙ eq-eqb _ _ (c .if1 .left)) ∙ l .inv .1)
 
--- src/block_rules.rt:170:1
 returns-2 : tie.Need-returns-2 Inv-loop μ-loop
-returns-2 c = ?
+returns-2 c =
+    let l = c .before .loop in
+    sym (all-drop-end _ (l .i) _ (omega arith)) ∙ l .inv .1
 
 pub edges-ok-spec : {M : Type 1} → statement M
 edges-ok-spec =

@@ -1,47 +1,61 @@
+-- `rule_10` meets its contract. The loop's invariant: the blocks that are left decide.
+use mathlib.Core.Path.{_≡_, sym, ap, _∙_}
+use mathlib.Core.Bool.{Bool, not}
+use mathlib.Core.List.{List}
+use Prim.Native.Nat.{ℕ, _-_, _≤_}
+use native.Mathlib.Omega.{arith}
+use borrow.Author.Needs.{needs}
+use lib.ListN.{length}
+use lib.Dec.{eqb}
+use borrow.Author.Tests.{not-true, not-false}
+use Rattle.plank_core.specs.Lists.{upto, range, all}
+use Rattle.plank_core.specs.laws.Loops.{range-all, all-step, all-stop, all-end}
+use Rattle.sir_data.specs.Records.{blocks, inputs, outputs, successors}
+use Rattle.sir_data.specs.Rules.{rule10}
 use Rattle.sir_data.proofs.block_rules.rule_10.Statement.{statement}
 use Rattle.sir_data.proofs.block_rules.rule_10.Tie as tie
-use Rattle.sir_data.proofs.block_rules.rule_10.Reads as reads
-use Rattle.sir_data.proofs.block_rules.rule_10.Lts as lts
-use Rattle.sir_data.proofs.block_rules.edges_ok.Reads as edges-ok-reads
-use Rattle.sir_data.proofs.records.block_count.Reads as block-count-reads
+
+-- the lengths over the edges out of block b are equal
+abbrev passed : List ℕ → ℕ → Bool
+passed w b = all (λ s. eqb (length (outputs w b)) (length (inputs w s))) (successors w b)
 
 abbrev Inv-loop : tie.InvT-loop
-Inv-loop words n b₀ b = ?
+Inv-loop words n b₀ b = (b ≤ blocks words) × (all (passed words) (range b (blocks words)) ≡ all (passed words) (upto (blocks words)))
 
 abbrev μ-loop : tie.MeasureT-loop
-μ-loop words n b₀ b = ?
+μ-loop words n b₀ b = n - b
 
--- src/block_rules.rt:202:9
 block-count-requires : tie.Need-block-count-requires Inv-loop μ-loop
-block-count-requires c κs = ?
+block-count-requires c κs = search needs
 
--- src/block_rules.rt:204:5
 loop-holds : tie.Need-loop-holds Inv-loop μ-loop
-loop-holds c = ?
+loop-holds c = (omega arith, rw range-all)
 
--- src/block_rules.rt:205:13
 edges-ok-requires : tie.Need-edges-ok-requires Inv-loop μ-loop
-edges-ok-requires c κs = ?
+edges-ok-requires c κs = search needs
 
--- src/block_rules.rt:206:13
 returns : tie.Need-returns Inv-loop μ-loop
-returns c = ?
+unfolding rule10
+returns c =
+    let l = c .before .before .before .loop in
+    ap not (sym (all-stop _ (l .b) _ (omega arith) (sym (c .before .edges-ok .ensures) ∙ not-true _ (c .if1 .taken))) ∙ l .inv .1)
 
--- src/block_rules.rt:208:9
 add-b : tie.Need-add-b Inv-loop μ-loop
-add-b c = ?
+add-b c = omega arith
 
--- src/block_rules.rt:204:5
 loop-less : tie.Need-loop-less Inv-loop μ-loop
-loop-less c = ?
+loop-less c = omega arith
 
--- src/block_rules.rt:204:5
 loop-again : tie.Need-loop-again Inv-loop μ-loop
-loop-again c = ?
+loop-again c =
+    let l = c .before .before .before .loop in
+    (omega arith, all-step _ (l .b) _ (omega arith) (sym (c .before .edges-ok .ensures) ∙ not-false _ (c .if1 .left)) ∙ l .inv .1)
 
--- src/block_rules.rt:197:1
 returns-2 : tie.Need-returns-2 Inv-loop μ-loop
-returns-2 c = ?
+unfolding rule10
+returns-2 c =
+    let l = c .before .loop in
+    ap not (sym (all-end _ (l .b) _ (omega arith)) ∙ l .inv .1)
 
 pub rule-10-spec : {M : Type 1} → statement M
 rule-10-spec =

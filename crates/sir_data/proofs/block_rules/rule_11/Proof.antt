@@ -1,52 +1,65 @@
+-- `rule_11` meets its contract. The loop's invariant: the blocks that are left decide.
+use mathlib.Core.Path.{_≡_, sym, ap, _∙_}
+use mathlib.Core.Bool.{Bool, not}
+use mathlib.Core.List.{List}
+use Prim.Native.Nat.{ℕ, _-_, _≤_}
+use native.Mathlib.Omega.{arith}
+use borrow.Author.Needs.{needs}
+use borrow.Author.Tests.{not-true, not-false}
+use Rattle.plank_core.specs.Lists.{upto, range, all, distinct}
+use Rattle.plank_core.specs.laws.Loops.{range-all, all-step, all-stop, all-end}
+use Rattle.sir_data.specs.Records.{blocks, inputs}
+use Rattle.sir_data.specs.Rules.{rule11}
 use Rattle.sir_data.proofs.block_rules.rule_11.Statement.{statement}
 use Rattle.sir_data.proofs.block_rules.rule_11.Tie as tie
-use Rattle.sir_data.proofs.block_rules.rule_11.Reads as reads
-use Rattle.sir_data.proofs.block_rules.rule_11.Lts as lts
-use Rattle.sir_data.proofs.block_rules.all_distinct.Reads as all-distinct-reads
-use Rattle.sir_data.proofs.records.block_count.Reads as block-count-reads
-use Rattle.sir_data.proofs.records.block_inputs.Reads as block-inputs-reads
+
+-- no local is twice among the inputs of block b
+abbrev once : List ℕ → ℕ → Bool
+once w b = distinct (inputs w b)
 
 abbrev Inv-loop : tie.InvT-loop
-Inv-loop words n b₀ b = ?
+Inv-loop words n b₀ b = (b ≤ blocks words) × (all (once words) (range b (blocks words)) ≡ all (once words) (upto (blocks words)))
 
 abbrev μ-loop : tie.MeasureT-loop
-μ-loop words n b₀ b = ?
+μ-loop words n b₀ b = n - b
 
--- src/block_rules.rt:235:9
 block-count-requires : tie.Need-block-count-requires Inv-loop μ-loop
-block-count-requires c κs = ?
+block-count-requires c κs = search needs
 
--- src/block_rules.rt:237:5
 loop-holds : tie.Need-loop-holds Inv-loop μ-loop
-loop-holds c = ?
+loop-holds c = (omega arith, rw range-all)
 
--- src/block_rules.rt:238:26
 block-inputs-requires : tie.Need-block-inputs-requires Inv-loop μ-loop
-block-inputs-requires c κs = ?
+block-inputs-requires c κs = search needs
 
--- src/block_rules.rt:238:13
 all-distinct-requires : tie.Need-all-distinct-requires Inv-loop μ-loop
-all-distinct-requires c κs = ?
+all-distinct-requires c κs =
+    let start = c .before .before .before .before .before in
+    let b = c .before .before .loop .b in
+    rw (c .block-inputs .ensures) (λ v m. omega (arith, start .pre .1 .input b v (omega arith) m))
 
--- src/block_rules.rt:239:13
 returns : tie.Need-returns Inv-loop μ-loop
-returns c = ?
+unfolding rule11
+returns c =
+    let l = c .before .before .before .before .loop in
+    ap not (sym (all-stop _ (l .b) _ (omega arith) (sym (c .before .all-distinct .ensures ∙ ap distinct (c .before .before .block-inputs .ensures)) ∙ not-true _ (c .if1 .taken))) ∙ l .inv .1)
 
--- src/block_rules.rt:241:9
 add-b : tie.Need-add-b Inv-loop μ-loop
-add-b c = ?
+add-b c = omega arith
 
--- src/block_rules.rt:237:5
 loop-less : tie.Need-loop-less Inv-loop μ-loop
-loop-less c = ?
+loop-less c = omega arith
 
--- src/block_rules.rt:237:5
 loop-again : tie.Need-loop-again Inv-loop μ-loop
-loop-again c = ?
+loop-again c =
+    let l = c .before .before .before .before .loop in
+    (omega arith, all-step _ (l .b) _ (omega arith) (sym (c .before .all-distinct .ensures ∙ ap distinct (c .before .before .block-inputs .ensures)) ∙ not-false _ (c .if1 .left)) ∙ l .inv .1)
 
--- src/block_rules.rt:230:1
 returns-2 : tie.Need-returns-2 Inv-loop μ-loop
-returns-2 c = ?
+unfolding rule11
+returns-2 c =
+    let l = c .before .loop in
+    ap not (sym (all-end _ (l .b) _ (omega arith)) ∙ l .inv .1)
 
 pub rule-11-spec : {M : Type 1} → statement M
 rule-11-spec =

@@ -4,12 +4,12 @@ use mathlib.Core.Bool.{Bool}
 use mathlib.Core.List.{List}
 use Prim.Native.Nat.{ℕ, _-_, _≤_}
 use native.Mathlib.Omega.{arith}
-use borrow.Author.Needs.{needs}
 use lib.Dec.{eqb}
 use borrow.Author.Tests.{eq-eqb, ne-eqb}
 use Rattle.plank_core.specs.Lists.{range, all}
 use Rattle.plank_core.specs.laws.Loops.{all-step, all-stop, all-end}
 use Rattle.sir_data.specs.Records.{field}
+use borrow.Author.Needs.{needs}
 use Rattle.sir_data.proofs.block_rules.zero_from.Statement.{statement}
 use Rattle.sir_data.proofs.block_rules.zero_from.Tie as tie
 

@@ -1,4 +1,6 @@
--- `functions_ok` meets its contract: each test in turn.
+-- `functions_ok` meets its contract: a test that fails decides, and the last where the others hold.
+use mathlib.Core.Path.{sym, _∙_}
+use mathlib.Core.Bool.{and-false}
 use borrow.Author.Tests.{lt-ltb, le-ltb, not-true, not-false}
 use borrow.Author.Needs.{needs}
 use Rattle.sir_data.proofs.rules.functions_ok.Statement.{statement}
@@ -20,9 +22,7 @@ optional-below-requires : tie.Need-optional-below-requires
 optional-below-requires c κs = search needs
 
 returns-2 : tie.Need-returns-2
-returns-2 c =
-    let c1 = c .before .before .before in
-    rw (← c1 .before .before .function-count .ensures, lt-ltb _ _ (c1 .if1 .left), ← c .before .before .main-plus-one .ensures, ← c .before .optional-below .ensures, not-true _ (c .if2 .taken))
+returns-2 c = rw (← c .before .before .before .before .before .function-count .ensures, ← c .before .before .main-plus-one .ensures, sym (c .before .optional-below .ensures) ∙ not-true _ (c .if2 .taken), and-false)
 
 block-count-requires : tie.Need-block-count-requires
 block-count-requires c κs = search needs
@@ -34,7 +34,7 @@ returns-3 : tie.Need-returns-3
 returns-3 c =
     let c2 = c .before .before in
     let c1 = c2 .before .before .before in
-    simp (← c1 .before .before .function-count .ensures, lt-ltb _ _ (c1 .if1 .left), ← c2 .before .before .main-plus-one .ensures, ← c2 .before .optional-below .ensures, not-false _ (c2 .if2 .left), ← c .before .block-count .ensures) (c .all-below .ensures)
+    simp (← c1 .before .before .function-count .ensures, lt-ltb _ _ (c1 .if1 .left), ← c2 .before .before .main-plus-one .ensures, sym (c2 .before .optional-below .ensures) ∙ not-false _ (c2 .if2 .left), ← c .before .block-count .ensures) (c .all-below .ensures)
 
 pub functions-ok-spec : {M : Type 1} → statement M
 functions-ok-spec =

@@ -1,4 +1,5 @@
--- `rule_5` meets its contract: each test in turn.
+-- `rule_5` meets its contract: a test that holds decides, and the last where the others fail.
+use mathlib.Core.Bool.{or-true}
 use borrow.Author.Tests.{lt-ltb, le-ltb, eq-eqb, ne-eqb}
 use Rattle.sir_data.specs.Rules.{rule5}
 use borrow.Author.Needs.{needs}
@@ -25,35 +26,35 @@ shared-slice-read-locals c = search needs
 
 returns : tie.Need-returns
 unfolding rule5
-returns c = simp (lt-ltb 64 _ (c .if1 .taken))
+returns c = rw (lt-ltb 64 _ (c .if1 .taken))
 
 returns-2 : tie.Need-returns-2
 unfolding rule5
-returns-2 c = simp (le-ltb 64 _ (c .before .if1 .left), lt-ltb 256 _ (c .if2 .taken))
+returns-2 c = rw (lt-ltb 256 _ (c .if2 .taken), or-true)
 
 returns-3 : tie.Need-returns-3
 unfolding rule5
-returns-3 c = simp (le-ltb 64 _ (c .before .before .if1 .left), le-ltb 256 _ (c .before .if2 .left), lt-ltb 1024 _ (c .if3 .taken))
+returns-3 c = rw (lt-ltb 1024 _ (c .if3 .taken), or-true)
 
 returns-4 : tie.Need-returns-4
 unfolding rule5
-returns-4 c = simp (le-ltb 64 _ (c .before .before .before .if1 .left), le-ltb 256 _ (c .before .before .if2 .left), le-ltb 1024 _ (c .before .if3 .left), lt-ltb 4096 _ (c .if4 .taken))
+returns-4 c = rw (lt-ltb 4096 _ (c .if4 .taken), or-true)
 
 returns-5 : tie.Need-returns-5
 unfolding rule5
-returns-5 c = simp (le-ltb 64 _ (c .before .before .before .before .if1 .left), le-ltb 256 _ (c .before .before .before .if2 .left), le-ltb 1024 _ (c .before .before .if3 .left), le-ltb 4096 _ (c .before .if4 .left), lt-ltb 512 _ (c .if5 .taken))
+returns-5 c = rw (lt-ltb 512 _ (c .if5 .taken), or-true)
 
 returns-6 : tie.Need-returns-6
 unfolding rule5
-returns-6 c = simp (le-ltb 64 _ (c .before .before .before .before .before .if1 .left), le-ltb 256 _ (c .before .before .before .before .if2 .left), le-ltb 1024 _ (c .before .before .before .if3 .left), le-ltb 4096 _ (c .before .before .if4 .left), le-ltb 512 _ (c .before .if5 .left), lt-ltb 512 _ (c .if6 .taken))
+returns-6 c = rw (lt-ltb 512 _ (c .if6 .taken), or-true)
 
 returns-7 : tie.Need-returns-7
 unfolding rule5
-returns-7 c = simp (le-ltb 64 _ (c .before .before .before .before .before .before .if1 .left), le-ltb 256 _ (c .before .before .before .before .before .if2 .left), le-ltb 1024 _ (c .before .before .before .before .if3 .left), le-ltb 4096 _ (c .before .before .before .if4 .left), le-ltb 512 _ (c .before .before .if5 .left), le-ltb 512 _ (c .before .if6 .left), eq-eqb _ 0 (c .if7 .taken))
+returns-7 c = rw (eq-eqb _ 0 (c .if7 .taken), or-true)
 
 returns-8 : tie.Need-returns-8
 unfolding rule5
-returns-8 c = simp (le-ltb 64 _ (c .before .before .before .before .before .before .if1 .left), le-ltb 256 _ (c .before .before .before .before .before .if2 .left), le-ltb 1024 _ (c .before .before .before .before .if3 .left), le-ltb 4096 _ (c .before .before .before .if4 .left), le-ltb 512 _ (c .before .before .if5 .left), le-ltb 512 _ (c .before .if6 .left), ne-eqb _ 0 (c .if7 .left))
+returns-8 c = rw (le-ltb 64 _ (c .before .before .before .before .before .before .if1 .left), le-ltb 256 _ (c .before .before .before .before .before .if2 .left), le-ltb 1024 _ (c .before .before .before .before .if3 .left), le-ltb 4096 _ (c .before .before .before .if4 .left), le-ltb 512 _ (c .before .before .if5 .left), le-ltb 512 _ (c .before .if6 .left), ne-eqb _ 0 (c .if7 .left))
 
 pub rule-5-spec : {M : Type 1} → statement M
 rule-5-spec =

@@ -11,14 +11,14 @@ each-block-fields-ok-requires c κs = search needs
 
 returns : tie.Need-returns
 unfolding rule7
-returns c = simp (sym (c .before .each-block-fields-ok .ensures) ∙ not-true _ (c .if1 .taken))
+returns c = rw (sym (c .before .each-block-fields-ok .ensures) ∙ not-true _ (c .if1 .taken))
 
 each-op-fields-ok-requires : tie.Need-each-op-fields-ok-requires
 each-op-fields-ok-requires c κs = search needs
 
 returns-2 : tie.Need-returns-2
 unfolding rule7
-returns-2 c = simp (sym (c .before .before .each-block-fields-ok .ensures) ∙ not-false _ (c .before .if1 .left), ← c .each-op-fields-ok .ensures)
+returns-2 c = rw (sym (c .before .before .each-block-fields-ok .ensures) ∙ not-false _ (c .before .if1 .left), c .each-op-fields-ok .ensures)
 
 pub rule-7-spec : {M : Type 1} → statement M
 rule-7-spec =
