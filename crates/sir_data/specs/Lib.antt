@@ -4,5 +4,6 @@ pub mod Cases
 pub mod Codes
 pub mod Rules
 pub mod WellFormed
+pub mod Image
 pub mod Examples
 pub mod laws

@@ -91,7 +91,11 @@ fn op_range_ok(words: &[u32], o: OpIdx, k: usize) -> bool
     requires { ⌜ k < 6 ⌝ }
     ensures { λ r. ⌜ r ≡ rangeOk (opWord (now (words .entry)) (o .0) k) (opWord (now (words .entry)) (o .0) (k + 1)) (operandWords (now (words .entry))) ⌝ }
 {
-    range_ok(op_word(words, o, k), op_word(words, o, k + 1), operand_count(words))
+    range_ok(
+        op_word(words, o, k),
+        op_word(words, o, k + 1),
+        operand_count(words),
+    )
 }
 
 // Are the operation's ranges within the operands, and its ids below their counts?

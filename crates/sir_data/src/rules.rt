@@ -141,7 +141,12 @@ fn operands_ok(words: &[u32]) -> bool
     requires { ⌜ Sized (now words) ⌝ }
     ensures { λ r. ⌜ r ≡ all (λ i. ltb (operand (now (words .entry)) i) (locals (now (words .entry)))) (upto (operandWords (now (words .entry)))) ⌝ }
 {
-    all_below(words, operands_at(words), operand_count(words), local_count(words))
+    all_below(
+        words,
+        operands_at(words),
+        operand_count(words),
+        local_count(words),
+    )
 }
 
 // Is each case target a block?
@@ -149,7 +154,12 @@ fn targets_ok(words: &[u32]) -> bool
     requires { ⌜ Sized (now words) ⌝ }
     ensures { λ r. ⌜ r ≡ all (λ i. ltb (target (now (words .entry)) i) (blocks (now (words .entry)))) (upto (caseTargets (now (words .entry)))) ⌝ }
 {
-    all_below(words, targets_at(words), target_count(words), block_count(words))
+    all_below(
+        words,
+        targets_at(words),
+        target_count(words),
+        block_count(words),
+    )
 }
 
 // Rule 8: a range is not within its list, or an id is not below its count.

@@ -22,8 +22,22 @@ low-kind (suc (suc k)) h = absurd (omega arith)
 pub high-kind : (k : ℕ) → 2 ≤ k → (eqb k 0 || eqb k 1) ≡ false
 high-kind k h = rw (ne-eqb k 0 (λ e. omega arith), ne-eqb k 1 (λ e. omega arith))
 
--- ---- the first rule that is broken, of some rules and others after them
+-- ---- the first rule that is broken
 
+-- no rule is broken
+abbrev pub Kept : List (ℕ × Bool) → Type 0
+Kept [] = Unit {0}
+Kept (r ∷ rs) = 0 < r .0 → (r .1 ≡ false) × Kept rs
+
+pub keeps : (rs : List (ℕ × Bool)) → first rs ≡ 0 → Kept rs
+keeps [] h = tt
+keeps (r ∷ rs) h = go (r .1) refl (keeps rs)
+  where
+    go : (t : Bool) → r .1 ≡ t → (first rs ≡ 0 → Kept rs) → Kept (r ∷ rs)
+    go true e rest = let z : r .0 ≡ 0 = rw e at h in λ l. absurd (omega arith)
+    go false e rest = λ l. (e, rest (rw e at h))
+
+-- of some rules and others after them
 abbrev Numbered : List (ℕ × Bool) → Type 0
 Numbered [] = Unit {0}
 Numbered (r ∷ rs) = (0 < r .0) × Numbered rs
