@@ -4,3 +4,4 @@ pub mod Table
 pub mod Bits
 pub mod DenseIndexSet
 pub mod Members
+pub mod Distinct

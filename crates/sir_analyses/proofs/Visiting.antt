@@ -11,6 +11,7 @@ use lib.Seq.{drop-cons}
 use lib.Dec.{eqb, leb}
 use borrow.Author.Tests.{eqb-true, eqb-false, eq-eqb, ne-eqb, le-leb, lt-leb}
 use Rattle.plank_core.specs.Lists.{range, foldl, bind, mem, oneIf}
+use Rattle.plank_core.specs.laws.Lists.{getD-mem}
 use Rattle.plank_core.specs.laws.Loops.{range-next, range-none}
 use Rattle.plank_core.specs.DenseIndexSet.{contains, added}
 use Rattle.plank_core.specs.laws.DenseIndexSet.{contains-added, length-added}
@@ -320,9 +321,4 @@ pub successor-next : (w : List ℕ) (b i : ℕ) → i < length (successors w b) 
 successor-next w b i h = drop-cons (successors w b) i 0 h ∙ ap (λ k. getD (successors w b) i 0 ∷ drop k (successors w b)) (sym (add-one i))
 
 pub successor-below : {w : List ℕ} → WellFormed w → (b i : ℕ) → b < blocks w → i < length (successors w b) → getD (successors w b) i 0 < blocks w
-successor-below {w} ok b i l h = ok .in-range .successor b (getD (successors w b) i 0) l (getD-mem (successors w b) i h)
-  where
-    getD-mem : (xs : List ℕ) (i : ℕ) → i < length xs → List·Memᴰ (getD xs i 0) xs
-    getD-mem [] i h = absurd (omega arith)
-    getD-mem (x ∷ xs) zero h = List·Memᴰ·head refl
-    getD-mem (x ∷ xs) (suc i) h = List·Memᴰ·tail (getD-mem xs i (omega arith))
+successor-below {w} ok b i l h = ok .in-range .successor b (getD (successors w b) i 0) l (getD-mem (successors w b) i 0 h)

@@ -4,4 +4,5 @@ pub mod Cases
 pub mod Codes
 pub mod Rules
 pub mod WellFormed
+pub mod Image
 pub mod laws

@@ -107,7 +107,7 @@ fn operations_at(words: &[u32]) -> usize
 }
 
 // Where the operands start: past the operations, of 7 words each.
-fn operands_at(words: &[u32]) -> usize
+pub fn operands_at(words: &[u32]) -> usize
     requires { ⌜ Sized (now words) ⌝ }
     ensures { λ r. ⌜ r ≡ operandsAt (now (words .entry)) ⌝ }
 {
@@ -115,7 +115,7 @@ fn operands_at(words: &[u32]) -> usize
 }
 
 // Where the case targets start: past the operands.
-fn targets_at(words: &[u32]) -> usize
+pub fn targets_at(words: &[u32]) -> usize
     requires { ⌜ Sized (now words) ⌝ }
     ensures { λ r. ⌜ r ≡ targetsAt (now (words .entry)) ⌝ }
 {

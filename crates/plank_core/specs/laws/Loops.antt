@@ -97,6 +97,31 @@ module _ (p : ℕ → Bool) (i n : ℕ) where
   pub any-end : n ≤ i → any p (range i n) ≡ false
   any-end h = rw (range-none i n h)
 
+-- ---- the same over the elements of a list; the invariant is `all p (drop i xs) ≡ all p xs` (or `any`)
+
+-- element i is the next of those left
+pub drop-next : (i : ℕ) (xs : List ℕ) → i < length xs → drop i xs ≡ getD xs i 0 ∷ drop (i + 1) xs
+drop-next i xs h = rw add-one (drop-cons xs i 0 h)
+
+module _ (p : ℕ → Bool) (i : ℕ) (xs : List ℕ) where
+  pub all-drop-step : i < length xs → p (getD xs i 0) ≡ true → all p (drop (i + 1) xs) ≡ all p (drop i xs)
+  all-drop-step h e = rw (drop-next i xs h, e)
+
+  pub all-drop-stop : i < length xs → p (getD xs i 0) ≡ false → all p (drop i xs) ≡ false
+  all-drop-stop h e = rw (drop-next i xs h, e)
+
+  pub all-drop-end : length xs ≤ i → all p (drop i xs) ≡ true
+  all-drop-end h = rw (drop-of-length-le xs {i = i} h)
+
+  pub any-drop-step : i < length xs → p (getD xs i 0) ≡ false → any p (drop (i + 1) xs) ≡ any p (drop i xs)
+  any-drop-step h e = rw (drop-next i xs h, e)
+
+  pub any-drop-stop : i < length xs → p (getD xs i 0) ≡ true → any p (drop i xs) ≡ true
+  any-drop-stop h e = rw (drop-next i xs h, e)
+
+  pub any-drop-end : length xs ≤ i → any p (drop i xs) ≡ false
+  any-drop-end h = rw (drop-of-length-le xs {i = i} h)
+
 -- ---- a loop that sums, or stores, f 0, f 1, ..
 
 pub map-append : {A B : Type 0} (f : A → B) (xs ys : List A) → map f (xs ++ ys) ≡ map f xs ++ map f ys

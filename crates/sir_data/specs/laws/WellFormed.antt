@@ -14,6 +14,7 @@ use Rattle.sir_data.specs.Records.{edition, functions, blocks, operation
 use Rattle.sir_data.specs.Codes.{arityOk, isStaticAlloc}
 use Rattle.sir_data.specs.Rules.{rule4, rule5, rule6, rule7, rule8, rule9, rule10, rule11, first, recordRules, zeroFrom, blockFieldsOk, opFieldsOk, rangeOk, optionalBelow, controlIdsOk, blockIdsOk, opIdsOk}
 use Rattle.sir_data.specs.WellFormed.{Sized, InRange, WellFormed}
+use Rattle.sir_data.specs.laws.Rules.{keeps}
 
 -- ---- a rule's parts
 
@@ -42,18 +43,6 @@ ands-each a (b ∷ bs) h =
     (and-true-left a b (r .0), (and-true-right a b (r .0), r .1))
 
 -- ---- no rule is broken
-
-abbrev Kept : List (ℕ × Bool) → Type 0
-Kept [] = Unit {0}
-Kept (r ∷ rs) = 0 < r .0 → (r .1 ≡ false) × Kept rs
-
-keeps : (rs : List (ℕ × Bool)) → first rs ≡ 0 → Kept rs
-keeps [] h = tt
-keeps (r ∷ rs) h = go (r .1) refl (keeps rs)
-  where
-    go : (t : Bool) → r .1 ≡ t → (first rs ≡ 0 → Kept rs) → Kept (r ∷ rs)
-    go true e rest = let z : r .0 ≡ 0 = rw e at h in λ l. absurd (omega arith)
-    go false e rest = λ l. (e, rest (rw e at h))
 
 -- none of two lists is broken: none of the first, and none of the second
 pub first-left : (rs qs : List (ℕ × Bool)) → first (rs ++ qs) ≡ 0 → first rs ≡ 0

@@ -1,0 +1,75 @@
+-- `switch_ids_ok` meets its contract: each test in turn.
+use borrow.Author.Tests.{lt-ltb, le-ltb, le-leb, lt-leb}
+use borrow.Author.Needs.{needs}
+use Rattle.sir_data.proofs.block_rules.switch_ids_ok.Statement.{statement}
+use Rattle.sir_data.proofs.block_rules.switch_ids_ok.Tie as tie
+
+block-word-requires : tie.Need-block-word-requires
+block-word-requires c κs = search needs
+
+local-count-requires : tie.Need-local-count-requires
+local-count-requires c κs = search needs
+
+returns : tie.Need-returns
+returns c = rw (← c .before .before .block-word .ensures, ← c .before .local-count .ensures, le-ltb _ _ (c .if1 .taken))
+
+block-word-requires-2 : tie.Need-block-word-requires-2
+block-word-requires-2 c κs = search needs
+
+cast-end : tie.Need-cast-end
+cast-end c = search needs
+
+block-word-requires-3 : tie.Need-block-word-requires-3
+block-word-requires-3 c κs = search needs
+
+cast-end-2 : tie.Need-cast-end-2
+cast-end-2 c = search needs
+
+add-end : tie.Need-add-end
+add-end c = search needs
+
+target-count-requires : tie.Need-target-count-requires
+target-count-requires c κs = search needs
+
+cast-if2 : tie.Need-cast-if2
+cast-if2 c = search needs
+
+returns-2 : tie.Need-returns-2
+returns-2 c =
+    let c1 = c .before .before .before .before in
+    rw (← c1 .before .before .block-word .ensures, ← c1 .before .local-count .ensures, lt-ltb _ _ (c1 .if1 .left), ← c .before .before .before .block-word2 .ensures, ← c .before .before .block-word3 .ensures, ← c .before .target-count .ensures, lt-leb _ _ (c .if2 .taken))
+
+block-word-requires-4 : tie.Need-block-word-requires-4
+block-word-requires-4 c κs = search needs
+
+block-count-requires : tie.Need-block-count-requires
+block-count-requires c κs = search needs
+
+optional-below-requires : tie.Need-optional-below-requires
+optional-below-requires c κs = search needs
+
+returns-3 : tie.Need-returns-3
+returns-3 c =
+    let c2 = c .before .before .before in
+    let c1 = c2 .before .before .before .before in
+    rw (← c1 .before .before .block-word .ensures, ← c1 .before .local-count .ensures, lt-ltb _ _ (c1 .if1 .left), ← c2 .before .before .before .block-word2 .ensures, ← c2 .before .before .block-word3 .ensures, ← c2 .before .target-count .ensures, le-leb _ _ (c2 .if2 .left), ← c .before .before .block-word4 .ensures, ← c .before .block-count .ensures) (c .optional-below .ensures)
+
+pub switch-ids-ok-spec : {M : Type 1} → statement M
+switch-ids-ok-spec =
+    tie.close
+    (tie.spec
+    block-word-requires
+    local-count-requires
+    returns
+    block-word-requires-2
+    cast-end
+    block-word-requires-3
+    cast-end-2
+    add-end
+    target-count-requires
+    cast-if2
+    returns-2
+    block-word-requires-4
+    block-count-requires
+    optional-below-requires
+    returns-3)
