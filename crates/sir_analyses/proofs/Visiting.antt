@@ -6,19 +6,20 @@ use Prim.Native.Nat.{ℕ, zero, suc, _+_, _-_, _*_, _/_, _%_, _≤_, _<_}
 use native.Mathlib.Nat.{le-refl, le-trans}
 use native.Mathlib.Omega.{arith}
 use native.Mathlib.Numerals.{add-one}
-use lib.ListN.{length, getD, take, drop}
+use lib.ListN.{length, getD, take, drop, replicate}
 use lib.Seq.{drop-cons}
 use lib.Dec.{eqb, leb}
 use borrow.Author.Tests.{eqb-true, eqb-false, eq-eqb, ne-eqb, le-leb, lt-leb}
 use Rattle.plank_core.specs.Lists.{range, foldl, bind, mem, oneIf}
 use Rattle.plank_core.specs.laws.Lists.{getD-mem}
-use Rattle.plank_core.specs.laws.Loops.{range-next, range-none}
-use Rattle.plank_core.specs.DenseIndexSet.{contains, added}
+use Rattle.plank_core.specs.laws.Loops.{range-next, range-none, bind-snoc}
+use Rattle.plank_core.specs.DenseIndexSet.{bit, contains, added}
+use Rattle.plank_core.specs.laws.Bits.{bit-of-zero}
 use Rattle.plank_core.specs.laws.DenseIndexSet.{contains-added, length-added}
-use Rattle.sir_data.specs.Records.{functions, blocks, operations, optional, entryBlock, ops, successors, code, extra, isCall, callees}
+use Rattle.sir_data.specs.Records.{functions, blocks, operations, optional, initFunction, mainPlusOne, entryBlock, ops, successors, code, extra, isCall, callees}
 use Rattle.sir_data.specs.WellFormed.{Sized, InRange, WellFormed}
-use Rattle.sir_analyses.specs.Order.{Visit, seeFunction, seeBlock, finishFunction, finishBlock, visitFunction, visitBlock}
-use Rattle.sir_analyses.specs.Visiting.{blockKey, keyedBlock, keyedFunction, Shows, missing, unseen, Held, Went}
+use Rattle.sir_analyses.specs.Order.{Visit, start, seeFunction, seeBlock, finishFunction, finishBlock, visitFunction, visitBlock}
+use Rattle.sir_analyses.specs.Visiting.{blockKey, keyedBlock, keyedFunction, Shows, missing, unseen, Held, Went, VisitedAll}
 use Rattle.sir_analyses.proofs.OrderLaws.{order-function, order-block}
 
 -- ---- how many are unseen
@@ -182,10 +183,6 @@ module _ {w : List ℕ} (ok : WellFormed w) {seen post : List ℕ} {n : ℕ} {se
 
 -- ---- an item is finished: its key is written behind the others
 
-bind-snoc : {A : Type 0} (g : ℕ → List A) (xs : List ℕ) (k : ℕ) → bind (xs ++ (k ∷ [])) g ≡ bind xs g ++ g k
-bind-snoc g [] k = append-nil (g k)
-bind-snoc g (x ∷ xs) k = ap (λ l. g x ++ l) (bind-snoc g xs k) ∙ sym (append-assoc (g x) (bind xs g) (g k))
-
 module _ {seen post post₁ : List ℕ} {m r : ℕ} {u : Visit} (s : Shows seen post m u) where
   finish-function : (f : ℕ) → f < 256 → take r post₁ ≡ take m post ++ (f ∷ []) → Shows seen post₁ r (finishFunction u f)
   finish-function f l e =
@@ -293,6 +290,10 @@ module _ {w : List ℕ} (ok : WellFormed w) {seen post : List ℕ} {n : ℕ} {se
 
 -- ---- what a block calls, operation by operation
 
+one-of : (c : ℕ) → (c ≡ 0 → ⊥) → optional c ≡ (c - 1) ∷ []
+one-of zero z = absurd (z refl)
+one-of (suc c) z = ap (λ (x : ℕ). x ∷ []) (omega arith)
+
 module _ (w : List ℕ) (o last : ℕ) where
   pub calls-end : last ≤ o → bind (range o last) (callees w) ≡ []
   calls-end h = rw (range-none o last h)
@@ -303,10 +304,6 @@ module _ (w : List ℕ) (o last : ℕ) where
 
     pub calls-call : (c ≡ 0 → ⊥) → bind (range o last) (callees w) ≡ (c - 1) ∷ bind (range (o + 1) last) (callees w)
     calls-call z = ap (λ l. bind l (callees w)) (range-next o last less) ∙ ap (λ l. l ++ bind (range (o + 1) last) (callees w)) (sym e ∙ one-of c z)
-      where
-        one-of : (c : ℕ) → (c ≡ 0 → ⊥) → optional c ≡ (c - 1) ∷ []
-        one-of zero z = absurd (z refl)
-        one-of (suc c) z = ap (λ (x : ℕ). x ∷ []) (omega arith)
 
 pub call-below : {w : List ℕ} → WellFormed w → (o : ℕ) → o < operations w → isCall (code w o) ≡ true → extra w o 0 < functions w
 call-below {w} ok o l t = ok .in-range .callee o (extra w o 0) l (rw t (List·Memᴰ·head refl))
@@ -322,3 +319,41 @@ successor-next w b i h = drop-cons (successors w b) i 0 h ∙ ap (λ k. getD (su
 
 pub successor-below : {w : List ℕ} → WellFormed w → (b i : ℕ) → b < blocks w → i < length (successors w b) → getD (successors w b) i 0 < blocks w
 successor-below {w} ok b i l h = ok .in-range .successor b (getD (successors w b) i 0) l (getD-mem (successors w b) i 0 h)
+
+-- ---- the whole visit
+
+zeros : (n x : ℕ) → contains (replicate n 0) x ≡ false
+unfolding contains
+zeros n x = ap (λ (y : ℕ). bit y (x % 64)) (zero-at n (x / 64)) ∙ bit-of-zero (x % 64)
+  where
+    zero-at : (n j : ℕ) → getD (replicate n zero) j zero ≡ zero
+    zero-at zero j = refl
+    zero-at (suc n) zero = refl
+    zero-at (suc n) (suc j) = zero-at n j
+
+-- nothing is seen yet
+pub held-start : (w : List ℕ) {seen post : List ℕ} → seen ≡ replicate 16 0 → length post ≡ 320 → Held w seen post 0
+unfolding unseen
+held-start w {seen} e l = record {
+  wide = ap length e;
+  long = l;
+  room = omega (arith, missing-most (functions w) (contains seen), missing-most (blocks w) (λ b. contains seen (512 + b)));
+}
+
+shows-start : {seen post : List ℕ} → seen ≡ replicate 16 0 → Shows seen post 0 start
+shows-start {seen} e = record {
+  functions-seen = λ f l. sym (ap (λ (s : List ℕ). contains s f) e ∙ zeros 16 f);
+  blocks-seen = λ b l. sym (ap (λ (s : List ℕ). contains s (512 + b)) e ∙ zeros 16 (512 + b));
+  blocks-finished = refl;
+  functions-finished = refl;
+}
+
+module _ {w seen post seen₁ post₁ : List ℕ} {n : ℕ} (e : seen ≡ replicate 16 0) (a : Went w (visitFunction (fuel w) w (initFunction w)) seen post 0 seen₁ post₁ n) where
+  pub visited-one : mainPlusOne w ≡ 0 → VisitedAll w seen₁ post₁ n
+  visited-one z = record { shows = rw z (a .same start (shows-start e)); held = a .held }
+
+  pub visited-two : {seen₂ post₂ : List ℕ} {r : ℕ} → (mainPlusOne w ≡ 0 → ⊥) → Went w (visitFunction (fuel w) w (mainPlusOne w - 1)) seen₁ post₁ n seen₂ post₂ r → VisitedAll w seen₂ post₂ r
+  visited-two {seen₂} {post₂} {r} z b = record {
+    shows = subst (λ (fs : List ℕ). Shows seen₂ post₂ r (foldl (λ v f. visitFunction (fuel w) w f v) start (initFunction w ∷ fs))) (sym (one-of (mainPlusOne w) z)) (b .same _ (a .same start (shows-start e)));
+    held = b .held;
+  }

@@ -3,14 +3,14 @@
 -- function, 256 * (f + 1) + b for block b on behalf of function f.
 use mathlib.Core.Path.{_≡_}
 use mathlib.Core.Bool.{Bool, not, cond}
-use mathlib.Core.List.{List, [], _∷_}
+use mathlib.Core.List.{List, [], _∷_, _++_, reverse}
 use Prim.Native.Nat.{ℕ, zero, suc, _+_, _-_, _*_, _/_, _%_, _≤_, _<_}
 use lib.ListN.{length, take}
-use lib.Dec.{leb}
+use lib.Dec.{eqb, leb, ltb}
 use Rattle.plank_core.specs.Lists.{bind, mem, oneIf}
 use Rattle.plank_core.specs.DenseIndexSet.{contains}
 use Rattle.sir_data.specs.Records.{functions, blocks}
-use Rattle.sir_analyses.specs.Order.{Visit}
+use Rattle.sir_analyses.specs.Order.{Visit, visited}
 
 abbrev pub blockKey : ℕ → ℕ → ℕ
 blockKey f b = 256 * (f + 1) + b
@@ -49,3 +49,37 @@ pub record Went (w : List ℕ) (step : Visit → Visit) (seen post : List ℕ) (
   pub held : Held w seen′ post′ r
   pub less : r + unseen w seen′ ≤ n + unseen w seen
   pub down : unseen w seen′ ≤ unseen w seen
+
+-- the arrays show the whole visit
+pub record VisitedAll (w seen post : List ℕ) (n : ℕ) : Type 0 where
+  pub shows : Shows seen post n (visited w)
+  pub held : Held w seen post n
+
+-- ---- the order, read off the keys from the last to the first
+
+-- the blocks finished on behalf of f
+abbrev pub blockOf : ℕ → ℕ → List ℕ
+blockOf f k = cond (eqb (k / 256) (f + 1)) (k % 256 ∷ []) []
+
+unfoldable pub blocksOf : ℕ → List ℕ → List ℕ
+blocksOf f ks = bind (reverse ks) (blockOf f)
+
+-- of the functions finished, what g gives of each
+abbrev pub functionOf : (ℕ → List ℕ) → ℕ → List ℕ
+functionOf g k = cond (ltb k 256) (g k) []
+
+unfoldable pub blocksIn : List ℕ → List ℕ
+blocksIn ks = bind (reverse ks) (functionOf (λ f. blocksOf f ks))
+
+-- a function with its block count and its blocks
+abbrev pub entryOf : ℕ → List ℕ → List ℕ
+entryOf f ks = f ∷ length (blocksOf f ks) ∷ blocksOf f ks
+
+unfoldable pub orderIn : List ℕ → List ℕ
+orderIn ks = bind (reverse ks) (functionOf (λ f. entryOf f ks))
+
+-- a list stands in an array behind its first `at`, up to r
+pub record Listed (xs : List ℕ) (at : ℕ) (old new : List ℕ) (r : ℕ) : Type 0 where
+  pub next : r ≡ at + length xs
+  pub list : take r new ≡ take at old ++ xs
+  pub long : length new ≡ length old

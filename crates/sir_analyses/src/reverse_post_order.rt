@@ -5,17 +5,19 @@ use plank_core::index::OpIdx;
 use plank_core::rows::row_add;
 use sir_data::records::block_operations;
 use sir_data::records::entry_block;
+use sir_data::records::init_function;
+use sir_data::records::main_plus_one;
 use sir_data::records::op_word;
 use sir_data::records::successor;
 use sir_data::records::successor_count;
 ghost use mathlib.Core.Path.{_≡_};
 ghost use mathlib.Core.List.{_++_, _∷_, []};
-ghost use Prim.Native.Nat.{_+_, _<_};
-ghost use lib.ListN.{length, take};
+ghost use Prim.Native.Nat.{_+_, _<_, _≤_};
+ghost use lib.ListN.{length, take, replicate};
 ghost use Rattle.sir_data.specs.Records.{functions, blocks, operations, optional, callees};
 ghost use Rattle.sir_data.specs.WellFormed.{WellFormed};
 ghost use Rattle.sir_analyses.specs.Order.{visitFunction, visitBlock};
-ghost use Rattle.sir_analyses.specs.Visiting.{Held, Went};
+ghost use Rattle.sir_analyses.specs.Visiting.{Held, Went, VisitedAll, blocksOf, blocksIn, entryOf, orderIn, Listed};
 
 // One more than the function that an operation calls, 0 where it calls none.
 fn callee_plus_one(words: &[u32], o: OpIdx) -> u32
@@ -95,4 +97,81 @@ pub fn visit_block(
         i += 1;
     }
     push(post, m, 256 * (f.0 + 1) + b.0)
+}
+
+// The whole visit: init, then main if any. How many keys are in `post`.
+pub fn visit(words: &[u32], seen: &mut [u64], post: &mut [u32]) -> usize
+    requires { ⌜ WellFormed (now words) ⌝ }
+    requires { ⌜ (now seen ≡ replicate 16 0) × (length (now post) ≡ 320) ⌝ }
+    ensures { λ r. ⌜ VisitedAll (now (words .entry)) (now (seen .exit)) (now (post .exit)) r ⌝ }
+{
+    let n = visit_function(words, init_function(words), seen, post, 0);
+    let main = main_plus_one(words);
+    if main == 0 {
+        return n;
+    }
+    visit_function(words, FunctionId(main - 1), seen, post, n)
+}
+
+// The blocks of function f, last finished first, behind the first `at` of `out`.
+fn function_blocks(keys: &[u32], f: u32, out: &mut [u32], at: usize) -> usize
+    requires { ⌜ (f < 256) × (at + length (blocksOf f (now keys)) ≤ length (now out)) ⌝ }
+    ensures { λ r. ⌜ Listed (blocksOf f (now (keys .entry))) at (now (out .entry)) (now (out .exit)) r ⌝ }
+{
+    let mut m = at;
+    let mut i = keys.len();
+    while 0 < i {
+        i -= 1;
+        let key = keys[i];
+        if key / 256 == f + 1 {
+            out[m] = key % 256;
+            m += 1;
+        }
+    }
+    m
+}
+
+// The blocks of all functions, last finished first: the sequence of the order.
+pub fn blocks_rpo(keys: &[u32], out: &mut [u32]) -> usize
+    requires { ⌜ length (blocksIn (now keys)) ≤ length (now out) ⌝ }
+    ensures { λ r. ⌜ Listed (blocksIn (now (keys .entry))) 0 (now (out .entry)) (now (out .exit)) r ⌝ }
+{
+    let mut m: usize = 0;
+    let mut i = keys.len();
+    while 0 < i {
+        i -= 1;
+        let key = keys[i];
+        if key < 256 {
+            m = function_blocks(keys, key, out, m);
+        }
+    }
+    m
+}
+
+// A function's id, its block count and its blocks, behind the first `at` of `out`.
+fn function_entry(keys: &[u32], f: u32, out: &mut [u32], at: usize) -> usize
+    requires { ⌜ (f < 256) × (at + 2 + length (blocksOf f (now keys)) ≤ length (now out)) × (length (now out) < 65536) ⌝ }
+    ensures { λ r. ⌜ Listed (entryOf f (now (keys .entry))) at (now (out .entry)) (now (out .exit)) r ⌝ }
+{
+    out[at] = f;
+    let m = function_blocks(keys, f, out, at + 2);
+    out[at + 1] = (m - at - 2) as u32;
+    m
+}
+
+// The order's answer: each function of `functions_rpo` with its blocks.
+pub fn order_words(keys: &[u32], out: &mut [u32]) -> usize
+    requires { ⌜ (length (orderIn (now keys)) ≤ length (now out)) × (length (now out) < 65536) ⌝ }
+    ensures { λ r. ⌜ Listed (orderIn (now (keys .entry))) 0 (now (out .entry)) (now (out .exit)) r ⌝ }
+{
+    let mut m: usize = 0;
+    let mut i = keys.len();
+    while 0 < i {
+        i -= 1;
+        let key = keys[i];
+        if key < 256 {
+            m = function_entry(keys, key, out, m);
+        }
+    }
+    m
 }

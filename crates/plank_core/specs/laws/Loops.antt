@@ -4,10 +4,13 @@ use mathlib.Core.Bool.{Bool, true, false, _&&_, _||_, cond, and-assoc, or-assoc}
 use Prim.Native.Nat.{ℕ, zero, suc, _+_, _-_, _≤_, _<_}
 use native.Mathlib.Numerals.{add-one}
 use native.Mathlib.Omega.{arith}
-use mathlib.Core.List.{List, [], _∷_, _++_, map, append-assoc, append-nil}
+use mathlib.Core.List.{[], _++_, _∷_, List, List·Memᴰ, List·Memᴰ·head, List·Memᴰ·tail, append-assoc, append-nil, map, reverse, reverse-append}
+use lib.Dec.{eqb}
+use borrow.Author.Tests.{eqb-true, eqb-false, ne-eqb}
 use lib.ListN.{length, getD, take, drop, set, drop-of-length-le, length-append, length-drop, length-map}
 use lib.Seq.{drop-cons, set-at, take-all, take-at, drop-at, drop-drop}
-use Rattle.plank_core.specs.Lists.{count, range, upto, all, any, keep, sum}
+use Rattle.plank_core.specs.Lists.{count, range, upto, all, any, keep, sum, bind, oneIf}
+use Rattle.plank_core.specs.laws.Lists.{times}
 
 -- ---- the numbers of a loop
 
@@ -197,3 +200,69 @@ fill-part {A} f n m d {xs} {part} e h =
     let front : take n xs ≡ map f (upto n) = rw e (take-at (map f (upto n)) (drop n d) n (length-map-upto f n)) in
     let end : drop n xs ≡ drop n d = rw e (drop-at (map f (upto n)) (drop n d) n (length-map-upto f n)) in
     rw (h, after-end n xs, lent-end n xs, front, end, append-nil, drop-drop m n d, map-add f n m, append-assoc)
+
+-- ---- lists that functions give of each element, one behind the other
+
+module _ {A : Type 0} where
+  pub keep-append : (p : A → Bool) (xs ys : List A) → keep p (xs ++ ys) ≡ keep p xs ++ keep p ys
+  keep-append p [] ys = refl
+  keep-append p (x ∷ xs) ys = go (p x) (keep-append p xs ys)
+    where
+      go : (t : Bool) → keep p (xs ++ ys) ≡ keep p xs ++ keep p ys → cond t (x ∷ keep p (xs ++ ys)) (keep p (xs ++ ys)) ≡ cond t (x ∷ keep p xs) (keep p xs) ++ keep p ys
+      go true e = ap (λ (l : List A). x ∷ l) e
+      go false e = e
+
+  module _ {B : Type 0} (g : A → List B) where
+    pub bind-append : (xs ys : List A) → bind (xs ++ ys) g ≡ bind xs g ++ bind ys g
+    bind-append [] ys = refl
+    bind-append (x ∷ xs) ys = ap (λ (l : List B). g x ++ l) (bind-append xs ys) ∙ sym (append-assoc (g x) (bind xs g) (bind ys g))
+
+    pub bind-snoc : (xs : List A) (k : A) → bind (xs ++ (k ∷ [])) g ≡ bind xs g ++ g k
+    bind-snoc xs k = bind-append xs (k ∷ []) ∙ ap (λ (l : List B). bind xs g ++ l) (append-nil (g k))
+
+    pub bind-same : (h : A → List B) (xs : List A) → ((x : A) → g x ≡ h x) → bind xs g ≡ bind xs h
+    bind-same h [] e = refl
+    bind-same h (x ∷ xs) e = ap (λ (l : List B). l ++ bind xs g) (e x) ∙ ap (λ (l : List B). h x ++ l) (bind-same h xs e)
+
+  pub reverse-snoc : (xs : List A) (x : A) → reverse (xs ++ (x ∷ [])) ≡ x ∷ reverse xs
+  reverse-snoc xs x = reverse-append xs (x ∷ [])
+
+pub bind-bind : {A B C : Type 0} (h : A → List B) (g : B → List C) (xs : List A) → bind (bind xs h) g ≡ bind xs (λ x. bind (h x) g)
+bind-bind h g [] = refl
+bind-bind {A} {B} {C} h g (x ∷ xs) = bind-append g (h x) (bind xs h) ∙ ap (λ (l : List C). bind (h x) g ++ l) (bind-bind h g xs)
+
+-- ---- a list of different numbers below n has at most n
+
+sum-add : (f g : ℕ → ℕ) (s n : ℕ) → sum (map (λ i. f i + g i) (count s n)) ≡ sum (map f (count s n)) + sum (map g (count s n))
+sum-add f g s zero = omega arith
+sum-add f g s (suc n) = let h = sum-add f g (suc s) n in omega arith
+
+sum-most : (f : ℕ → ℕ) (s n : ℕ) → ((i : ℕ) → f i ≤ 1) → sum (map f (count s n)) ≤ n
+sum-most f s zero h = omega arith
+sum-most f s (suc n) h = omega (arith, h s, sum-most f (suc s) n h)
+
+sum-none : (x s n : ℕ) → x < s → sum (map (λ i. oneIf (eqb i x)) (count s n)) ≡ 0
+sum-none x s zero h = refl
+sum-none x s (suc n) h = rw (ne-eqb s x (omega arith)) (omega (arith, sum-none x (suc s) n (omega arith)))
+
+sum-one : (x s n : ℕ) → s ≤ x → x < s + n → sum (map (λ i. oneIf (eqb i x)) (count s n)) ≡ 1
+sum-one x s zero l h = absurd (omega arith)
+sum-one x s (suc n) l h = go (eqb s x) refl (sum-one x (suc s) n)
+  where
+    go : (t : Bool) → eqb s x ≡ t → (suc s ≤ x → x < suc s + n → sum (map (λ i. oneIf (eqb i x)) (count (suc s) n)) ≡ 1) → oneIf (eqb s x) + sum (map (λ i. oneIf (eqb i x)) (count (suc s) n)) ≡ 1
+    go true e rest = let q : s ≡ x = eqb-true s x e in rw (e, sum-none x (suc s) n (omega arith))
+    go false e rest = let q : s ≡ x → ⊥ = eqb-false s x e in rw (e, rest (omega arith) (omega arith))
+
+sum-zero : (s n : ℕ) → sum (map (λ i. 0) (count s n)) ≡ 0
+sum-zero s zero = refl
+sum-zero s (suc n) = omega (arith, sum-zero (suc s) n)
+
+all-times : (xs : List ℕ) (n : ℕ) → ((x : ℕ) → List·Memᴰ x xs → x < n) → sum (map (λ i. times i xs) (upto n)) ≡ length xs
+all-times [] n h = sum-zero 0 n
+all-times (x ∷ xs) n h =
+    let a = sum-one x 0 n (omega arith) (omega (arith, h x (List·Memᴰ·head refl))) in
+    let b = all-times xs n (λ y m. h y (List·Memᴰ·tail m)) in
+    sum-add (λ i. oneIf (eqb i x)) (λ i. times i xs) 0 n ∙ omega arith
+
+pub once-most : (xs : List ℕ) (n : ℕ) → ((x : ℕ) → times x xs ≤ 1) → ((x : ℕ) → List·Memᴰ x xs → x < n) → length xs ≤ n
+once-most xs n a b = omega (arith, all-times xs n b, sum-most (λ i. times i xs) 0 n a)

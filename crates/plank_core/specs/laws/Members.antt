@@ -16,7 +16,7 @@ use borrow.Author.Tests.{lt-ltb, eqb-true, eqb-false}
 use Rattle.plank_core.specs.Lists.{count, upto, all, keep, _∈_}
 use Rattle.plank_core.specs.DenseIndexSet.{bit, contains, members, lowest}
 use Rattle.plank_core.specs.laws.Lists.{mem-count, count-mem, keep-most, keep-mem, keep-out}
-use Rattle.plank_core.specs.laws.Loops.{count-add, length-count}
+use Rattle.plank_core.specs.laws.Loops.{count-add, length-count, keep-append}
 use Rattle.plank_core.specs.laws.Bits.{two, and-half, and-odd, bit-zero, bit-suc}
 use Rattle.plank_core.specs.laws.DenseIndexSet.{shows-contains}
 
@@ -94,14 +94,6 @@ digits-kept p (suc k) b w h =
     let rest : digitsFrom k (suc b) (w / 2) ≡ keep p (count (suc b) k) =
     digits-kept p k (suc b) (w / 2) (λ j l. ap p (suc-add b j ∙ sym (add-suc b j)) ∙ h (suc j) (omega arith) ∙ bit-suc w j) in
     rw (here, rest)
-
-keep-append : (p : ℕ → Bool) (xs ys : List ℕ) → keep p (xs ++ ys) ≡ keep p xs ++ keep p ys
-keep-append p [] ys = refl
-keep-append p (x ∷ xs) ys = go (p x) (keep-append p xs ys)
-  where
-    go : (t : Bool) → keep p (xs ++ ys) ≡ keep p xs ++ keep p ys → cond t (x ∷ keep p (xs ++ ys)) (keep p (xs ++ ys)) ≡ cond t (x ∷ keep p xs) (keep p xs) ++ keep p ys
-    go true e = ap (λ (l : List ℕ). x ∷ l) e
-    go false e = e
 
 -- the numbers from b on: those in the next m, which are the digits of w, and those after them
 keep-next : (p : ℕ → Bool) (b m n w : ℕ) → ((j : ℕ) → j < m → p (b + j) ≡ bit w j) → keep p (count b (m + n)) ≡ digitsFrom m b w ++ keep p (count (b + m) n)
