@@ -2,6 +2,7 @@ pub mod OrderLaws
 pub mod Visiting
 pub mod Writing
 pub mod Keys
+pub mod Edges
 pub mod OrderOnce
 pub mod OrderProof
 pub mod SetLaws

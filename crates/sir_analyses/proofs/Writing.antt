@@ -123,3 +123,7 @@ puts-then {limit} {n} {xs} {ys} {out} {mid} {out′} {m} {r} a b = record {
   next = let l = length-append xs ys in omega (arith, a .next, b .next);
   left = b .left ∙ ap (wordsPut limit m ys) (a .left) ∙ ap (λ (i : ℕ). wordsPut limit i ys (wordsPut limit n xs out)) (a .next) ∙ sym (puts-append limit n xs ys out);
 }
+
+-- the words still to come fit the numbers
+pub putting-count : {limit n₀ : ℕ} {full out₀ : List ℕ} (xs rest : List ℕ) {out : List ℕ} {n k : ℕ} → n₀ + length full < k → Putting limit n₀ full out₀ (xs ++ rest) out n → n + length xs < k
+putting-count xs rest h p = let a = length-append xs rest in omega (arith, p .count)

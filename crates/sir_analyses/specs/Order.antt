@@ -67,6 +67,10 @@ blocksRpo w = bind (functionsRpo w) (functionBlocks w)
 abbrev pub isVisited : List ℕ → ℕ → Bool
 isVisited w b = mem b (visited w .seenBlocks)
 
--- predecessors: visited blocks by id, each successor in turn
+-- block p, once for each of its edges to b
+abbrev pub edgesFrom : List ℕ → ℕ → ℕ → List ℕ
+edgesFrom w p b = map (λ s. p) (keep (λ s. eqb s b) (successors w p))
+
+-- predecessors: visited blocks by id, each successor in turn, repeats kept
 abbrev pub predecessors : List ℕ → ℕ → List ℕ
-predecessors w b = bind (keep (isVisited w) (upto (blocks w))) (λ p. map (λ s. p) (keep (λ s. eqb s b) (successors w p)))
+predecessors w b = bind (keep (isVisited w) (upto (blocks w))) (λ p. edgesFrom w p b)
