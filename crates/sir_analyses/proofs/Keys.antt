@@ -1,5 +1,5 @@
 -- Lists written into arrays one behind the other, and the order read off the keys of a visit. Assumes nothing.
-use mathlib.Core.Path.{_≡_, refl, sym, ap, ap₂, _∙_}
+use mathlib.Core.Path.{_≡_, refl, sym, ap, ap₂, _∙_, subst}
 use mathlib.Core.Bool.{Bool, true, false, _&&_, cond}
 use mathlib.Core.List.{List, [], _∷_, _++_, map, reverse, reverse-append, reverse-cons, append-assoc, append-nil}
 use Prim.Native.Nat.{ℕ, zero, suc, _+_, _-_, _*_, _/_, _%_, _≤_, _<_}
@@ -9,7 +9,7 @@ use lib.ListN.{length, getD, take, drop, set, length-append, length-set}
 use lib.Seq.{take-suc, take-suc-set, take-set-lt, set-at, take-all, length-take-le}
 use lib.Dec.{eqb, leb, ltb}
 use borrow.Author.Tests.{eqb-true, eqb-false, eq-eqb, ne-eqb, leb-true, leb-false, le-ltb, lt-ltb}
-use Rattle.plank_core.specs.Lists.{bind, keep}
+use Rattle.plank_core.specs.Lists.{bind, keep, _∈_}
 use Rattle.plank_core.specs.laws.Loops.{map-append, keep-append, bind-bind, bind-same, bind-snoc, reverse-snoc, once-most}
 use Rattle.plank_core.specs.laws.Lists.{oneIf-most}
 use Rattle.sir_data.specs.Records.{functions, blocks}
@@ -203,3 +203,7 @@ module _ (w : List ℕ) (good : WellFormed w) where
           let a = length-append (functionBlocks w f) (bind fs (λ f. f ∷ length (functionBlocks w f) ∷ functionBlocks w f)) in
           let b = length-append (functionBlocks w f) (bind fs (functionBlocks w)) in
           omega (arith, headed fs)
+
+  -- of an array that holds the order's sequence
+  pub rpo-below : {rpo : List ℕ} → rpo ≡ blocksRpo w → (b : ℕ) → b ∈ rpo → b < blocks w
+  rpo-below e b m = blocks-below w good b (subst (λ (l : List ℕ). b ∈ l) e m)

@@ -11,6 +11,7 @@ pub mod FlowLaws
 pub mod GenKill
 pub mod LivenessProof
 pub mod Accepted
+pub mod Bases
 pub mod Positions
 pub mod Marks
 pub mod Merging

@@ -1,0 +1,24 @@
+-- The base locals of a block's allocations, and numbers added to a set one by one, up to the first that is there already.
+-- Assumes nothing.
+use mathlib.Core.Path.{_≡_}
+use mathlib.Core.Bool.{Bool, true, _||_}
+use mathlib.Core.List.{List, map}
+use Prim.Native.Nat.{ℕ, _<_}
+use lib.ListN.{length, getD}
+use Rattle.plank_core.specs.Lists.{keep, mem}
+use Rattle.plank_core.specs.DenseIndexSet.{contains}
+use Rattle.plank_core.specs.laws.Distinct.{fresh}
+use Rattle.sir_data.specs.Records.{ops, code, outs}
+use Rattle.sir_data.specs.Codes.{isAlloc}
+
+abbrev pub basesOf : List ℕ → List ℕ → List ℕ
+basesOf w os = map (λ o. getD (outs w o) 0 0) (keep (λ o. isAlloc (code w o)) os)
+
+abbrev pub basesIn : List ℕ → ℕ → List ℕ
+basesIn w b = basesOf w (ops w b)
+
+-- r says whether xs are distinct and none of them was in the set; if so, the set has them all
+pub record Added (xs set set′ : List ℕ) (r : Bool) : Type 0 where
+  pub new : r ≡ fresh set xs
+  pub long : length set′ ≡ 8
+  pub has : r ≡ true → (x : ℕ) → x < 512 → contains set′ x ≡ (contains set x || mem x xs)
