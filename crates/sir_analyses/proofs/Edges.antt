@@ -1,18 +1,21 @@
 -- Edges and predecessors, one by one. Assumes nothing.
 use mathlib.Core.Path.{_≡_, refl, sym, ap, _∙_}
 use mathlib.Core.Bool.{Bool, true, false, cond}
-use mathlib.Core.List.{List, [], _∷_, _++_, map}
+use mathlib.Core.List.{List, [], _∷_, _++_, map, List·Memᴰ·head, List·Memᴰ·tail}
 use Prim.Native.Nat.{ℕ, zero, suc, _+_, _*_, _≤_, _<_}
+use native.Mathlib.Nat.{mul-suc}
 use native.Mathlib.Numerals.{add-one}
 use native.Mathlib.Omega.{arith}
-use lib.ListN.{length, getD, drop, length-append, drop-of-length-le}
+use lib.ListN.{length, getD, drop, length-append, length-map, drop-of-length-le}
 use lib.Seq.{drop-cons}
 use lib.Dec.{eqb}
-use borrow.Author.Tests.{eq-eqb, ne-eqb}
-use Rattle.plank_core.specs.Lists.{range, bind, keep}
-use Rattle.plank_core.specs.laws.Loops.{range-next, range-none}
-use Rattle.sir_data.specs.Records.{successors}
-use Rattle.sir_analyses.specs.Order.{isVisited, edgesFrom}
+use borrow.Author.Tests.{eq-eqb, ne-eqb, eqb-true}
+use Rattle.plank_core.specs.Lists.{count, range, upto, bind, keep, _∈_}
+use Rattle.plank_core.specs.laws.Lists.{keep-most, keep-out, mem-upto}
+use Rattle.plank_core.specs.laws.Loops.{range-next, range-none, length-count, length-map-count}
+use Rattle.sir_data.specs.Records.{blocks, control, field, target, optional, successors}
+use Rattle.sir_data.specs.WellFormed.{WellFormed}
+use Rattle.sir_analyses.specs.Order.{isVisited, edgesFrom, predecessors}
 
 module _ (w : List ℕ) (p b : ℕ) where
   -- the edges from successor i on
@@ -45,3 +48,44 @@ module _ (w : List ℕ) (b p n : ℕ) where
 
   pub none-left : n ≤ p → predecessorsLeft ≡ []
   none-left h = rw (range-none p n h)
+
+-- ---- how many predecessors a block can have
+
+bind-most : (g : ℕ → List ℕ) (k : ℕ) (xs : List ℕ) → ((x : ℕ) → x ∈ xs → length (g x) ≤ k) → length (bind xs g) ≤ k * length xs
+bind-most g k [] h = omega arith
+bind-most g k (x ∷ xs) h =
+    let e : k * suc (length xs) ≡ k * length xs + k = mul-suc k (length xs) in
+    omega (arith, length-append (g x) (bind xs g), h x (List·Memᴰ·head refl), bind-most g k xs (λ y m. h y (List·Memᴰ·tail m)))
+
+optional-most : (k : ℕ) → length (optional k) ≤ 1
+optional-most zero = omega arith
+optional-most (suc k) = omega arith
+
+pub successors-most : (w : List ℕ) → WellFormed w → (b : ℕ) → b < blocks w → length (successors w b) ≤ 513
+successors-most w good b l = go (eqb (control w b) 2) (eqb (control w b) 3) (eqb (control w b) 4) refl
+  where
+    go : (t u v : Bool) → eqb (control w b) 4 ≡ v
+        → length (cond t (field w b 0 ∷ []) (cond u (field w b 2 ∷ field w b 1 ∷ []) (cond v (map (target w) (count (field w b 1) (field w b 2)) ++ optional (field w b 3)) []))) ≤ 513
+    go true u v e = omega arith
+    go false true v e = omega arith
+    go false false true e =
+        omega (
+          arith,
+          length-append (map (target w) (count (field w b 1) (field w b 2))) (optional (field w b 3)),
+          length-map-count (target w) (field w b 1) (field w b 2),
+          optional-most (field w b 3),
+          good .in-range .switch-range b l (eqb-true (control w b) 4 e),
+          good .sized .targets-most,
+        )
+    go false false false e = omega arith
+
+pub predecessors-most : (w : List ℕ) → WellFormed w → (b : ℕ) → length (predecessors w b) ≤ 513 * 256
+predecessors-most w good b =
+    omega (
+      arith,
+      bind-most (λ p. edgesFrom w p b) 513 (keep (isVisited w) (upto (blocks w))) (λ p m.
+          omega (arith, length-map (keep (λ s. eqb s b) (successors w p)) (λ s. p), keep-most (λ s. eqb s b) (successors w p), successors-most w good p (mem-upto p (blocks w) (keep-out (isVisited w) (upto (blocks w)) m .0)))),
+      keep-most (isVisited w) (upto (blocks w)),
+      length-count 0 (blocks w),
+      good .sized .blocks-most,
+    )

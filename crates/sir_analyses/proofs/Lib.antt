@@ -2,6 +2,8 @@ pub mod OrderLaws
 pub mod Visiting
 pub mod Writing
 pub mod Keys
+pub mod Loads
+pub mod Outcomes
 pub mod Edges
 pub mod OrderOnce
 pub mod OrderProof

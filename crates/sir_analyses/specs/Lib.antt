@@ -5,6 +5,7 @@ pub mod Liveness
 pub mod Allocation
 pub mod Bases
 pub mod Answers
+pub mod Loading
 pub mod Claims
 pub mod Walk
 pub mod Examples

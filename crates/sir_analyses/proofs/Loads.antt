@@ -1,0 +1,106 @@
+-- What reading an image and the visit of its blocks give every question. Assumes nothing.
+use mathlib.Core.Path.{_≡_, refl, sym, ap, _∙_, subst}
+use mathlib.Core.Bool.{Bool, true, false, not, cond}
+use mathlib.Core.List.{List, [], _∷_, _++_}
+use Prim.Native.Nat.{ℕ, _+_, _*_, _/_, _≤_, _<_}
+use native.Mathlib.Omega.{arith}
+use lib.ListN.{length, take, drop, length-append}
+use lib.Seq.{take-at, length-take-le}
+use Rattle.sir_data.specs.Pages.{payload}
+use Rattle.sir_data.specs.Rules.{first, pageRules, recordRules}
+use Rattle.sir_data.specs.WellFormed.{WellFormed}
+use Rattle.sir_data.specs.Image.{Read}
+use Rattle.sir_data.specs.laws.Rules.{first-append}
+use Rattle.sir_data.specs.laws.Image.{length-payload, accepted}
+use Rattle.sir_analyses.specs.Order.{blocksRpo}
+use Rattle.sir_analyses.specs.Allocation.{rule12}
+use Rattle.sir_analyses.specs.Answers.{refusal, orderAnswer}
+use Rattle.sir_analyses.specs.Visiting.{VisitedAll, SeenBlocks, blocksIn, orderIn, Listed}
+use Rattle.sir_analyses.specs.Loading.{Prepared, Loaded}
+use Rattle.sir_analyses.proofs.Keys.{blocks-rpo, order-answer, blocks-most, order-most}
+
+-- an earlier rule decides
+decided : (xs ys : List (ℕ × Bool)) → (first xs ≡ 0 → ⊥) → first (xs ++ ys) ≡ first xs
+decided [] ys n = absurd (n refl)
+decided (r ∷ xs) ys n = go (r .1) refl (decided xs ys)
+  where
+    go : (t : Bool) → r .1 ≡ t → ((first xs ≡ 0 → ⊥) → first (xs ++ ys) ≡ first xs) → first (r ∷ xs ++ ys) ≡ first (r ∷ xs)
+    go true e rest = rw e
+    go false e rest = rw e (rest (λ z. n (rw e z)))
+
+module _ {s old new : List ℕ} {r : ℕ} (k : Read s old new r) where
+  pub refused-early : (r ≡ 0 → ⊥) → r ≡ refusal s
+  refused-early n = k .number ∙ sym (decided (pageRules s ++ recordRules (payload s)) ((12, rule12 (payload s)) ∷ []) (λ z. n (k .number ∙ z)))
+
+  module _ (z : r ≡ 0) where
+    none-broken : first (pageRules s ++ recordRules (payload s)) ≡ 0
+    none-broken = sym (k .number) ∙ z
+
+    words-are : new ≡ payload s ++ drop (length (payload s)) old
+    words-are = k .words (accepted s none-broken .0)
+
+    pub words-fit : 126 * (length s / 512) ≤ length new
+    words-fit = omega (arith, ap length words-are, length-append (payload s) (drop (length (payload s)) old), length-payload s)
+
+    pub front-is : take (126 * (length s / 512)) new ≡ payload s
+    front-is = ap (take (126 * (length s / 512))) words-are ∙ take-at (payload s) (drop (length (payload s)) old) (126 * (length s / 512)) (length-payload s)
+
+    pub front-good : WellFormed (take (126 * (length s / 512)) new)
+    front-good = subst WellFormed (sym front-is) (accepted s none-broken .1)
+
+    last-rule : refusal s ≡ cond (rule12 (payload s)) 12 0
+    last-rule = first-append (pageRules s ++ recordRules (payload s)) ((12, rule12 (payload s)) ∷ []) (omega arith, (omega arith, (omega arith, (omega arith, (omega arith, (omega arith, (omega arith, (omega arith, (omega arith, (omega arith, (omega arith, tt))))))))))) ∙ rw none-broken
+
+    pub refused-last : rule12 (take (126 * (length s / 512)) new) ≡ true → 12 ≡ refusal s
+    refused-last t = sym (last-rule ∙ rw (ap rule12 (sym front-is) ∙ t))
+
+    pub refused-never : rule12 (take (126 * (length s / 512)) new) ≡ false → 0 ≡ refusal s
+    refused-never t = sym (last-rule ∙ rw (ap rule12 (sym front-is) ∙ t))
+
+-- the blocks of a visit fit an array of 256, and are the order's sequence there
+module _ {w seen post : List ℕ} {n : ℕ} (good : WellFormed w) (v : VisitedAll w seen post n) where
+  pub blocks-fit : length (blocksIn (take n post)) ≤ 256
+  blocks-fit = omega (arith, ap length (blocks-rpo w (v .shows)), blocks-most w good, good .sized .blocks-most)
+
+  pub rpo-is : {old rpo : List ℕ} {m : ℕ} → Listed (blocksIn (take n post)) 0 old rpo m → take m rpo ≡ blocksRpo w
+  rpo-is k = k .list ∙ sym (blocks-rpo w (v .shows))
+
+  pub keys-fit : n ≤ length post
+  keys-fit = let h = v .held in omega (arith, h .room, h .long, good .sized .functions-most, good .sized .blocks-most)
+
+pub front-length : {A : Type 0} (n : ℕ) (xs : List A) → n ≤ length xs → n ≡ length (take n xs)
+front-length n xs h = sym (length-take-le n xs h)
+
+-- all is at hand
+pub prepared : {w words seen post old rpo : List ℕ} {n k m : ℕ} → n ≤ length words → take n words ≡ w → WellFormed (take n words) → VisitedAll (take n words) seen post k
+    → Listed (blocksIn (take k post)) 0 old rpo m → length old ≡ 256 → Prepared w words seen post rpo n k m
+prepared {w} {words} {seen} {post} {old} {rpo} {n} {k} {m} fit is good v l long = record {
+  words-fit = fit;
+  words-are = is;
+  visited = subst (λ (w : List ℕ). VisitedAll w seen post k) is v;
+  rpo-fit = omega (arith, l .next, l .long, blocks-fit good v);
+  rpo-is = rpo-is good v l ∙ ap blocksRpo is;
+}
+
+-- what an accepted image's arrays give a question
+module _ {w words seen post rpo : List ℕ} {n k m : ℕ} (good : WellFormed w) (p : Prepared w words seen post rpo n k m) where
+  pub keys-there : k ≤ length post
+  keys-there = keys-fit good (p .visited)
+
+  pub order-fits : length (orderIn (take k post)) ≤ 384
+  order-fits = omega (arith, ap length (order-answer w (p .visited .shows)), order-most w good, good .sized .functions-most, good .sized .blocks-most)
+
+  pub words-good : WellFormed (take n words)
+  words-good = subst WellFormed (sym (p .words-are)) good
+
+  pub seen-blocks : SeenBlocks (take n words) seen
+  seen-blocks = subst (λ (v : List ℕ). SeenBlocks v seen) (sym (p .words-are)) (record {
+    wide = p .visited .held .wide;
+    visited-is = λ b l. sym (p .visited .shows .blocks-seen b (omega (arith, good .sized .blocks-most)));
+  })
+
+  pub nine-words : 9 ≤ length (take n words)
+  nine-words = omega (arith, words-good .sized .size)
+
+  pub order-listed : {old order : List ℕ} {r : ℕ} → Listed (orderIn (take k post)) 0 old order r → take r order ≡ orderAnswer w
+  order-listed l = l .list ∙ sym (order-answer w (p .visited .shows))

@@ -1,0 +1,122 @@
+-- `load` meets its contract.
+use mathlib.Core.Path.{_≡_, refl, sym, ap, _∙_, subst}
+use Prim.Native.Nat.{ℕ}
+use native.Mathlib.Omega.{arith}
+use lib.ListN.{length}
+use Rattle.sir_analyses.proofs.Loads.{refused-early, words-fit, front-is, front-good, refused-last, refused-never, blocks-fit, rpo-is, keys-fit, front-length, prepared}
+use borrow.Author.Needs.{needs}
+use Rattle.sir_analyses.proofs.loading.load.Statement.{statement}
+use Rattle.sir_analyses.proofs.loading.load.Tie as tie
+
+read-image-requires : tie.Need-read-image-requires
+read-image-requires c κs = search needs
+
+no-sizes-requires : tie.Need-no-sizes-requires
+no-sizes-requires c κs = search needs
+
+same-length : tie.Need-same-length
+same-length c = search needs
+
+returns : tie.Need-returns
+returns c = let e = refused-early (c .before .before .before .before .read-image .ensures) (c .before .if1 .taken) in record { number-is = c .no-sizes .ensures ∙ e; accepted = λ z. absurd (c .before .if1 .taken (e ∙ z)) }
+
+mul-n : tie.Need-mul-n
+mul-n c = search needs
+
+slice-reshare-prefix-visit : tie.Need-slice-reshare-prefix-visit
+slice-reshare-prefix-visit c = words-fit (c .before .before .before .read-image .ensures) (c .if1 .left)
+
+slice-aggregate-visit : tie.Need-slice-aggregate-visit
+slice-aggregate-visit c = front-length _ _ (words-fit (c .before .before .before .before .read-image .ensures) (c .before .if1 .left))
+
+visit-requires : tie.Need-visit-requires
+visit-requires c κs = (front-good (c .before .before .before .before .before .before .read-image .ensures) (c .before .before .before .if1 .left), (c .before .before .before .before .before .before .before .before .before .before .before .before .before .pre .0 .1, c .before .before .before .before .before .before .before .before .before .before .before .before .before .pre .1 .0))
+
+slice-reshare-prefix-blocks-rpo : tie.Need-slice-reshare-prefix-blocks-rpo
+slice-reshare-prefix-blocks-rpo c = keys-fit (front-good (c .before .before .before .before .before .before .before .before .before .before .before .read-image .ensures) (c .before .before .before .before .before .before .before .before .if1 .left)) (c .before .before .before .before .visit .ensures)
+
+slice-aggregate-blocks-rpo : tie.Need-slice-aggregate-blocks-rpo
+slice-aggregate-blocks-rpo c = front-length _ _ (keys-fit (front-good (c .before .before .before .before .before .before .before .before .before .before .before .before .read-image .ensures) (c .before .before .before .before .before .before .before .before .before .if1 .left)) (c .before .before .before .before .before .visit .ensures))
+
+blocks-rpo-requires : tie.Need-blocks-rpo-requires
+blocks-rpo-requires c κs = omega (arith, blocks-fit (front-good (c .before .before .before .before .before .before .before .before .before .before .before .before .before .read-image .ensures) (c .before .before .before .before .before .before .before .before .before .before .if1 .left)) (c .before .before .before .before .before .before .visit .ensures), c .before .before .before .before .before .before .before .before .before .before .before .before .before .before .before .before .before .before .before .before .pre .1 .1)
+
+slice-reshare-prefix-rule-12 : tie.Need-slice-reshare-prefix-rule-12
+slice-reshare-prefix-rule-12 c = words-fit (c .before .before .before .before .before .before .before .before .before .before .before .before .before .before .before .before .read-image .ensures) (c .before .before .before .before .before .before .before .before .before .before .before .before .before .if1 .left)
+
+slice-aggregate-rule-12 : tie.Need-slice-aggregate-rule-12
+slice-aggregate-rule-12 c = front-length _ _ (words-fit (c .before .before .before .before .before .before .before .before .before .before .before .before .before .before .before .before .before .read-image .ensures) (c .before .before .before .before .before .before .before .before .before .before .before .before .before .before .if1 .left))
+
+slice-reshare-prefix-rule-12-2 : tie.Need-slice-reshare-prefix-rule-12-2
+slice-reshare-prefix-rule-12-2 c = omega (arith, c .before .before .before .blocks-rpo .ensures .next, c .before .before .before .blocks-rpo .ensures .long, blocks-fit (front-good (c .before .before .before .before .before .before .before .before .before .before .before .before .before .before .before .before .before .read-image .ensures) (c .before .before .before .before .before .before .before .before .before .before .before .before .before .before .if1 .left)) (c .before .before .before .before .before .before .before .before .before .before .visit .ensures), c .before .before .before .before .before .before .before .before .before .before .before .before .before .before .before .before .before .before .before .before .before .before .before .before .pre .1 .1)
+
+slice-aggregate-rule-12-2 : tie.Need-slice-aggregate-rule-12-2
+slice-aggregate-rule-12-2 c = front-length _ _ (omega (arith, c .before .before .before .before .blocks-rpo .ensures .next, c .before .before .before .before .blocks-rpo .ensures .long, blocks-fit (front-good (c .before .before .before .before .before .before .before .before .before .before .before .before .before .before .before .before .before .before .read-image .ensures) (c .before .before .before .before .before .before .before .before .before .before .before .before .before .before .before .if1 .left)) (c .before .before .before .before .before .before .before .before .before .before .before .visit .ensures), c .before .before .before .before .before .before .before .before .before .before .before .before .before .before .before .before .before .before .before .before .before .before .before .before .before .pre .1 .1))
+
+rule-12-requires : tie.Need-rule-12-requires
+rule-12-requires c κs = ((front-good (c .before .before .before .before .before .before .before .before .before .before .before .before .before .before .before .before .before .before .read-image .ensures) (c .before .before .before .before .before .before .before .before .before .before .before .before .before .before .before .if1 .left)), rpo-is (front-good (c .before .before .before .before .before .before .before .before .before .before .before .before .before .before .before .before .before .before .read-image .ensures) (c .before .before .before .before .before .before .before .before .before .before .before .before .before .before .before .if1 .left)) (c .before .before .before .before .before .before .before .before .before .before .before .visit .ensures) (c .before .before .before .before .blocks-rpo .ensures))
+
+no-sizes-requires-2 : tie.Need-no-sizes-requires-2
+no-sizes-requires-2 c κs = search needs
+
+same-length-2 : tie.Need-same-length-2
+same-length-2 c = search needs
+
+same-length-3 : tie.Need-same-length-3
+same-length-3 c = search needs
+
+same-length-4 : tie.Need-same-length-4
+same-length-4 c = search needs
+
+same-length-5 : tie.Need-same-length-5
+same-length-5 c = search needs
+
+returns-2 : tie.Need-returns-2
+returns-2 c = let e = refused-last (c .before .before .before .before .before .before .before .before .before .before .before .before .before .before .before .before .before .before .before .before .before .read-image .ensures) (c .before .before .before .before .before .before .before .before .before .before .before .before .before .before .before .before .before .before .if1 .left) (sym (c .before .before .rule-12 .ensures) ∙ c .before .if2 .taken) in record { number-is = c .no-sizes2 .ensures ∙ e; accepted = λ z. absurd (let q : _≡_ {A = ℕ} 12 0 = e ∙ z in omega arith) }
+
+same-length-6 : tie.Need-same-length-6
+same-length-6 c = search needs
+
+same-length-7 : tie.Need-same-length-7
+same-length-7 c = search needs
+
+same-length-8 : tie.Need-same-length-8
+same-length-8 c = search needs
+
+same-length-9 : tie.Need-same-length-9
+same-length-9 c = search needs
+
+returns-3 : tie.Need-returns-3
+returns-3 c = record { number-is = refused-never (c .before .before .before .before .before .before .before .before .before .before .before .before .before .before .before .before .before .before .before .before .read-image .ensures) (c .before .before .before .before .before .before .before .before .before .before .before .before .before .before .before .before .before .if1 .left) (sym (c .before .rule-12 .ensures) ∙ c .if2 .left); accepted = λ z. prepared (words-fit (c .before .before .before .before .before .before .before .before .before .before .before .before .before .before .before .before .before .before .before .before .read-image .ensures) (c .before .before .before .before .before .before .before .before .before .before .before .before .before .before .before .before .before .if1 .left)) (front-is (c .before .before .before .before .before .before .before .before .before .before .before .before .before .before .before .before .before .before .before .before .read-image .ensures) (c .before .before .before .before .before .before .before .before .before .before .before .before .before .before .before .before .before .if1 .left)) (front-good (c .before .before .before .before .before .before .before .before .before .before .before .before .before .before .before .before .before .before .before .before .read-image .ensures) (c .before .before .before .before .before .before .before .before .before .before .before .before .before .before .before .before .before .if1 .left)) (c .before .before .before .before .before .before .before .before .before .before .before .before .before .visit .ensures) (c .before .before .before .before .before .before .blocks-rpo .ensures) (c .before .before .before .before .before .before .before .before .before .before .before .before .before .before .before .before .before .before .before .before .before .before .before .before .before .before .before .pre .1 .1) }
+
+pub load-spec : {M : Type 1} → statement M
+load-spec =
+    tie.close
+    (tie.spec
+    read-image-requires
+    no-sizes-requires
+    same-length
+    returns
+    mul-n
+    slice-reshare-prefix-visit
+    slice-aggregate-visit
+    visit-requires
+    slice-reshare-prefix-blocks-rpo
+    slice-aggregate-blocks-rpo
+    blocks-rpo-requires
+    slice-reshare-prefix-rule-12
+    slice-aggregate-rule-12
+    slice-reshare-prefix-rule-12-2
+    slice-aggregate-rule-12-2
+    rule-12-requires
+    no-sizes-requires-2
+    same-length-2
+    same-length-3
+    same-length-4
+    same-length-5
+    returns-2
+    same-length-6
+    same-length-7
+    same-length-8
+    same-length-9
+    returns-3)

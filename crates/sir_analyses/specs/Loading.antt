@@ -1,0 +1,22 @@
+-- What every question starts from: the refusal of the image by rules 1 to 12, or its words, the visit and the order's sequence.
+-- Assumes nothing.
+use mathlib.Core.Path.{_≡_}
+use mathlib.Core.List.{List}
+use Prim.Native.Nat.{ℕ, _≤_}
+use lib.ListN.{length, take}
+use Rattle.sir_data.specs.Pages.{payload}
+use Rattle.sir_analyses.specs.Order.{blocksRpo}
+use Rattle.sir_analyses.specs.Visiting.{VisitedAll}
+use Rattle.sir_analyses.specs.Answers.{refusal}
+
+-- n words, k keys of the visit and m blocks stand at the front of their arrays
+pub record Prepared (w words seen post rpo : List ℕ) (n k m : ℕ) : Type 0 where
+  pub words-fit : n ≤ length words
+  pub words-are : take n words ≡ w
+  pub visited : VisitedAll w seen post k
+  pub rpo-fit : m ≤ length rpo
+  pub rpo-is : take m rpo ≡ blocksRpo w
+
+pub record Loaded (s words seen post rpo : List ℕ) (number n k m : ℕ) : Type 0 where
+  pub number-is : number ≡ refusal s
+  pub accepted : refusal s ≡ 0 → Prepared (payload s) words seen post rpo n k m

@@ -1,0 +1,105 @@
+// The questions that can be put to an image. Each gives its number and the answer's length, and leaves the answer in `out`;
+// refused, it leaves `out` as it was.
+use crate::answers::put_words;
+use crate::loading::load;
+use crate::predecessors::put_predecessors;
+use crate::reverse_post_order::order_words;
+use plank_core::index::BlockId;
+use sir_data::records::block_count;
+ghost use mathlib.Core.Path.{_≡_};
+ghost use Prim.Native.Nat.{ℕ, _<_, _^_};
+ghost use lib.ListN.{length};
+ghost use Rattle.plank_core.specs.Lists.{bind};
+ghost use Rattle.sir_data.specs.Pages.{payload, bytesOf};
+ghost use Rattle.sir_data.specs.Records.{blocks};
+ghost use Rattle.sir_analyses.specs.Answers.{refusal, orderAnswer, predecessorsAnswer, made, answered, outcome};
+ghost use Rattle.sir_data.specs.WellFormed.{WellFormed};
+ghost use Rattle.sir_analyses.specs.Claims.{OrderRule};
+ghost use Rattle.sir_analyses.specs.Visiting.{SeenBlocks};
+
+#[repr(C)]
+pub struct Answer {
+    pub number: u32,
+    pub length: u64,
+}
+
+fn refuse(number: u32) -> Answer
+    ensures { λ r. ⌜ (r .number ≡ number) × (r .length ≡ 0) ⌝ }
+{
+    Answer { number, length: 0 }
+}
+
+// An answer whose words are at hand.
+fn words_answer(words: &[u32], out: &mut [u8]) -> Answer
+    requires { ⌜ length (now words) < 2 ^ 60 ⌝ }
+    ensures { λ r. ⌜ made (r .number) (r .length) (now (out .exit)) ≡ answered (bind (now (words .entry)) bytesOf) (now (out .entry)) ⌝ }
+{
+    let n = words.len();
+    if out.len() < 4 * n {
+        return refuse(14);
+    }
+    let room = out.len();
+    put_words(out, room, 0, words);
+    Answer {
+        number: 0,
+        length: (4 * n) as u64,
+    }
+}
+
+#[no_mangle]
+pub extern "C" fn sir_order(image: &[u8], out: &mut [u8]) -> Answer
+    ensures { λ r. ⌜ made (r .number) (r .length) (now (out .exit)) ≡ outcome (λ w. 1) (λ w i. orderAnswer w) (now (image .entry)) 0 (now (out .entry)) ⌝ }
+    ensures { λ r. ⌜ (refusal (now (image .entry)) ≡ 0 → OrderRule (payload (now (image .entry)))) ⌝ }
+{
+    let mut words = [0u32; 14742];
+    let mut seen = [0u64; 16];
+    let mut post = [0u32; 320];
+    let mut rpo = [0u32; 256];
+    let sizes = load(image, &mut words, &mut seen, &mut post, &mut rpo);
+    let number = sizes.number;
+    if number != 0 {
+        return refuse(number);
+    }
+    let keys = sizes.keys;
+    let mut order = [0u32; 384];
+    let n = order_words(&post[..keys], &mut order);
+    words_answer(&order[..n], out)
+}
+
+// Counts, then writes.
+fn predecessors_answer(words: &[u32], seen: &[u64], block: u32, out: &mut [u8]) -> Answer
+    requires { ⌜ WellFormed (now words) ⌝ }
+    requires { ⌜ SeenBlocks (now words) (now seen) ⌝ }
+    ensures { λ r. ⌜ made (r .number) (r .length) (now (out .exit)) ≡ answered (bind (predecessorsAnswer (now (words .entry)) block) bytesOf) (now (out .entry)) ⌝ }
+{
+    let n = put_predecessors(words, seen, BlockId(block), out, 0);
+    if out.len() < 4 * n {
+        return refuse(14);
+    }
+    let room = out.len();
+    put_predecessors(words, seen, BlockId(block), out, room);
+    Answer {
+        number: 0,
+        length: (4 * n) as u64,
+    }
+}
+
+#[no_mangle]
+pub extern "C" fn sir_predecessors(image: &[u8], block: u32, out: &mut [u8]) -> Answer
+    ensures { λ r. ⌜ made (r .number) (r .length) (now (out .exit)) ≡ outcome blocks predecessorsAnswer (now (image .entry)) block (now (out .entry)) ⌝ }
+{
+    let mut words = [0u32; 14742];
+    let mut seen = [0u64; 16];
+    let mut post = [0u32; 320];
+    let mut rpo = [0u32; 256];
+    let sizes = load(image, &mut words, &mut seen, &mut post, &mut rpo);
+    let number = sizes.number;
+    if number != 0 {
+        return refuse(number);
+    }
+    let n = sizes.words;
+    if block >= block_count(&words[..n]) {
+        return refuse(13);
+    }
+    predecessors_answer(&words[..n], &seen, block, out)
+}
