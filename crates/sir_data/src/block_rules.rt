@@ -200,12 +200,12 @@ pub fn rule_10(words: &[u32]) -> bool
     ensures { λ r. ⌜ r ≡ rule10 (now (words .entry)) ⌝ }
 {
     let n = block_count(words);
-    let mut b: u32 = 0;
-    while b < n {
-        if !edges_ok(words, BlockId(b)) {
+    let mut from: u32 = 0;
+    while from < n {
+        if !edges_ok(words, BlockId(from)) {
             return true;
         }
-        b += 1;
+        from += 1;
     }
     false
 }

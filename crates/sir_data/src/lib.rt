@@ -1,9 +1,9 @@
 // Layer 2: the image.
-pub mod block_rules;
-pub mod bounds;
+mod block_rules;
+mod bounds;
 pub mod codes;
 pub mod image;
-pub mod operation_rules;
+mod operation_rules;
 pub mod pages;
 pub mod records;
 pub mod rules;

@@ -162,7 +162,7 @@ fn targets_ok(words: &[u32]) -> bool
     )
 }
 
-// Rule 8: a range is not within its list, or an id is not below its count.
+// Rule 8: a range is not within its list, an id is not below its count, or a static id is one that the source cannot hold.
 fn rule_8(words: &[u32]) -> bool
     requires { ⌜ Sized (now words) ⌝ }
     ensures { λ r. ⌜ r ≡ rule8 (now (words .entry)) ⌝ }

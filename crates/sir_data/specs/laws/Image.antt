@@ -2,14 +2,14 @@
 use mathlib.Core.Path.{_≡_, refl, sym, _∙_}
 use mathlib.Core.Bool.{Bool, true, false, not, _||_, cond}
 use mathlib.Core.List.{List, _++_}
-use Prim.Native.Nat.{ℕ, _+_, _*_, _/_, _%_, _≤_}
+use Prim.Native.Nat.{ℕ, _*_, _%_, _≤_}
 use native.Mathlib.Omega.{arith}
 use lib.ListN.{length}
 use lib.Dec.{eqb, ltb}
 use borrow.Author.Tests.{ltb-false, eqb-true, eqb-false, eq-eqb, ne-eqb, not-false}
 use Rattle.plank_core.specs.laws.Lists.{or-false-left, or-false-right}
 use Rattle.plank_core.specs.laws.Loops.{length-map-upto}
-use Rattle.sir_data.specs.Pages.{pages, pageWord, payload, badLength}
+use Rattle.sir_data.specs.Pages.{pages, payload, badLength}
 use Rattle.sir_data.specs.Rules.{first, pageRules, recordRules}
 use Rattle.sir_data.specs.WellFormed.{WellFormed}
 use Rattle.sir_data.specs.laws.Rules.{keeps, first-append}
@@ -17,7 +17,7 @@ use Rattle.sir_data.specs.laws.WellFormed.{well-formed}
 
 pub length-payload : (s : List ℕ) → length (payload s) ≡ 126 * pages s
 unfolding payload
-length-payload s = length-map-upto (λ k. pageWord s (k / 126) (1 + k % 126)) (126 * pages s)
+length-payload s = length-map-upto _ (126 * pages s)
 
 -- ---- pages
 

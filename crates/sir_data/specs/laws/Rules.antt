@@ -1,11 +1,11 @@
 -- Tests of the rules in the forms that code takes, and the first rule that is broken. Assumes nothing.
-use mathlib.Core.Path.{_≡_, refl, sym, _∙_}
+use mathlib.Core.Path.{_≡_, refl, sym}
 use mathlib.Core.Bool.{Bool, true, false, _||_, cond, and-true}
 use mathlib.Core.List.{List, [], _∷_, _++_}
 use Prim.Native.Nat.{ℕ, zero, suc, _≤_, _<_}
 use native.Mathlib.Omega.{arith}
 use lib.Dec.{eqb, leb, ltb}
-use borrow.Author.Tests.{le-leb, eq-eqb, ne-eqb}
+use borrow.Author.Tests.{le-leb, ne-eqb}
 use Rattle.sir_data.specs.Rules.{optionalBelow, first}
 
 -- an id plus one, or 0 for none, is at most the count

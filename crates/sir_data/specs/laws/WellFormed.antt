@@ -1,16 +1,16 @@
 -- Facts on numbers and lists, from rules that are not broken. Assumes nothing.
-use mathlib.Core.Path.{_≡_, refl, sym, ap, _∙_, subst}
-use mathlib.Core.Logic.{⊎-elim, _⊎_, inl, inr}
+use mathlib.Core.Path.{_≡_, refl}
+use mathlib.Core.Logic.{⊎-elim}
 use mathlib.Core.Bool.{Bool, true, false, not, _&&_, _||_, cond}
 use Prim.Native.Nat.{ℕ, zero, suc, _+_, _-_, _*_, _/_, _≤_, _<_}
 use native.Mathlib.Omega.{arith}
-use mathlib.Core.List.{List, [], _∷_, _++_, map, List·Memᴰ, List·Memᴰ·head, List·Memᴰ·tail, List·Memᴰ·not-nil, List·Memᴰ·cases-cons, List·Memᴰ·eq-of-singleton, List·Memᴰ·append-cases}
-use lib.ListN.{length, getD, drop}
+use mathlib.Core.List.{List, [], _∷_, _++_, map, List·Memᴰ, List·Memᴰ·head, List·Memᴰ·not-nil, List·Memᴰ·cases-cons, List·Memᴰ·eq-of-singleton, List·Memᴰ·append-cases}
+use lib.ListN.{length}
 use lib.Dec.{eqb, leb, ltb}
-use borrow.Author.Tests.{ltb-true, ltb-false, leb-true, leb-false, eqb-true, eqb-false, ne-eqb, not-false}
-use Rattle.plank_core.specs.Lists.{count, range, upto, all, any, distinct}
-use Rattle.plank_core.specs.laws.Lists.{or-false-left, or-false-right, and-true-left, and-true-right, mem-count, mem-range, map-each, all-mem, all-upto}
-use Rattle.sir_data.specs.Records.{edition, functions, blocks, operations, operandWords, caseTargets, locals, initFunction, mainPlusOne, wordCount, entryBlock, blockWord, opWord, operand, target, run, inputs, outputs, ops, control, field, optional, successors, condition, returned, code, ins, outs, extra, isCall, callees}
+use borrow.Author.Tests.{ltb-true, ltb-false, leb-true, eqb-true, eqb-false, ne-eqb, not-false}
+use Rattle.plank_core.specs.Lists.{count, range, upto, all, distinct}
+use Rattle.plank_core.specs.laws.Lists.{or-false-left, or-false-right, and-true-left, and-true-right, mem-count, mem-range, map-each, all-mem, all-upto, none}
+use Rattle.sir_data.specs.Records.{functions, blocks, operations, operandWords, caseTargets, locals, initFunction, mainPlusOne, wordCount, entryBlock, blockWord, opWord, operand, target, run, inputs, outputs, ops, control, field, optional, successors, code, ins, outs, extra, isCall}
 use Rattle.sir_data.specs.Codes.{arityOk, isStaticAlloc}
 use Rattle.sir_data.specs.Rules.{rule4, rule5, rule6, rule7, rule8, rule9, rule10, rule11, first, recordRules, zeroFrom, blockFieldsOk, opFieldsOk, rangeOk, optionalBelow, controlIdsOk, blockIdsOk, opIdsOk}
 use Rattle.sir_data.specs.WellFormed.{Sized, InRange, WellFormed}
@@ -81,7 +81,7 @@ rules w h =
     let k9 = k8 .1 (omega arith) in
     let k10 = k9 .1 (omega arith) in
     let k11 = k10 .1 (omega arith) in
-    record { r4 = k4 .0; r5 = k5 .0; r6 = k6 .0; r7 = k7 .0; r8 = k8 .0; r9 = k9 .0; r10 = k10 .0; r11 = k11 .0 }
+    record { r4 = (cc); r5 = (cc); r6 = (cc); r7 = (cc); r8 = (cc); r9 = (cc); r10 = (cc); r11 = (cc) }
 
 optional-ok : (k n m : ℕ) → optionalBelow k n ≡ true → List·Memᴰ m (optional k) → m < n
 optional-ok zero n m h i = absurd (List·Memᴰ·not-nil i)
@@ -179,7 +179,11 @@ module _ (w : List ℕ) (r5 : rule5 w ≡ false) (r6 : rule6 w ≡ false) where
 
   six : length w ≡ 126 * ((wordCount w + 125) / 126)
   unfolding rule6
-  six = eqb-true _ _ (not-false _ (or-false-left (not (eqb (length w) (126 * ((wordCount w + 125) / 126)))) (any (λ x. not (eqb x 0)) (drop (wordCount w) w)) r6))
+  six = go (eqb (length w) (126 * ((wordCount w + 125) / 126))) refl
+    where
+      go : (t : Bool) → eqb (length w) (126 * ((wordCount w + 125) / 126)) ≡ t → length w ≡ 126 * ((wordCount w + 125) / 126)
+      go true e = eqb-true _ _ e
+      go false e = none true refl (rw e at r6)
 
   pub sized : Sized w
   sized =

@@ -1,9 +1,8 @@
 -- `all_distinct` meets its contract. The loop's invariant: what is left is distinct and not in the set.
-use mathlib.Core.Path.{_≡_, refl, sym, ap, _∙_}
-use Prim.Native.Nat.{ℕ, _-_, _≤_, _<_}
+use mathlib.Core.Path.{_≡_, refl, sym, _∙_}
+use Prim.Native.Nat.{_-_, _≤_}
 use native.Mathlib.Omega.{arith}
 use native.Mathlib.Nat.{zero-add}
-use borrow.Author.Needs.{needs}
 use lib.ListN.{length, drop}
 use borrow.Author.Tests.{not-true, not-false}
 use Rattle.plank_core.specs.Lists.{distinct}

@@ -38,7 +38,7 @@ returns-4 c =
     let c3 = c .before in
     let c2 = c3 .before .before .before in
     let c1 = c2 .before .before in
-    rw (← c1 .before .before .operand-count .ensures, ← c3 .before .before .operation-count .ensures, sym (c1 .before .block-range-ok .ensures) ∙ not-false _ (c1 .if1 .left), sym (c2 .before .block-range-ok2 .ensures) ∙ not-false _ (c2 .if2 .left), sym (c3 .before .block-range-ok3 .ensures) ∙ not-false _ (c3 .if3 .left)) (c .control-ids-ok .ensures)
+    rw (← c1 .before .before .operand-count .ensures, ← c3 .before .before .operation-count .ensures, ← c1 .before .block-range-ok .ensures, not-false (c1 .before .block-range-ok .result) (c1 .if1 .left), ← c2 .before .block-range-ok2 .ensures, not-false (c2 .before .block-range-ok2 .result) (c2 .if2 .left), ← c3 .before .block-range-ok3 .ensures, not-false (c3 .before .block-range-ok3 .result) (c3 .if3 .left)) (c .control-ids-ok .ensures)
 
 pub block-ids-ok-spec : {M : Type 1} → statement M
 block-ids-ok-spec =

@@ -1,4 +1,5 @@
--- `branch_ids_ok` meets its contract: each test in turn.
+-- `branch_ids_ok` meets its contract: a test that fails decides, and the last where the others hold.
+use mathlib.Core.Bool.{and-false}
 use borrow.Author.Tests.{lt-ltb, le-ltb}
 use borrow.Author.Needs.{needs}
 use Rattle.sir_data.proofs.block_rules.branch_ids_ok.Statement.{statement}
@@ -20,9 +21,7 @@ block-word-requires-2 : tie.Need-block-word-requires-2
 block-word-requires-2 c κs = search needs
 
 returns-2 : tie.Need-returns-2
-returns-2 c =
-    let c1 = c .before .before .before in
-    rw (← c1 .before .before .block-word .ensures, ← c1 .before .local-count .ensures, lt-ltb _ _ (c1 .if1 .left), ← c .before .block-word2 .ensures, ← c .before .before .block-count .ensures, le-ltb _ _ (c .if2 .taken))
+returns-2 c = rw (← c .before .block-word2 .ensures, ← c .before .before .block-count .ensures, le-ltb _ _ (c .if2 .taken), and-false)
 
 block-word-requires-3 : tie.Need-block-word-requires-3
 block-word-requires-3 c κs = search needs

@@ -20,10 +20,10 @@ abbrev passed : List ℕ → ℕ → Bool
 passed w b = all (λ s. eqb (length (outputs w b)) (length (inputs w s))) (successors w b)
 
 abbrev Inv-loop : tie.InvT-loop
-Inv-loop words n b₀ b = (b ≤ blocks words) × (all (passed words) (range b (blocks words)) ≡ all (passed words) (upto (blocks words)))
+Inv-loop words n from₀ from = (from ≤ blocks words) × (all (passed words) (range from (blocks words)) ≡ all (passed words) (upto (blocks words)))
 
 abbrev μ-loop : tie.MeasureT-loop
-μ-loop words n b₀ b = n - b
+μ-loop words n from₀ from = n - from
 
 block-count-requires : tie.Need-block-count-requires Inv-loop μ-loop
 block-count-requires c κs = search needs
@@ -38,10 +38,10 @@ returns : tie.Need-returns Inv-loop μ-loop
 unfolding rule10
 returns c =
     let l = c .before .before .before .loop in
-    ap not (sym (all-stop _ (l .b) _ (omega arith) (sym (c .before .edges-ok .ensures) ∙ not-true _ (c .if1 .taken))) ∙ l .inv .1)
+    ap not (sym (all-stop _ (l .from) _ (omega arith) (sym (c .before .edges-ok .ensures) ∙ not-true _ (c .if1 .taken))) ∙ l .inv .1)
 
-add-b : tie.Need-add-b Inv-loop μ-loop
-add-b c = omega arith
+add-from : tie.Need-add-from Inv-loop μ-loop
+add-from c = omega arith
 
 loop-less : tie.Need-loop-less Inv-loop μ-loop
 loop-less c = omega arith
@@ -49,13 +49,13 @@ loop-less c = omega arith
 loop-again : tie.Need-loop-again Inv-loop μ-loop
 loop-again c =
     let l = c .before .before .before .loop in
-    (omega arith, all-step _ (l .b) _ (omega arith) (sym (c .before .edges-ok .ensures) ∙ not-false _ (c .if1 .left)) ∙ l .inv .1)
+    (omega arith, all-step _ (l .from) _ (omega arith) (sym (c .before .edges-ok .ensures) ∙ not-false _ (c .if1 .left)) ∙ l .inv .1)
 
 returns-2 : tie.Need-returns-2 Inv-loop μ-loop
 unfolding rule10
 returns-2 c =
     let l = c .before .loop in
-    ap not (sym (all-end _ (l .b) _ (omega arith)) ∙ l .inv .1)
+    ap not (sym (all-end _ (l .from) _ (omega arith)) ∙ l .inv .1)
 
 pub rule-10-spec : {M : Type 1} → statement M
 rule-10-spec =
@@ -67,7 +67,7 @@ rule-10-spec =
     loop-holds
     edges-ok-requires
     returns
-    add-b
+    add-from
     loop-less
     loop-again
     returns-2)

@@ -1,4 +1,5 @@
--- `switch_ids_ok` meets its contract: each test in turn.
+-- `switch_ids_ok` meets its contract: a test that fails decides, and the last where the others hold.
+use mathlib.Core.Bool.{and-false}
 use borrow.Author.Tests.{lt-ltb, le-ltb, le-leb, lt-leb}
 use borrow.Author.Needs.{needs}
 use Rattle.sir_data.proofs.block_rules.switch_ids_ok.Statement.{statement}
@@ -35,9 +36,7 @@ cast-if2 : tie.Need-cast-if2
 cast-if2 c = search needs
 
 returns-2 : tie.Need-returns-2
-returns-2 c =
-    let c1 = c .before .before .before .before in
-    rw (← c1 .before .before .block-word .ensures, ← c1 .before .local-count .ensures, lt-ltb _ _ (c1 .if1 .left), ← c .before .before .before .block-word2 .ensures, ← c .before .before .block-word3 .ensures, ← c .before .target-count .ensures, lt-leb _ _ (c .if2 .taken))
+returns-2 c = rw (← c .before .before .before .block-word2 .ensures, ← c .before .before .block-word3 .ensures, ← c .before .target-count .ensures, lt-leb _ _ (c .if2 .taken), and-false)
 
 block-word-requires-4 : tie.Need-block-word-requires-4
 block-word-requires-4 c κs = search needs

@@ -5,8 +5,9 @@ use Prim.Native.Nat.{ℕ, _+_, _*_, _-_, _/_, _%_, _≤_, _<_}
 use native.Mathlib.Omega.{arith}
 use lib.ListN.{length, drop}
 use Rattle.plank_core.specs.Lists.{upto}
-use Rattle.plank_core.specs.laws.Loops.{map-same, length-map-upto, fill-part}
+use Rattle.plank_core.specs.laws.Loops.{map-same, fill-part}
 use Rattle.sir_data.specs.Pages.{pageWord, pages, payload}
+use Rattle.sir_data.specs.laws.Image.{length-payload}
 use Rattle.sir_data.proofs.pages.read_payload.Statement.{statement}
 use Rattle.sir_data.proofs.pages.read_payload.Tie as tie
 
@@ -77,7 +78,7 @@ returns c =
     let s = c .before .before .before .before .args .image .now in
     let l = c .before .loop in
     let e : l .start ≡ 126 * pages s = omega arith in
-    (e ∙ sym (length-map-upto (taken s) (126 * pages s)), l .inv .3 ∙ rw e)
+    (e ∙ sym (length-payload s), l .inv .3 ∙ rw e)
 
 pub read-payload-spec : {M : Type 1} → statement M
 read-payload-spec =
