@@ -51,7 +51,7 @@ module _ (w : List ℕ) (b p n : ℕ) where
 
 -- ---- how many predecessors a block can have
 
-bind-most : (g : ℕ → List ℕ) (k : ℕ) (xs : List ℕ) → ((x : ℕ) → x ∈ xs → length (g x) ≤ k) → length (bind xs g) ≤ k * length xs
+pub bind-most : (g : ℕ → List ℕ) (k : ℕ) (xs : List ℕ) → ((x : ℕ) → x ∈ xs → length (g x) ≤ k) → length (bind xs g) ≤ k * length xs
 bind-most g k [] h = omega arith
 bind-most g k (x ∷ xs) h =
     let e : k * suc (length xs) ≡ k * length xs + k = mul-suc k (length xs) in

@@ -5,6 +5,7 @@ pub mod Keys
 pub mod Loads
 pub mod Outcomes
 pub mod Edges
+pub mod UseWords
 pub mod OrderOnce
 pub mod OrderProof
 pub mod SetLaws

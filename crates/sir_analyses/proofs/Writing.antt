@@ -127,3 +127,14 @@ puts-then {limit} {n} {xs} {ys} {out} {mid} {out′} {m} {r} a b = record {
 -- the words still to come fit the numbers
 pub putting-count : {limit n₀ : ℕ} {full out₀ : List ℕ} (xs rest : List ℕ) {out : List ℕ} {n k : ℕ} → n₀ + length full < k → Putting limit n₀ full out₀ (xs ++ rest) out n → n + length xs < k
 putting-count xs rest h p = let a = length-append xs rest in omega (arith, p .count)
+
+-- the limit is reached: the rest is only counted
+pub putting-past : {limit n₀ : ℕ} {full out₀ rest out : List ℕ} {n r : ℕ} → limit < 4 * n + 4 → r ≡ n₀ + length full → Putting limit n₀ full out₀ rest out n → Puts limit n₀ full out₀ out r
+putting-past {limit} {rest = rest} {out = out} {n = n} h e k = record { next = e; left = sym (puts-past limit n rest out h) ∙ k .left }
+
+pub puts-nothing : {limit n : ℕ} {out : List ℕ} → Puts limit n [] out out n
+unfolding wordsPut
+puts-nothing = record { next = omega arith; left = refl }
+
+pub puts-as : {limit n : ℕ} {xs ys out out′ : List ℕ} {r : ℕ} → xs ≡ ys → Puts limit n xs out out′ r → Puts limit n ys out out′ r
+puts-as e k = rw e at k

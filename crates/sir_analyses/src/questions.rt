@@ -1,19 +1,23 @@
 // The questions that can be put to an image. Each gives its number and the answer's length, and leaves the answer in `out`;
 // refused, it leaves `out` as it was.
 use crate::answers::put_words;
+use crate::def_use::input_counts;
+use crate::def_use::put_uses;
 use crate::loading::load;
 use crate::predecessors::put_predecessors;
 use crate::reverse_post_order::order_words;
 use plank_core::index::BlockId;
 use sir_data::records::block_count;
+use sir_data::records::local_count;
 ghost use mathlib.Core.Path.{_≡_};
 ghost use Prim.Native.Nat.{ℕ, _<_, _^_};
 ghost use lib.ListN.{length};
 ghost use Rattle.plank_core.specs.Lists.{bind};
 ghost use Rattle.sir_data.specs.Pages.{payload, bytesOf};
-ghost use Rattle.sir_data.specs.Records.{blocks};
-ghost use Rattle.sir_analyses.specs.Answers.{refusal, orderAnswer, predecessorsAnswer, made, answered, outcome};
+ghost use Rattle.sir_data.specs.Records.{blocks, locals};
+ghost use Rattle.sir_analyses.specs.Answers.{refusal, orderAnswer, predecessorsAnswer, usesAnswer, made, answered, outcome};
 ghost use Rattle.sir_data.specs.WellFormed.{WellFormed};
+ghost use Rattle.sir_analyses.specs.Order.{blocksRpo};
 ghost use Rattle.sir_analyses.specs.Claims.{OrderRule};
 ghost use Rattle.sir_analyses.specs.Visiting.{SeenBlocks};
 
@@ -102,4 +106,45 @@ pub extern "C" fn sir_predecessors(image: &[u8], block: u32, out: &mut [u8]) -> 
         return refuse(13);
     }
     predecessors_answer(&words[..n], &seen, block, out)
+}
+
+// Counts, then writes.
+fn uses_answer(words: &[u32], rpo: &[u32], local: u32, out: &mut [u8]) -> Answer
+    requires { ⌜ WellFormed (now words) ⌝ }
+    requires { ⌜ now rpo ≡ blocksRpo (now words) ⌝ }
+    ensures { λ r. ⌜ made (r .number) (r .length) (now (out .exit)) ≡ answered (bind (usesAnswer (now (words .entry)) local) bytesOf) (now (out .entry)) ⌝ }
+{
+    let mut counts = [0u32; 1024];
+    input_counts(words, local, &mut counts);
+    let n = put_uses(words, rpo, &counts, local, out, 0);
+    if out.len() < 4 * n {
+        return refuse(14);
+    }
+    let room = out.len();
+    put_uses(words, rpo, &counts, local, out, room);
+    Answer {
+        number: 0,
+        length: (4 * n) as u64,
+    }
+}
+
+#[no_mangle]
+pub extern "C" fn sir_uses(image: &[u8], local: u32, out: &mut [u8]) -> Answer
+    ensures { λ r. ⌜ made (r .number) (r .length) (now (out .exit)) ≡ outcome locals usesAnswer (now (image .entry)) local (now (out .entry)) ⌝ }
+{
+    let mut words = [0u32; 14742];
+    let mut seen = [0u64; 16];
+    let mut post = [0u32; 320];
+    let mut rpo = [0u32; 256];
+    let sizes = load(image, &mut words, &mut seen, &mut post, &mut rpo);
+    let number = sizes.number;
+    if number != 0 {
+        return refuse(number);
+    }
+    let n = sizes.words;
+    if local >= local_count(&words[..n]) {
+        return refuse(13);
+    }
+    let blocks = sizes.blocks;
+    uses_answer(&words[..n], &rpo[..blocks], local, out)
 }

@@ -1,0 +1,89 @@
+-- `put_same` meets its contract. The invariant: the uses left are to be put.
+use mathlib.Core.Path.{_≡_, refl, sym, ap, _∙_}
+use mathlib.Core.List.{List, [], _∷_, _++_}
+use Prim.Native.Nat.{ℕ, _+_, _-_, _*_, _^_, _≤_, _<_}
+use native.Mathlib.Omega.{arith}
+use lib.ListN.{length}
+use Rattle.sir_analyses.proofs.Writing.{Putting, putting-none, putting-as, putting-count, putting-more, putting-all, putting-past}
+use Rattle.sir_analyses.specs.Uses.{sameUses}
+use Rattle.sir_analyses.proofs.UseWords.{sameLeft, same-start, same-next, same-end, same-uses-length}
+use Rattle.sir_analyses.proofs.def_use.put_same.Statement.{statement}
+use Rattle.sir_analyses.proofs.def_use.put_same.Tie as tie
+
+abbrev Inv-loop : tie.InvT-loop
+Inv-loop out₀ limit n block o times m₀ i₀ out m i = (i ≤ times) × Putting limit n (sameUses block o times) out₀ (sameLeft block o i times) out m
+
+abbrev μ-loop : tie.MeasureT-loop
+μ-loop out₀ limit n block o times m₀ i₀ out m i = times - i
+
+loop-holds : tie.Need-loop-holds Inv-loop μ-loop
+loop-holds c = (omega arith, putting-as (same-start (c .before .args .block) (c .before .args .o) (c .before .args .times)) putting-none)
+
+mul-if1 : tie.Need-mul-if1 Inv-loop μ-loop
+mul-if1 c = let S = c .before .before .before in
+    let L = c .before .loop in
+    let e = same-uses-length (S .args .block) (S .args .o) (S .args .times) in
+    omega (arith, putting-count (S .args .block ∷ 0 ∷ S .args .o ∷ []) (sameLeft (S .args .block) (S .args .o) (L .i + 1) (S .args .times)) {k = 2 ^ 59} (omega (arith, S .pre .1, e)) (putting-as (same-next (S .args .block) (S .args .o) (L .i) (S .args .times) (c .loop-test .taken)) (L .inv .1)))
+
+add-if1 : tie.Need-add-if1 Inv-loop μ-loop
+add-if1 c = let S = c .before .before .before in
+    let L = c .before .loop in
+    let e = same-uses-length (S .args .block) (S .args .o) (S .args .times) in
+    omega (arith, putting-count (S .args .block ∷ 0 ∷ S .args .o ∷ []) (sameLeft (S .args .block) (S .args .o) (L .i + 1) (S .args .times)) {k = 2 ^ 59} (omega (arith, S .pre .1, e)) (putting-as (same-next (S .args .block) (S .args .o) (L .i) (S .args .times) (c .loop-test .taken)) (L .inv .1)))
+
+mul-result : tie.Need-mul-result Inv-loop μ-loop
+mul-result c = omega arith
+
+add-result : tie.Need-add-result Inv-loop μ-loop
+add-result c = omega arith
+
+same-length : tie.Need-same-length Inv-loop μ-loop
+same-length c = c .before .before .loop .inv .1 .long
+
+returns : tie.Need-returns Inv-loop μ-loop
+returns c = let S = c .before .before .before .before in putting-past (c .if1 .taken) (omega (arith, same-uses-length (S .args .block) (S .args .o) (S .args .times))) (c .before .before .loop .inv .1)
+
+put-triple-requires : tie.Need-put-triple-requires Inv-loop μ-loop
+put-triple-requires c κs = let S = c .before .before .before .before .before in
+    let L = c .before .before .before .loop in
+    let e = same-uses-length (S .args .block) (S .args .o) (S .args .times) in
+    (omega (arith, S .pre .0, L .inv .1 .long), omega (arith, putting-count (S .args .block ∷ 0 ∷ S .args .o ∷ []) (sameLeft (S .args .block) (S .args .o) (L .i + 1) (S .args .times)) {k = 2 ^ 59} (omega (arith, S .pre .1, e)) (putting-as (same-next (S .args .block) (S .args .o) (L .i) (S .args .times) (c .before .before .loop-test .taken)) (L .inv .1))))
+
+add-i : tie.Need-add-i Inv-loop μ-loop
+add-i c = omega arith
+
+loop-less : tie.Need-loop-less Inv-loop μ-loop
+loop-less c = omega arith
+
+loop-again : tie.Need-loop-again Inv-loop μ-loop
+loop-again c = let S = c .before .before .before .before .before .before .before .before in
+    let L = c .before .before .before .before .before .before .loop in
+    (omega arith, putting-more (S .pre .0) (putting-as (same-next (S .args .block) (S .args .o) (L .i) (S .args .times) (c .before .before .before .before .before .loop-test .taken)) (L .inv .1)) (c .before .before .put-triple .ensures))
+
+same-length-2 : tie.Need-same-length-2 Inv-loop μ-loop
+same-length-2 c = c .before .loop .inv .1 .long
+
+returns-2 : tie.Need-returns-2 Inv-loop μ-loop
+returns-2 c = let S = c .before .before .before in
+    let L = c .before .loop in
+    putting-all (same-end (S .args .block) (S .args .o) (L .i) (S .args .times) (c .loop-test .left)) (L .inv .1)
+
+pub put-same-spec : {M : Type 1} → statement M
+put-same-spec =
+    tie.close
+    (tie.spec
+    Inv-loop
+    μ-loop
+    loop-holds
+    mul-if1
+    add-if1
+    mul-result
+    add-result
+    same-length
+    returns
+    put-triple-requires
+    add-i
+    loop-less
+    loop-again
+    same-length-2
+    returns-2)

@@ -1,0 +1,196 @@
+// Uses of a local, in the order in which `DefUse` of the source fills them: per block of the order its operations, its
+// condition, its outputs. How often each operation reads the local is counted once, since operations may lie in many blocks.
+use crate::answers::put_triple;
+use plank_core::index::BlockId;
+use plank_core::index::OpIdx;
+use sir_data::records::block_operations;
+use sir_data::records::block_outputs;
+use sir_data::records::block_word;
+use sir_data::records::op_inputs;
+use sir_data::records::operation_count;
+ghost use mathlib.Core.Path.{_≡_};
+ghost use Prim.Native.Nat.{ℕ, _+_, _*_, _<_, _≤_, _^_};
+ghost use lib.ListN.{length};
+ghost use Rattle.plank_core.specs.Lists.{mem};
+ghost use Rattle.sir_data.specs.Records.{blocks, condition};
+ghost use Rattle.sir_data.specs.WellFormed.{WellFormed};
+ghost use Rattle.sir_analyses.specs.Order.{blocksRpo};
+ghost use Rattle.sir_analyses.specs.Liveness.{positions};
+ghost use Rattle.sir_analyses.specs.Uses.{InputCounts, sameUses, operationUses, conditionUses, outputUses, blockUses, usesOf};
+ghost use Rattle.sir_analyses.specs.Writing.{Puts};
+
+// How often a local is among some operands.
+fn count_local(run: &[u32], local: u32) -> u32
+    requires { ⌜ length (now run) ≤ 4096 ⌝ }
+    ensures { λ r. ⌜ r ≡ length (positions local (now (run .entry)) 0) ⌝ }
+{
+    let mut n: u32 = 0;
+    let mut i: usize = 0;
+    while i < run.len() {
+        let v = run[i];
+        i += 1;
+        if v == local {
+            n += 1;
+        }
+    }
+    n
+}
+
+// How often each operation reads a local.
+pub fn input_counts(words: &[u32], local: u32, counts: &mut [u32])
+    requires { ⌜ WellFormed (now words) ⌝ }
+    requires { ⌜ length (now counts) ≡ 1024 ⌝ }
+    ensures { λ _. ⌜ InputCounts (now (words .entry)) local (now (counts .exit)) ⌝ }
+{
+    let last = operation_count(words);
+    let mut o: u32 = 0;
+    while o < last {
+        counts[o as usize] = count_local(op_inputs(words, OpIdx(o)), local);
+        o += 1;
+    }
+}
+
+// The same use some times over; behind the limit they are only counted.
+fn put_same(out: &mut [u8], limit: usize, n: usize, block: u32, o: u32, times: u32) -> usize
+    requires { ⌜ (limit ≤ length (now out)) × (n + 3 * times < 2 ^ 59) ⌝ }
+    ensures { λ r. ⌜ Puts limit n (sameUses block o times) (now (out .entry)) (now (out .exit)) r ⌝ }
+{
+    let mut m = n;
+    let mut i: u32 = 0;
+    while i < times {
+        if limit < 4 * m + 4 {
+            return n + 3 * (times as usize);
+        }
+        m = put_triple(out, limit, m, block, 0, o);
+        i += 1;
+    }
+    m
+}
+
+// The uses by a block's operations.
+fn put_operation_uses(
+    words: &[u32],
+    counts: &[u32],
+    b: BlockId,
+    out: &mut [u8],
+    limit: usize,
+    n: usize,
+) -> usize
+    requires { ⌜ WellFormed (now words) ⌝ }
+    requires { ⌜ (b .0 < blocks (now words)) × (length (now counts) ≡ 1024) ⌝ }
+    requires { ⌜ (limit ≤ length (now out)) × (n + length (operationUses (now words) (now counts) (b .0)) < 2 ^ 59) ⌝ }
+    ensures { λ r. ⌜ Puts limit n (operationUses (now (words .entry)) (now (counts .entry)) (b .0)) (now (out .entry)) (now (out .exit)) r ⌝ }
+{
+    let span = block_operations(words, b);
+    let last = span.end;
+    let mut m = n;
+    let mut o = span.start;
+    while o < last {
+        m = put_same(out, limit, m, b.0, o, counts[o as usize]);
+        o += 1;
+    }
+    m
+}
+
+// Whether a local is the condition of a block's branch or switch.
+fn is_condition(words: &[u32], b: BlockId, local: u32) -> bool
+    requires { ⌜ WellFormed (now words) ⌝ }
+    requires { ⌜ b .0 < blocks (now words) ⌝ }
+    ensures { λ r. ⌜ r ≡ mem local (condition (now (words .entry)) (b .0)) ⌝ }
+{
+    if block_word(words, b, 6) < 3 {
+        return false;
+    }
+    local == block_word(words, b, 7)
+}
+
+// The use as a block's condition.
+fn put_condition_use(
+    words: &[u32],
+    b: BlockId,
+    local: u32,
+    out: &mut [u8],
+    limit: usize,
+    n: usize,
+) -> usize
+    requires { ⌜ WellFormed (now words) ⌝ }
+    requires { ⌜ b .0 < blocks (now words) ⌝ }
+    requires { ⌜ (limit ≤ length (now out)) × (n + 3 < 2 ^ 59) ⌝ }
+    ensures { λ r. ⌜ Puts limit n (conditionUses (now (words .entry)) local (b .0)) (now (out .entry)) (now (out .exit)) r ⌝ }
+{
+    if is_condition(words, b, local) {
+        return put_triple(out, limit, n, b.0, 1, 0);
+    }
+    n
+}
+
+// The uses among a block's outputs.
+fn put_output_uses(
+    words: &[u32],
+    b: BlockId,
+    local: u32,
+    out: &mut [u8],
+    limit: usize,
+    n: usize,
+) -> usize
+    requires { ⌜ WellFormed (now words) ⌝ }
+    requires { ⌜ b .0 < blocks (now words) ⌝ }
+    requires { ⌜ (limit ≤ length (now out)) × (n + length (outputUses (now words) local (b .0)) < 2 ^ 59) ⌝ }
+    ensures { λ r. ⌜ Puts limit n (outputUses (now (words .entry)) local (b .0)) (now (out .entry)) (now (out .exit)) r ⌝ }
+{
+    let outputs = block_outputs(words, b);
+    let mut m = n;
+    let mut k: u32 = 0;
+    while (k as usize) < outputs.len() {
+        let v = outputs[k as usize];
+        let place = k;
+        k += 1;
+        if v == local {
+            m = put_triple(out, limit, m, b.0, 2, place);
+        }
+    }
+    m
+}
+
+// All uses in a block.
+fn put_block_uses(
+    words: &[u32],
+    counts: &[u32],
+    b: BlockId,
+    local: u32,
+    out: &mut [u8],
+    limit: usize,
+    n: usize,
+) -> usize
+    requires { ⌜ WellFormed (now words) ⌝ }
+    requires { ⌜ (b .0 < blocks (now words)) × (length (now counts) ≡ 1024) ⌝ }
+    requires { ⌜ (limit ≤ length (now out)) × (n + 3 + length (blockUses (now words) (now counts) local (b .0)) < 2 ^ 59) ⌝ }
+    ensures { λ r. ⌜ Puts limit n (blockUses (now (words .entry)) (now (counts .entry)) local (b .0)) (now (out .entry)) (now (out .exit)) r ⌝ }
+{
+    let m = put_operation_uses(words, counts, b, out, limit, n);
+    let k = put_condition_use(words, b, local, out, limit, m);
+    put_output_uses(words, b, local, out, limit, k)
+}
+
+// The uses of a local; how many words they take.
+pub fn put_uses(
+    words: &[u32],
+    rpo: &[u32],
+    counts: &[u32],
+    local: u32,
+    out: &mut [u8],
+    limit: usize,
+) -> usize
+    requires { ⌜ WellFormed (now words) ⌝ }
+    requires { ⌜ (now rpo ≡ blocksRpo (now words)) × (length (now counts) ≡ 1024) ⌝ }
+    requires { ⌜ (limit ≤ length (now out)) × (3 + length (usesOf (now words) (now counts) local) < 2 ^ 59) ⌝ }
+    ensures { λ r. ⌜ Puts limit 0 (usesOf (now (words .entry)) (now (counts .entry)) local) (now (out .entry)) (now (out .exit)) r ⌝ }
+{
+    let mut m: usize = 0;
+    let mut i: usize = 0;
+    while i < rpo.len() {
+        m = put_block_uses(words, counts, BlockId(rpo[i]), local, out, limit, m);
+        i += 1;
+    }
+    m
+}
