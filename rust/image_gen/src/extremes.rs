@@ -21,6 +21,7 @@ pub fn full_size(rng: &mut Rng) -> Image {
         flow: Flow { next: 80, back: 10, any: 10 },
         near: 60,
         rebinding: 10,
+        turning: 10,
         overlap: 2,
         sharing: 30,
         shared_bases: 0,

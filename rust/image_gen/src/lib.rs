@@ -116,6 +116,7 @@ const PLAIN: Shape = Shape {
     flow: Flow { next: 5, back: 2, any: 3 },
     near: 40,
     rebinding: 20,
+    turning: 10,
     overlap: 5,
     sharing: 20,
     shared_bases: 5,
@@ -126,10 +127,13 @@ pub fn generate(kind: Kind, seed: u64) -> Image {
     let rng = &mut Rng::new(seed ^ ((kind as u64 + 1) << 56));
     let small = |shape: Shape, rng: &mut Rng| shape::image(&shape, rng);
     match kind {
-        Kind::Dense => small(Shape { locals: (1, 4), blocks: (1, 5), rebinding: 40, ..PLAIN }, rng),
+        Kind::Dense => small(Shape { locals: (1, 4), blocks: (1, 5), operations: (1, 6), rebinding: 40, ..PLAIN }, rng),
         Kind::Loops => {
             let flow = Flow { next: 5, back: 5, any: 1 };
-            small(Shape { blocks: (2, 8), controls: [1, 1, 3, 8, 3], arities: 1, flow, near: 70, ..PLAIN }, rng)
+            let controls = [1, 1, 3, 8, 3];
+            let arity = rng.pick(&[2, 4, 8]);
+            let shape = Shape { blocks: (2, 8), controls, arities: 1, flow, near: 70, turning: 60, arity, ..PLAIN };
+            small(Shape { locals: (1, 12), ..shape }, rng)
         }
         Kind::Irreducible => irreducible(rng),
         Kind::Switches => {
@@ -149,13 +153,12 @@ pub fn generate(kind: Kind, seed: u64) -> Image {
         Kind::Overlapping => small(Shape { overlap: 60, operations: (1, 4), ..PLAIN }, rng),
         Kind::Meetings => {
             let codes = Codes { allocating: 5, deriving: 9, calling: 0, escaping: 0, plain: 1 };
-            let shape =
-                Shape { locals: (3, 14), blocks: (1, 5), codes, arities: 1, near: 60, shared_bases: 2, ..PLAIN };
-            small(shape, rng)
+            let shape = Shape { locals: (3, 14), blocks: (1, 5), operations: (2, 8), codes, arities: 1, ..PLAIN };
+            small(Shape { near: 60, shared_bases: 2, ..shape }, rng)
         }
         Kind::Bases => {
             let codes = Codes { allocating: 6, deriving: 4, calling: 1, escaping: 1, plain: 2 };
-            small(Shape { codes, rebinding: 80, arities: 1, arity: 4, near: 60, ..PLAIN }, rng)
+            small(Shape { operations: (1, 5), codes, rebinding: 80, arities: 1, arity: 4, near: 60, ..PLAIN }, rng)
         }
         Kind::Chains => {
             let codes = Codes { allocating: 2, deriving: 8, calling: 0, escaping: 1, plain: 2 };
@@ -263,6 +266,7 @@ fn mixed(rng: &mut Rng) -> Image {
         flow,
         near: rng.below(100),
         rebinding: rng.below(100),
+        turning: rng.below(100),
         overlap: rng.pick(&[0, 0, 5, 20, 90]),
         sharing: rng.below(100),
         shared_bases: 5,
@@ -285,6 +289,7 @@ fn deal(rng: &mut Rng) -> Image {
         flow: Flow { next: 85, back: 10, any: 5 },
         near: 75,
         rebinding: 5,
+        turning: 10,
         overlap: 0,
         sharing: 5,
         shared_bases: 0,

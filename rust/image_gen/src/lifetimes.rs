@@ -157,49 +157,50 @@ impl<'a> Builder<'a> {
         let pointer = self.of(group);
         let (value, other) = (self.value(), self.value());
         let image = &mut self.image;
-        match self.rng.below(18) {
-            0 | 1 if !self.allocated[group] => {
-                self.allocated[group] = true;
-                if self.rng.percent(30) {
-                    image.operation(Code::DynamicAllocZeroed, &[value], &[pointer]);
-                } else {
-                    image.operation_with(Code::StaticAllocZeroed, &[], &[pointer], [32, group as u32]);
-                }
+        if !self.allocated[group] && self.rng.percent(40) {
+            self.allocated[group] = true;
+            if self.rng.percent(30) {
+                image.operation(Code::DynamicAllocZeroed, &[value], &[pointer]);
+            } else {
+                image.operation_with(Code::StaticAllocZeroed, &[], &[pointer], [32, group as u32]);
             }
-            2..=4 => {
+            return;
+        }
+        match self.rng.below(16) {
+            0..=2 => {
                 let code = self.rng.pick(&DERIVING);
                 let inputs = self.rng.pick(&[[pointer, value], [value, pointer], [pointer, pointer]]);
                 let to = self.of(group);
                 self.image.operation(code, &inputs, &[to]);
             }
-            5 | 6 => {
+            3 | 4 => {
                 let to = self.of(group);
                 self.image.operation(Code::SetCopy, &[pointer], &[to]);
             }
-            7 => _ = image.operation(Code::MemoryLoad, &[pointer], &[value]),
-            8 => _ = image.operation(Code::MemoryStore, &[pointer, value], &[]),
-            9 => {
+            5 => _ = image.operation(Code::MemoryLoad, &[pointer], &[value]),
+            6 => _ = image.operation(Code::MemoryStore, &[pointer, value], &[]),
+            7 => {
                 let from = self.pointer();
                 self.image.operation(Code::MemoryCopy, &[pointer, from, value], &[]);
             }
-            10 => _ = image.operation(Code::CallDataCopy, &[pointer, value, other], &[]),
-            11 => _ = image.operation(Code::Keccak256, &[pointer, value], &[other]),
-            12 => {
+            8 => _ = image.operation(Code::CallDataCopy, &[pointer, value, other], &[]),
+            9 => _ = image.operation(Code::Keccak256, &[pointer, value], &[other]),
+            10 => {
                 let result = self.pointer();
                 let inputs = [value, other, value, pointer, other, result, value];
                 let to = self.value();
                 self.image.operation(Code::Call, &inputs, &[to]);
             }
-            13 => {
+            11 => {
                 let topic = self.pointer();
                 self.image.operation(Code::Log2, &[pointer, value, topic, other], &[]);
             }
-            14 => {
+            12 => {
                 let other = self.pointer();
                 self.image.operation(Code::Lt, &[pointer, other], &[value]);
             }
-            15 => _ = image.operation(Code::SetSmallConst, &[], &[pointer]),
-            16 => _ = image.operation(Code::SetLargeConst, &[], &[value]),
+            13 => _ = image.operation(Code::SetSmallConst, &[], &[pointer]),
+            14 => _ = image.operation(Code::SetLargeConst, &[], &[value]),
             _ => _ = image.operation(Code::Add, &[value, other], &[other]),
         }
     }

@@ -77,6 +77,8 @@ pub struct Shape {
     pub near: u32,
     /// That an output of an operation is an input of some block.
     pub rebinding: u32,
+    /// That the outputs of a block are its inputs in another order, where there are as many.
+    pub turning: u32,
     /// That an operand run, an operation range or a run of targets lies anywhere among what is there.
     pub overlap: u32,
     /// That a call, a function's entry or an unvisited part makes sharing: entries are then any blocks.
@@ -180,8 +182,13 @@ impl<'a> Builder<'a> {
             let operations = self.image.operations_from(first);
             let (control, arity) = self.control(block);
             let arity = arity.unwrap_or_else(|| self.rng.between((0, self.shape.arity)).min(self.image.locals));
-            let outputs = self.run(arity, Self::local);
             let inputs = self.inputs[block as usize];
+            let room = self.image.operands.len() + arity as usize <= MAX_OPERANDS;
+            let outputs = if room && inputs.end - inputs.start == arity && self.rng.percent(self.shape.turning) {
+                self.turned(inputs)
+            } else {
+                self.run(arity, Self::local)
+            };
             self.image.blocks.push(Block { inputs, outputs, operations, control });
         }
         let all = self.image.operations.len() as u32;
@@ -191,6 +198,17 @@ impl<'a> Builder<'a> {
                 self.image.blocks[block].operations = Span::new(one.min(other), one.max(other));
             }
         }
+    }
+
+    /// A run of the same locals in another order.
+    fn turned(&mut self, run: Span) -> Span {
+        let mut locals = self.locals_of(run).to_vec();
+        if self.rng.percent(50) {
+            self.rng.shuffle(&mut locals);
+        } else if !locals.is_empty() {
+            locals.rotate_left(1);
+        }
+        self.image.run(&locals)
     }
 
     fn operation(&mut self) {
