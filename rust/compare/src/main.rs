@@ -1,18 +1,29 @@
-//! Compares the answers of the paper's reference with those of Plank's own analyses on generated images. From the
-//! folder `rust`:
+//! Compares the answers of the paper's reference with those of Plank's own analyses, and with those of the linked
+//! library, on generated images. From the folder `rust`:
 //!
 //! ```text
-//! cargo run --release -p compare -- [--small N] [--large N] [--seed S] [--kind KIND]
+//! cargo run --release -p compare -- [WORDS] [FILE...]
+//!
+//!   --small N     so many small images (100000)
+//!   --large N     so many large images (350)
+//!   --kind KIND   images of this kind only
+//!   --seed S      the first seed (1)
+//!   --library     put them to the linked library too
+//!   --damaged N   with --library: so many damaged images, of which the refusals are compared (100000)
+//!   --worst       with --library: the largest and slowest images, some ids of each
 //! ```
 //!
-//! Images of every kind are taken in turn, small ones and large ones, each with a seed of its own. Where two sides
-//! disagree, the image is made as small as it goes, shown, and the program stops with status 1.
+//! Images of every kind are taken in turn, each with a seed of its own. Where files are named, these images are taken
+//! and none are generated. With Plank every answer but the rounds is compared; with the library every answer, its
+//! number, its length, each byte of the result slice, unknown ids and slices that are too short. Where two sides
+//! disagree, the image is made as small as it goes and shown, and the program stops with status 1. A side that was
+//! missing when this was built is left out, with a message.
 
 mod shrink;
 mod sides;
 mod text;
 
-use image_gen::{Kind, generate};
+use image_gen::{Kind, Rng, generate, worst};
 use sides::{Disagreement, Tally};
 use sir_image::Image;
 use std::process::ExitCode;
@@ -21,13 +32,26 @@ use std::time::Instant;
 struct Options {
     small: u64,
     large: u64,
+    damaged: u64,
     seed: u64,
     kind: Option<Kind>,
+    library: bool,
+    worst: bool,
+    files: Vec<String>,
 }
 
 impl Options {
     fn read() -> Result<Options, String> {
-        let mut options = Options { small: 100_000, large: 350, seed: 1, kind: None };
+        let mut options = Options {
+            small: 100_000,
+            large: 350,
+            damaged: 100_000,
+            seed: 1,
+            kind: None,
+            library: false,
+            worst: false,
+            files: Vec::new(),
+        };
         let mut words = std::env::args().skip(1);
         while let Some(word) = words.next() {
             let mut value = || words.next().ok_or(format!("{word} wants a value"));
@@ -35,9 +59,13 @@ impl Options {
             match word.as_str() {
                 "--small" => options.small = number(value()?)?,
                 "--large" => options.large = number(value()?)?,
+                "--damaged" => options.damaged = number(value()?)?,
                 "--seed" => options.seed = number(value()?)?,
                 "--kind" => options.kind = Some(kind(&value()?)?),
-                _ => return Err(format!("unknown word {word}")),
+                "--library" => options.library = true,
+                "--worst" => options.worst = true,
+                _ if word.starts_with("--") => return Err(format!("unknown word {word}")),
+                _ => options.files.push(word),
             }
         }
         Ok(options)
@@ -47,6 +75,17 @@ impl Options {
     fn kinds(&self, group: &[Kind]) -> Vec<Kind> {
         group.iter().copied().filter(|&kind| self.kind.is_none_or(|only| only == kind)).collect()
     }
+
+    /// The generated images, by group: name, and each image with its own name.
+    fn generated(&self) -> [(&'static str, Vec<(Kind, u64)>); 2] {
+        [("small", Kind::SMALL, self.small), ("large", Kind::LARGE, self.large)].map(|(name, group, count)| {
+            let kinds = self.kinds(group);
+            let seed = self.seed.wrapping_mul(1 << 32);
+            let count = if kinds.is_empty() { 0 } else { count };
+            let of = |index: u64| (kinds[(index % kinds.len() as u64) as usize], seed.wrapping_add(index));
+            (name, (0..count).map(of).collect())
+        })
+    }
 }
 
 fn kind(name: &str) -> Result<Kind, String> {
@@ -55,58 +94,114 @@ fn kind(name: &str) -> Result<Kind, String> {
 }
 
 fn main() -> ExitCode {
-    let options = match Options::read() {
-        Ok(options) => options,
-        Err(message) => {
+    let done = Options::read().map_err(|message| (2, message)).and_then(|options| run(&options));
+    match done {
+        Ok(()) => ExitCode::SUCCESS,
+        Err((status, message)) => {
             eprintln!("compare: {message}");
-            return ExitCode::from(2);
-        }
-    };
-    if !plank_oracle::PRESENT {
-        println!("Plank's files were missing when this was built (set PLANK_SRC): nothing is compared with them");
-        return ExitCode::SUCCESS;
-    }
-    for (name, group, count) in [("small", Kind::SMALL, options.small), ("large", Kind::LARGE, options.large)] {
-        if let Err(found) = run(name, &options.kinds(group), count, options.seed, sides::with_plank) {
-            println!("{found}");
-            return ExitCode::FAILURE;
+            ExitCode::from(status)
         }
     }
-    ExitCode::SUCCESS
 }
 
 type Compare = fn(&Image, &mut Tally) -> Result<(), Disagreement>;
+/// Exit status and message.
+type Failure = (u8, String);
 
-/// Compares so many images of these kinds, taken in turn.
-fn run(name: &str, kinds: &[Kind], count: u64, seed: u64, compare: Compare) -> Result<(), String> {
-    if kinds.is_empty() || count == 0 {
-        return Ok(());
+fn run(options: &Options) -> Result<(), Failure> {
+    let mut sides: Vec<(&str, Compare)> = Vec::new();
+    if plank_oracle::PRESENT {
+        sides.push(("Plank", sides::with_plank));
+    } else {
+        println!("Plank's files were missing when this was built (set PLANK_SRC): nothing is compared with them");
     }
-    let started = Instant::now();
-    let mut tally = Tally::default();
-    for index in 0..count {
-        let kind = kinds[(index % kinds.len() as u64) as usize];
-        let seed = seed.wrapping_mul(1 << 32).wrapping_add(index);
-        let image = generate(kind, seed);
-        if compare(&image, &mut tally).is_err() {
-            return Err(explain(kind, seed, &image, compare));
+    if options.library && sir_analyses::LINKED {
+        sides.push(("the library", sides::with_library));
+    } else if options.library {
+        println!("the library was missing when this was built (run rt staticlib sir_analyses): it is left out");
+    }
+    for &(side, compare) in &sides {
+        if !options.files.is_empty() {
+            files(side, &options.files, compare)?;
+            continue;
+        }
+        for (name, seeds) in options.generated() {
+            let name = format!("{side}, {name} images, seed {}", options.seed);
+            let images = seeds.iter().map(|&(kind, seed)| (format!("{kind:?} {seed}"), generate(kind, seed)));
+            compare_all(&name, images, compare)?;
         }
     }
-    let Tally { images, shared_bases, answers, words, allocations, merged, most_rounds } = tally;
-    println!("{name} images, seed {seed}: {images} compared, {shared_bases} of them refused with 12 by both sides");
-    println!("  {answers} answers of {words} words are equal");
-    println!("  {} allocations, {} marked, {merged} merged intervals", allocations[0], allocations[1]);
-    println!("  at most {most_rounds} rounds; {:.1} s", started.elapsed().as_secs_f64());
+    if options.library && sir_analyses::LINKED && options.files.is_empty() {
+        refusals(options)?;
+        if options.worst {
+            for (name, image) in worst() {
+                let name = format!("the library, {name}");
+                compare_all(&name, [(name.clone(), image)].into_iter(), sides::with_library_sparsely)?;
+            }
+        }
+    }
+    Ok(())
+}
+
+/// Compares these images and prints what was compared.
+fn compare_all(name: &str, images: impl Iterator<Item = (String, Image)>, compare: Compare) -> Result<(), Failure> {
+    let started = Instant::now();
+    let mut tally = Tally::default();
+    for (name, image) in images {
+        compare(&image, &mut tally).map_err(|_| (1, explain(&name, &image, compare)))?;
+    }
+    let Tally { images, refused, answers, words, allocations: [all, marked], merged, most_rounds } = tally;
+    if images > 0 {
+        println!("{name}: {images} compared, {refused} of them refused by both sides");
+        println!("  {answers} answers of {words} words are equal");
+        println!("  {all} allocations, {marked} marked, {merged} merged intervals; at most {most_rounds} rounds");
+        println!("  {:.1} s", started.elapsed().as_secs_f64());
+    }
     Ok(())
 }
 
 /// The disagreement on the smallest image that still shows one.
-fn explain(kind: Kind, seed: u64, image: &Image, compare: Compare) -> String {
+fn explain(name: &str, image: &Image, compare: Compare) -> String {
     let differs = |image: &Image| {
         let accepted = [0, 12].contains(&paper_reference::refusal(&image.pages()));
         accepted && compare(image, &mut Tally::default()).is_err()
     };
     let small = shrink::shrink(image, differs);
-    let found = compare(&small, &mut Tally::default()).expect_err("it still differs");
-    format!("disagreement on {kind:?} with seed {seed}, made small:\n{}\n{found}", text::Shown(&small))
+    match compare(&small, &mut Tally::default()) {
+        Err(found) => format!("disagreement on {name}, made small:\n{}\n{found}", text::Shown(&small)),
+        Ok(()) => format!("disagreement on {name}, not seen a second time"),
+    }
+}
+
+/// Compares images from files, of which those are left out that rules 1 to 11 refuse.
+fn files(side: &str, names: &[String], compare: Compare) -> Result<(), Failure> {
+    let mut images = Vec::new();
+    for name in names {
+        let bytes = std::fs::read(name).map_err(|error| (2, format!("{name}: {error}")))?;
+        match Image::from_pages(&bytes) {
+            Some(image) if [0, 12].contains(&paper_reference::refusal(&bytes)) => images.push((name.clone(), image)),
+            _ => println!("{name}: refused with {}", paper_reference::refusal(&bytes)),
+        }
+    }
+    compare_all(&format!("{side}, files"), images.into_iter(), compare)
+}
+
+/// Compares the library's refusals of damaged images with the paper's.
+fn refusals(options: &Options) -> Result<(), Failure> {
+    let started = Instant::now();
+    let mut tally = Tally::default();
+    let mut by_number = [0u64; 13];
+    let kinds = options.kinds(Kind::SMALL);
+    let rng = &mut Rng::new(options.seed);
+    for index in (0..options.damaged).filter(|_| !kinds.is_empty()) {
+        let kind = kinds[(index % kinds.len() as u64) as usize];
+        let image = sides::damaged(&generate(kind, rng.next_u64()), rng);
+        by_number[paper_reference::refusal(&image) as usize] += 1;
+        if let Err(found) = sides::refused_alike(&image, &mut tally) {
+            return Err((1, format!("disagreement on a damaged {kind:?}:\n{image:?}\n{found}")));
+        }
+    }
+    println!("the library, damaged images, seed {}: numbers 0 to 12 came up {by_number:?} times", options.seed);
+    println!("  {:.1} s", started.elapsed().as_secs_f64());
+    Ok(())
 }
