@@ -17,6 +17,7 @@
 
 mod code;
 pub mod pages;
+mod read;
 pub mod samples;
 
 pub use code::{Code, Count};

@@ -1,0 +1,207 @@
+//! Compares the answers of the paper's reference with those of Plank's own analyses, and with those of the linked
+//! library, on generated images. From the folder `rust`:
+//!
+//! ```text
+//! cargo run --release -p compare -- [WORDS] [FILE...]
+//!
+//!   --small N     so many small images (100000)
+//!   --large N     so many large images (350)
+//!   --kind KIND   images of this kind only
+//!   --seed S      the first seed (1)
+//!   --library     put them to the linked library too
+//!   --damaged N   with --library: so many damaged images, of which the refusals are compared (100000)
+//!   --worst       with --library: the largest and slowest images, some ids of each
+//! ```
+//!
+//! Images of every kind are taken in turn, each with a seed of its own. Where files are named, these images are taken
+//! and none are generated. With Plank every answer but the rounds is compared; with the library every answer, its
+//! number, its length, each byte of the result slice, unknown ids and slices that are too short. Where two sides
+//! disagree, the image is made as small as it goes and shown, and the program stops with status 1. A side that was
+//! missing when this was built is left out, with a message.
+
+mod shrink;
+mod sides;
+mod text;
+
+use image_gen::{Kind, Rng, generate, worst};
+use sides::{Disagreement, Tally};
+use sir_image::Image;
+use std::process::ExitCode;
+use std::time::Instant;
+
+struct Options {
+    small: u64,
+    large: u64,
+    damaged: u64,
+    seed: u64,
+    kind: Option<Kind>,
+    library: bool,
+    worst: bool,
+    files: Vec<String>,
+}
+
+impl Options {
+    fn read() -> Result<Options, String> {
+        let mut options = Options {
+            small: 100_000,
+            large: 350,
+            damaged: 100_000,
+            seed: 1,
+            kind: None,
+            library: false,
+            worst: false,
+            files: Vec::new(),
+        };
+        let mut words = std::env::args().skip(1);
+        while let Some(word) = words.next() {
+            let mut value = || words.next().ok_or(format!("{word} wants a value"));
+            let number = |text: String| text.parse().map_err(|_| format!("{text} is no number"));
+            match word.as_str() {
+                "--small" => options.small = number(value()?)?,
+                "--large" => options.large = number(value()?)?,
+                "--damaged" => options.damaged = number(value()?)?,
+                "--seed" => options.seed = number(value()?)?,
+                "--kind" => options.kind = Some(kind(&value()?)?),
+                "--library" => options.library = true,
+                "--worst" => options.worst = true,
+                _ if word.starts_with("--") => return Err(format!("unknown word {word}")),
+                _ => options.files.push(word),
+            }
+        }
+        Ok(options)
+    }
+
+    /// The kinds of a group that are asked for.
+    fn kinds(&self, group: &[Kind]) -> Vec<Kind> {
+        group.iter().copied().filter(|&kind| self.kind.is_none_or(|only| only == kind)).collect()
+    }
+
+    /// The generated images, by group: name, and each image with its own name.
+    fn generated(&self) -> [(&'static str, Vec<(Kind, u64)>); 2] {
+        [("small", Kind::SMALL, self.small), ("large", Kind::LARGE, self.large)].map(|(name, group, count)| {
+            let kinds = self.kinds(group);
+            let seed = self.seed.wrapping_mul(1 << 32);
+            let count = if kinds.is_empty() { 0 } else { count };
+            let of = |index: u64| (kinds[(index % kinds.len() as u64) as usize], seed.wrapping_add(index));
+            (name, (0..count).map(of).collect())
+        })
+    }
+}
+
+fn kind(name: &str) -> Result<Kind, String> {
+    let found = Kind::ALL.iter().find(|kind| format!("{kind:?}").eq_ignore_ascii_case(name));
+    found.copied().ok_or_else(|| format!("no kind {name}; there are {:?}", Kind::ALL))
+}
+
+fn main() -> ExitCode {
+    let done = Options::read().map_err(|message| (2, message)).and_then(|options| run(&options));
+    match done {
+        Ok(()) => ExitCode::SUCCESS,
+        Err((status, message)) => {
+            eprintln!("compare: {message}");
+            ExitCode::from(status)
+        }
+    }
+}
+
+type Compare = fn(&Image, &mut Tally) -> Result<(), Disagreement>;
+/// Exit status and message.
+type Failure = (u8, String);
+
+fn run(options: &Options) -> Result<(), Failure> {
+    let mut sides: Vec<(&str, Compare)> = Vec::new();
+    if plank_oracle::PRESENT {
+        sides.push(("Plank", sides::with_plank));
+    } else {
+        println!("Plank's files were missing when this was built (set PLANK_SRC): nothing is compared with them");
+    }
+    if options.library && sir_analyses::LINKED {
+        sides.push(("the library", sides::with_library));
+    } else if options.library {
+        println!("the library was missing when this was built (run rt staticlib sir_analyses): it is left out");
+    }
+    for &(side, compare) in &sides {
+        if !options.files.is_empty() {
+            files(side, &options.files, compare)?;
+            continue;
+        }
+        for (name, seeds) in options.generated() {
+            let name = format!("{side}, {name} images, seed {}", options.seed);
+            let images = seeds.iter().map(|&(kind, seed)| (format!("{kind:?} {seed}"), generate(kind, seed)));
+            compare_all(&name, images, compare)?;
+        }
+    }
+    if options.library && sir_analyses::LINKED && options.files.is_empty() {
+        refusals(options)?;
+        if options.worst {
+            for (name, image) in worst() {
+                let name = format!("the library, {name}");
+                compare_all(&name, [(name.clone(), image)].into_iter(), sides::with_library_sparsely)?;
+            }
+        }
+    }
+    Ok(())
+}
+
+/// Compares these images and prints what was compared.
+fn compare_all(name: &str, images: impl Iterator<Item = (String, Image)>, compare: Compare) -> Result<(), Failure> {
+    let started = Instant::now();
+    let mut tally = Tally::default();
+    for (name, image) in images {
+        compare(&image, &mut tally).map_err(|_| (1, explain(&name, &image, compare)))?;
+    }
+    let Tally { images, refused, answers, words, allocations: [all, marked], merged, most_rounds } = tally;
+    if images > 0 {
+        println!("{name}: {images} compared, {refused} of them refused by both sides");
+        println!("  {answers} answers of {words} words are equal");
+        println!("  {all} allocations, {marked} marked, {merged} merged intervals; at most {most_rounds} rounds");
+        println!("  {:.1} s", started.elapsed().as_secs_f64());
+    }
+    Ok(())
+}
+
+/// The disagreement on the smallest image that still shows one.
+fn explain(name: &str, image: &Image, compare: Compare) -> String {
+    let differs = |image: &Image| {
+        let accepted = [0, 12].contains(&paper_reference::refusal(&image.pages()));
+        accepted && compare(image, &mut Tally::default()).is_err()
+    };
+    let small = shrink::shrink(image, differs);
+    match compare(&small, &mut Tally::default()) {
+        Err(found) => format!("disagreement on {name}, made small:\n{}\n{found}", text::Shown(&small)),
+        Ok(()) => format!("disagreement on {name}, not seen a second time"),
+    }
+}
+
+/// Compares images from files, of which those are left out that rules 1 to 11 refuse.
+fn files(side: &str, names: &[String], compare: Compare) -> Result<(), Failure> {
+    let mut images = Vec::new();
+    for name in names {
+        let bytes = std::fs::read(name).map_err(|error| (2, format!("{name}: {error}")))?;
+        match Image::from_pages(&bytes) {
+            Some(image) if [0, 12].contains(&paper_reference::refusal(&bytes)) => images.push((name.clone(), image)),
+            _ => println!("{name}: refused with {}", paper_reference::refusal(&bytes)),
+        }
+    }
+    compare_all(&format!("{side}, files"), images.into_iter(), compare)
+}
+
+/// Compares the library's refusals of damaged images with the paper's.
+fn refusals(options: &Options) -> Result<(), Failure> {
+    let started = Instant::now();
+    let mut tally = Tally::default();
+    let mut by_number = [0u64; 13];
+    let kinds = options.kinds(Kind::SMALL);
+    let rng = &mut Rng::new(options.seed);
+    for index in (0..options.damaged).filter(|_| !kinds.is_empty()) {
+        let kind = kinds[(index % kinds.len() as u64) as usize];
+        let image = sides::damaged(&generate(kind, rng.next_u64()), rng);
+        by_number[paper_reference::refusal(&image) as usize] += 1;
+        if let Err(found) = sides::refused_alike(&image, &mut tally) {
+            return Err((1, format!("disagreement on a damaged {kind:?}:\n{image:?}\n{found}")));
+        }
+    }
+    println!("the library, damaged images, seed {}: numbers 0 to 12 came up {by_number:?} times", options.seed);
+    println!("  {:.1} s", started.elapsed().as_secs_f64());
+    Ok(())
+}

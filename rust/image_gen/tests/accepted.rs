@@ -1,0 +1,53 @@
+//! Every generated image is accepted, but for shared bases.
+
+use image_gen::{Kind, generate, worst};
+use paper_reference::{Question, Reference};
+
+#[test]
+fn small_images_are_accepted() {
+    for &kind in Kind::SMALL {
+        let refusals: Vec<u32> = (0..500).map(|seed| refusal(kind, seed)).collect();
+        assert!(refusals.iter().all(|number| [0, 12].contains(number)), "{kind:?}: {refusals:?}");
+        let shared = refusals.iter().filter(|&&number| number == 12).count();
+        assert!(shared < 100, "{kind:?}: {shared} of 500 share a base");
+    }
+}
+
+#[test]
+fn large_images_are_accepted() {
+    for &kind in Kind::LARGE {
+        assert!((0..5).all(|seed| refusal(kind, seed) == 0), "{kind:?}");
+    }
+}
+
+#[test]
+fn the_worst_images_are_accepted() {
+    for (name, image) in worst() {
+        assert_eq!(paper_reference::refusal(&image.pages()), 0, "{name}");
+    }
+}
+
+/// Each kind has what it is for.
+#[test]
+fn kinds_have_what_they_are_for() {
+    let marks = |kind, mark| -> usize {
+        let images = (0..200).filter_map(|seed| Reference::new(&generate(kind, seed).pages()).ok());
+        images
+            .map(|reference| allocations(&reference).filter(|words| words[6] == mark && words[7] > mark).count())
+            .sum()
+    };
+    assert!(marks(Kind::Lives, 0) > 100, "unmarked allocations with intervals");
+    let rounds = |kind, seed| {
+        let image = generate(kind, seed).pages();
+        Reference::new(&image).ok().expect("an accepted image").answer(Question::Rounds, 0).unwrap()[0]
+    };
+    assert!((0..20).any(|seed| rounds(Kind::SmallRings, seed) > 100), "many rounds");
+}
+
+fn allocations(reference: &Reference) -> impl Iterator<Item = Vec<u32>> {
+    (0..reference.ids(Question::Allocation)).map(|id| reference.answer(Question::Allocation, id).unwrap())
+}
+
+fn refusal(kind: Kind, seed: u64) -> u32 {
+    paper_reference::refusal(&generate(kind, seed).pages())
+}

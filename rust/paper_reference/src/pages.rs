@@ -1,0 +1,46 @@
+//! Pages: refusals 1 to 3, and the payload words.
+
+/// Bytes of a page.
+const PAGE: usize = 512;
+/// The most bytes of an image.
+const MOST: usize = 59_904;
+/// Payload words of a page.
+pub const PAYLOAD: usize = 126;
+
+/// The payload words of all pages, padding included; or 1, 2 or 3.
+pub fn payload(image: &[u8]) -> Result<Vec<u32>, u32> {
+    if image.is_empty() || image.len() % PAGE != 0 || image.len() > MOST {
+        return Err(1);
+    }
+    let pages: Vec<Vec<u32>> = image.chunks(PAGE).map(words).collect();
+    if pages.iter().enumerate().any(|(number, page)| page[0] as usize != number) {
+        return Err(2);
+    }
+    if pages.iter().any(|page| page[127] != check(page)) {
+        return Err(3);
+    }
+    Ok(pages.iter().flat_map(|page| &page[1..127]).copied().collect())
+}
+
+fn words(page: &[u8]) -> Vec<u32> {
+    page.chunks(4).map(|word| u32::from_le_bytes(word.try_into().expect("four bytes"))).collect()
+}
+
+/// The sum of word i times (253 − 2i), i from 0 to 126, wrapping at 2^32.
+fn check(page: &[u32]) -> u32 {
+    let sum: u64 = (0..127).map(|i| u64::from(page[i]) * (253 - 2 * i as u64)).sum();
+    (sum % (1 << 32)) as u32
+}
+
+#[cfg(test)]
+mod tests {
+    use super::*;
+
+    /// The paper's example: a page zero but for word 1 = 1.
+    #[test]
+    fn check_of_the_paper() {
+        let mut page = vec![0; 128];
+        page[1] = 1;
+        assert_eq!(check(&page), 251);
+    }
+}

@@ -1,0 +1,1 @@
+//! Stands for `builder.rs`, which no analysis uses.

@@ -1,0 +1,40 @@
+//! Puts images to Plank's own analyses and gives their answers as the paper writes them.
+//!
+//! Plank's files are compiled unchanged from the folder `PLANK_SRC`, or from `../shared/docs/src` beside the repository;
+//! none of them stands in the repository. Where the folder is missing, the crates build to nothing but this interface:
+//! [`PRESENT`] is false and [`Program::new`] gives `None`.
+//!
+//! # Shims
+//!
+//! What the files name and what is not among them stands in shims. After each: whether it could sway an answer.
+//!
+//! | stands for | shim | could sway |
+//! |---|---|---|
+//! | `plank_core`'s `lib.rs` | `plank_core/src/lib.rs`: modules and re-exports | nothing |
+//! | `index_vec/idx_slice.rs` | `IndexSlice` that nobody makes | nothing |
+//! | `allocator_api2` | `Vec` over the standard library's, the allocator carried along | nothing |
+//! | `hashbrown` | the standard library's set and map with a folding hasher | the sequence of members: liveness only inserts and joins what changed, and intervals are drained one for each local, so no answer follows it; speed follows the hasher |
+//! | `alloy_primitives`, `plank_test_utils`, `pretty_assertions` | stubs for text | nothing |
+//! | `sir_data`'s `index.rs` | ids made by the source's own `newtype_index` | nothing |
+//! | `sir_data`'s `builder.rs` | empty; programs are made by [`Program::new`] | nothing |
+//! | `sir_data`'s `operation.rs` | the enum `Operation` and its payloads | **operands**: `inputs` and `outputs` give the record's runs in the record's order, so positions in escaping inputs rest on the paper's operand counts and on that order; **calls**: callee, inputs and outputs are those of the record; **static allocations**: size and id are the record's extras |
+//! | `Analysis` | the trait as the files implement it | nothing |
+//! | `AnalysesStore` | each analysis computed once from its default | nothing: the source's store may reuse an analysis, which each `compute` clears first |
+//! | `reachable_blocks` | the visited blocks, as the paper has it | **predecessors**, and liveness through them |
+//!
+//! [`Program::new`] makes the program itself: records become the source's structs field by field; every switch gets a
+//! `Cases` of its own over the image's targets; case values, large constants, data segments, the return kind and source
+//! of functions and `next_static_alloc_id` hold nothing, and no analysis reads them.
+
+#[cfg(plank_sources)]
+mod present;
+#[cfg(plank_sources)]
+pub use present::{Analyses, Program, SOURCES};
+
+#[cfg(not(plank_sources))]
+mod absent;
+#[cfg(not(plank_sources))]
+pub use absent::{Analyses, Program, SOURCES};
+
+/// Whether Plank's files were there when this was built.
+pub const PRESENT: bool = SOURCES.is_some();

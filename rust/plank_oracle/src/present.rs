@@ -1,0 +1,239 @@
+//! Programs from images, and answers from the analyses.
+
+use plank_core::{Idx, IndexVec, Span};
+use sir_data::operation::{OperationKind, Record};
+use sir_data::{
+    BasicBlock, BasicBlockId, Branch, Cases, CasesBasicBlocksIdx, Control, EthIRProgram, Function, FunctionId,
+    LargeConstId, LocalId, LocalIdx, Operation, OperationIdx, ReturnKind, Switch,
+};
+use sir_image::Image;
+use sir_passes::analyses::{AllocId, AllocKind, AnalysesStore, Interval, IntervalEnd, IntervalStart, UseKind};
+use std::cell::Cell;
+use std::panic::{self, AssertUnwindSafe};
+use std::sync::Once;
+
+/// Where Plank's files are.
+pub const SOURCES: Option<&str> = Some(env!("PLANK_SOURCES"));
+
+/// A program in Plank's form.
+#[derive(Clone, Debug)]
+pub struct Program(EthIRProgram);
+
+impl Program {
+    /// The program of an image that rules 1 to 11 accept, or `None` where Plank's files were missing.
+    ///
+    /// # Panics
+    ///
+    /// May panic, here or in the analyses, where the image breaks one of those rules.
+    pub fn new(image: &Image) -> Option<Program> {
+        let mut program = EthIRProgram {
+            init_entry: FunctionId::new(image.init),
+            main_entry: image.main.map(FunctionId::new),
+            functions: functions(image),
+            locals: image.operands.iter().map(|&local| LocalId::new(local)).collect(),
+            cases_bb_ids: image.targets.iter().map(|&block| BasicBlockId::new(block)).collect(),
+            next_free_local_id: LocalId::new(image.locals),
+            ..EthIRProgram::default()
+        };
+        for block in &image.blocks {
+            let control = control(block.control, &mut program.cases);
+            program.basic_blocks.push(BasicBlock {
+                inputs: span(block.inputs, LocalIdx::new),
+                outputs: span(block.outputs, LocalIdx::new),
+                operations: span(block.operations, OperationIdx::new),
+                control,
+            });
+        }
+        for operation in &image.operations {
+            let record = Record {
+                ins: span(operation.inputs, LocalIdx::new),
+                outs: span(operation.outputs, LocalIdx::new),
+                extras: operation.extras,
+                locals: &program.locals,
+            };
+            let operation = Operation::read(OperationKind::ALL[operation.code as usize], record);
+            program.operations.push(operation);
+        }
+        Some(Program(program))
+    }
+
+    /// Its analyses, none of them run yet.
+    pub fn analyses(&self) -> Analyses<'_> {
+        Analyses { program: &self.0, store: AnalysesStore::default() }
+    }
+}
+
+fn functions(image: &Image) -> IndexVec<FunctionId, Function> {
+    let function = |&entry: &u32| Function::new(BasicBlockId::new(entry), ReturnKind::NEVER, None);
+    image.entries.iter().map(function).collect()
+}
+
+fn span<I>(span: sir_image::Span, id: impl Fn(u32) -> I) -> Span<I> {
+    Span::new(id(span.start), id(span.end))
+}
+
+fn control(control: sir_image::Control, cases: &mut IndexVec<sir_data::CasesId, Cases>) -> Control {
+    match control {
+        sir_image::Control::LastOpTerminates => Control::LastOpTerminates,
+        sir_image::Control::InternalReturn => Control::InternalReturn,
+        sir_image::Control::ContinuesTo(target) => Control::ContinuesTo(BasicBlockId::new(target)),
+        sir_image::Control::Branches { condition, non_zero, zero } => Control::Branches(Branch {
+            condition: LocalId::new(condition),
+            non_zero_target: BasicBlockId::new(non_zero),
+            zero_target: BasicBlockId::new(zero),
+        }),
+        sir_image::Control::Switch { condition, first, count, fallback } => Control::Switch(Switch {
+            condition: LocalId::new(condition),
+            fallback: fallback.map(BasicBlockId::new),
+            cases: cases.push(Cases {
+                values_start_id: LargeConstId::ZERO,
+                targets_start_id: CasesBasicBlocksIdx::new(first),
+                cases_count: count,
+            }),
+        }),
+    }
+}
+
+/// The analyses of a program, each run when an answer first needs it.
+///
+/// An answer is the paper's, as words. Ids must be below their counts. Where two allocations share a base, only
+/// [`Analyses::shares_a_base`] and the answers without allocations can be had: the source asserts in the others.
+pub struct Analyses<'a> {
+    program: &'a EthIRProgram,
+    store: AnalysesStore,
+}
+
+impl Analyses<'_> {
+    /// Whether the source asserts that two allocations met in visited blocks share a base local: refusal 12.
+    pub fn shares_a_base(&self) -> bool {
+        let run = || {
+            self.store.allocation_liveness(self.program);
+        };
+        let Err(payload) = quietly(run) else { return false };
+        let message = payload.downcast_ref::<&str>().copied().or(payload.downcast_ref::<String>().map(String::as_str));
+        let message = message.unwrap_or("no message");
+        assert!(message.contains("self.local_to_alloc.insert(base_ptr, alloc_id)"), "Plank's analyses: {message}");
+        true
+    }
+
+    /// For each function of the order: its id, its block count, its block ids.
+    pub fn order(&self) -> Vec<u32> {
+        let order = self.store.reverse_post_order(self.program);
+        let mut words = Vec::new();
+        for &function in order.functions_rpo() {
+            let blocks = order.function_blocks_rpo(function).expect("a listed function was visited");
+            words.extend([function.get(), blocks.len() as u32]);
+            words.extend(blocks.iter().map(|block| block.get()));
+        }
+        words
+    }
+
+    /// The predecessors of a block.
+    pub fn predecessors(&self, block: u32) -> Vec<u32> {
+        let predecessors = self.store.predecessors(self.program).of(BasicBlockId::new(block));
+        predecessors.iter().map(|block| block.get()).collect()
+    }
+
+    /// The entry set of a block.
+    pub fn entry_set(&self, block: u32) -> Vec<u32> {
+        ascending(self.store.local_liveness(self.program).get_live_at_entry(BasicBlockId::new(block)))
+    }
+
+    /// The exit set of a block.
+    pub fn exit_set(&self, block: u32) -> Vec<u32> {
+        ascending(self.store.local_liveness(self.program).get_live_at_exit(BasicBlockId::new(block)))
+    }
+
+    /// The uses of a local, three words each.
+    pub fn uses(&self, local: u32) -> Vec<u32> {
+        let uses = self.store.def_use(self.program).uses_of(LocalId::new(local));
+        let words = uses.iter().flat_map(|place| {
+            let (kind, at) = match place.kind {
+                UseKind::Operation(operation) => (0, operation.get()),
+                UseKind::Control => (1, 0),
+                UseKind::BlockOutput(position) => (2, position),
+            };
+            [place.block_id.get(), kind, at]
+        });
+        words.collect()
+    }
+
+    /// The intervals of a local, three words each.
+    pub fn intervals(&self, local: u32) -> Vec<u32> {
+        interval_words(self.store.local_liveness(self.program).intervals_of(LocalId::new(local)))
+    }
+
+    /// How many allocations there are.
+    pub fn allocations(&self) -> u32 {
+        self.store.allocation_liveness(self.program).allocations.len() as u32
+    }
+
+    /// The record of an allocation.
+    pub fn allocation(&self, allocation: u32) -> Vec<u32> {
+        let data = &self.store.allocation_liveness(self.program).allocations[AllocId::new(allocation)];
+        let (kind, size, id) = match data.kind {
+            AllocKind::Static { size, id } => (0, size, id.get()),
+            AllocKind::Dynamic { size_local } => (1, size_local.get(), 0),
+        };
+        let mut words = vec![
+            data.def_block.get(),
+            data.def_op.get(),
+            data.base_ptr.get(),
+            kind,
+            size,
+            id,
+            data.escapes.into(),
+            data.intervals.len() as u32,
+        ];
+        words.extend(interval_words(&data.intervals));
+        words
+    }
+
+    /// The owner of a local: allocation + 1, or 0.
+    pub fn owner(&self, local: u32) -> Vec<u32> {
+        let owners = &self.store.allocation_liveness(self.program).local_to_alloc;
+        vec![owners.get(LocalId::new(local)).map_or(0, |allocation| allocation.get() + 1)]
+    }
+}
+
+fn ascending<'a>(set: impl IntoIterator<Item = &'a LocalId>) -> Vec<u32> {
+    let mut words: Vec<u32> = set.into_iter().map(|local| local.get()).collect();
+    words.sort_unstable();
+    words
+}
+
+fn interval_words(intervals: &[(BasicBlockId, Interval)]) -> Vec<u32> {
+    let words = intervals.iter().flat_map(|&(block, interval)| {
+        let start = match interval.start {
+            IntervalStart::BlockStart => 0,
+            IntervalStart::At(operation) => operation.get() + 1,
+        };
+        let end = match interval.end {
+            IntervalEnd::At(operation) => operation.get() + 1,
+            IntervalEnd::BlockEnd => u32::MAX,
+        };
+        [block.get(), start, end]
+    });
+    words.collect()
+}
+
+thread_local! {
+    static QUIET: Cell<bool> = const { Cell::new(false) };
+}
+
+/// Runs something, and gives a panic's payload without a word on standard error.
+fn quietly<T>(run: impl FnOnce() -> T) -> std::thread::Result<T> {
+    static HOOK: Once = Once::new();
+    HOOK.call_once(|| {
+        let told = panic::take_hook();
+        panic::set_hook(Box::new(move |info| {
+            if !QUIET.get() {
+                told(info);
+            }
+        }));
+    });
+    QUIET.set(true);
+    let result = panic::catch_unwind(AssertUnwindSafe(run));
+    QUIET.set(false);
+    result
+}

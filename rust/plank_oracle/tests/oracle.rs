@@ -1,0 +1,102 @@
+//! The oracle on images whose answers the paper gives, and the tables that it rests on.
+#![cfg(plank_sources)]
+
+use plank_oracle::{Analyses, Program, SOURCES};
+use sir_image::{Code, Control, Image, Span, samples};
+
+const END: u32 = u32::MAX;
+
+fn program(image: &Image) -> Program {
+    Program::new(image).expect("the sources are present")
+}
+
+fn with<T>(image: &Image, ask: impl FnOnce(&Analyses) -> T) -> T {
+    ask(&program(image).analyses())
+}
+
+/// The paper's image for `report`.
+#[test]
+fn report() {
+    with(&samples::report(), |plank| {
+        assert!(!plank.shares_a_base());
+        assert_eq!(plank.order(), [0, 2, 0, 1]);
+        assert_eq!((plank.predecessors(0), plank.predecessors(1)), (vec![], vec![0]));
+        assert_eq!((plank.entry_set(0), plank.exit_set(0)), (vec![], vec![1]));
+        assert_eq!((plank.entry_set(1), plank.exit_set(1)), (vec![2], vec![]));
+        assert_eq!(plank.uses(1), [0, 0, 2, 0, 2, 0]);
+        assert_eq!(plank.intervals(0), [0, 1, 3]);
+        assert_eq!(plank.intervals(1), [0, 2, END]);
+        assert_eq!(plank.intervals(2), [1, 0, 4]);
+        assert!(plank.intervals(3).is_empty());
+        assert_eq!(plank.allocations(), 1);
+        assert_eq!(plank.allocation(0), [0, 1, 1, 0, 32, 0, 0, 2, 0, 2, END, 1, 0, 4]);
+        let owners: Vec<u32> = (0..4).flat_map(|local| plank.owner(local)).collect();
+        assert_eq!(owners, [0, 1, 1, 0]);
+    });
+}
+
+/// Codes number the names of `operation_causes_ptr_escape` in reading order, here and in the shim.
+#[test]
+fn codes_are_numbered_as_the_source_names_them() {
+    let file = format!("{}/plankc/sir/crates/passes/src/analyses/allocation_liveness.rs", SOURCES.unwrap());
+    let text = std::fs::read_to_string(file).unwrap();
+    let (_, rest) = text.split_once("fn operation_causes_ptr_escape").unwrap();
+    let (body, _) = rest.split_once("impl AllocationLiveness").unwrap();
+    let named = body.split("Operation::").skip(1).map(|rest| rest.split_once('(').unwrap().0);
+    let named: Vec<&str> = named.collect();
+    assert_eq!(named, Code::ALL.map(|code| format!("{code:?}")));
+    let shim: Vec<&str> = sir_data::operation::OperationKind::ALL.iter().map(|kind| kind.mnemonic()).collect();
+    assert_eq!(named, shim);
+}
+
+/// Two allocations with one base: the source asserts.
+#[test]
+fn a_shared_base() {
+    let mut image = Image::new(1);
+    image.operation_with(Code::StaticAllocZeroed, &[], &[0], [1, 0]);
+    image.operation_with(Code::StaticAllocZeroed, &[], &[0], [1, 1]);
+    let block = image.block(&[], &[], Span::new(0, 2), Control::InternalReturn);
+    image.function(block);
+    assert!(with(&image, |plank| plank.shares_a_base()));
+    image.blocks[0].operations.end = 1;
+    assert!(!with(&image, |plank| plank.shares_a_base()));
+}
+
+/// Functions that call each other, in turn.
+#[test]
+fn recursion() {
+    let mut image = Image::new(0);
+    image.operation_with(Code::InternalCall, &[], &[], [1, 0]);
+    image.operation_with(Code::InternalCall, &[], &[], [0, 0]);
+    for block in 0..2 {
+        image.block(&[], &[], Span::new(block, block + 1), Control::InternalReturn);
+        image.function(block);
+    }
+    assert_eq!(with(&image, |plank| plank.order()), [0, 1, 0, 1, 1, 1]);
+}
+
+/// A branch with both targets equal gives that predecessor twice.
+#[test]
+fn equal_targets() {
+    let mut image = Image::new(1);
+    image.block(&[], &[], Span::EMPTY, Control::Branches { condition: 0, non_zero: 1, zero: 1 });
+    image.block(&[], &[], Span::EMPTY, Control::LastOpTerminates);
+    image.function(0);
+    assert_eq!(with(&image, |plank| plank.predecessors(1)), [0, 0]);
+}
+
+/// Two pointers added: both marked, the sum owned by the later.
+#[test]
+fn a_sum_of_pointers() {
+    let mut image = Image::new(4);
+    image.operation_with(Code::StaticAllocZeroed, &[], &[1], [32, 0]);
+    image.operation_with(Code::StaticAllocZeroed, &[], &[2], [32, 1]);
+    image.operation(Code::Add, &[1, 2], &[3]);
+    image.block(&[], &[], Span::new(0, 3), Control::LastOpTerminates);
+    image.function(0);
+    with(&image, |plank| {
+        assert_eq!(plank.allocation(0), [0, 0, 1, 0, 32, 0, 1, 0]);
+        assert_eq!(plank.allocation(1), [0, 1, 2, 0, 32, 1, 1, 0]);
+        assert_eq!((plank.owner(1), plank.owner(2), plank.owner(3)), (vec![1], vec![2], vec![2]));
+    });
+}

@@ -1,0 +1,28 @@
+//! Links the proved library where it has been built: `libsir_analyses.a` in the folder `SIR_ANALYSES_LIB`, or in
+//! `target/staticlib` of the repository, where `rt staticlib sir_analyses` puts it. The cfg `sir_linked` says that it is
+//! there.
+
+use std::env;
+use std::path::{Path, PathBuf};
+
+fn main() {
+    println!("cargo::rustc-check-cfg=cfg(sir_linked)");
+    println!("cargo::rerun-if-env-changed=SIR_ANALYSES_LIB");
+    let package = PathBuf::from(env::var_os("CARGO_MANIFEST_DIR").expect("cargo sets it"));
+    let repository = package.ancestors().nth(2).expect("the crate stands in the folder rust of the repository");
+    let folder = env::var_os("SIR_ANALYSES_LIB").unwrap_or_else(|| "target/staticlib".into());
+    let folder = repository.join(folder);
+    let library = folder.join("libsir_analyses.a");
+    println!("cargo::rerun-if-changed={}", library.display());
+    if library.is_file() {
+        link(&folder);
+    } else {
+        println!("cargo::warning=no library {}: built without it (run rt staticlib sir_analyses)", library.display());
+    }
+}
+
+fn link(folder: &Path) {
+    println!("cargo::rustc-cfg=sir_linked");
+    println!("cargo::rustc-link-search=native={}", folder.display());
+    println!("cargo::rustc-link-lib=static=sir_analyses");
+}

@@ -1,0 +1,100 @@
+//! The linked library: accepted and refused images, unknown ids, short slices, and the bytes that are left alone.
+#![cfg(sir_linked)]
+
+use paper_reference::Question;
+use sir_analyses::{Answer, End, FunctionBlocks, Interval, Place, Refusal, Size, Start, Use, calls};
+use sir_image::samples;
+use std::{fs, path::Path};
+
+fn ask(question: Question, image: &[u8], id: u32, result: &mut [u8]) -> Answer {
+    match question {
+        Question::Order => calls::order(image, result),
+        Question::Predecessors => calls::predecessors(image, id, result),
+        Question::EntrySet => calls::entry_set(image, id, result),
+        Question::ExitSet => calls::exit_set(image, id, result),
+        Question::Uses => calls::uses(image, id, result),
+        Question::Intervals => calls::intervals(image, id, result),
+        Question::Allocation => calls::allocation(image, id, result),
+        Question::Owner => calls::owner(image, id, result),
+        Question::Rounds => calls::rounds(image, result),
+    }
+}
+
+/// Number, length and every byte of the result slice are the paper's.
+fn assert_as_the_paper(question: Question, image: &[u8], id: u32, length: usize) -> Answer {
+    let mut result: Vec<u8> = (0..length).map(|at| at as u8 ^ 0x5a).collect();
+    let mut expected = result.clone();
+    let answer = ask(question, image, id, &mut result);
+    let (number, length) = paper_reference::call(image, question, id, &mut expected);
+    assert_eq!((answer, &result), (Answer { number, length }, &expected), "{question:?} {id}");
+    answer
+}
+
+#[test]
+fn report_decoded() {
+    let image = samples::report().pages();
+    assert_eq!(sir_analyses::order(&image), Ok(vec![FunctionBlocks { function: 0, blocks: vec![0, 1] }]));
+    assert_eq!(sir_analyses::rounds(&image), Ok(2));
+    assert_eq!(sir_analyses::predecessors(&image, 1), Ok(vec![0]));
+    assert_eq!(sir_analyses::entry_set(&image, 1), Ok(vec![2]));
+    assert_eq!(sir_analyses::exit_set(&image, 0), Ok(vec![1]));
+    let uses = [Use { block: 0, place: Place::Operation(2) }, Use { block: 0, place: Place::BlockOutput(0) }];
+    assert_eq!(sir_analyses::uses(&image, 1), Ok(uses.to_vec()));
+    let first = Interval { block: 0, start: Start::Operation(1), end: End::Block };
+    let second = Interval { block: 1, start: Start::Block, end: End::Operation(3) };
+    assert_eq!(sir_analyses::intervals(&image, 1), Ok(vec![first]));
+    assert_eq!((sir_analyses::owner(&image, 2), sir_analyses::owner(&image, 0)), (Ok(Some(0)), Ok(None)));
+    let all = sir_analyses::allocations(&image).unwrap();
+    assert_eq!(all.len(), 1);
+    assert_eq!((all[0].block, all[0].operation, all[0].base, all[0].marked), (0, 1, 1, false));
+    assert_eq!((all[0].size, &all[0].intervals), (Size::Static { size: 32, id: 0 }, &vec![first, second]));
+}
+
+#[test]
+fn refusals_decoded() {
+    let image = samples::report().pages();
+    assert_eq!(sir_analyses::order(&image[..511]), Err(Refusal::LENGTH));
+    assert_eq!(sir_analyses::uses(&image, 4), Err(Refusal::UNKNOWN_ID));
+    assert_eq!(Refusal::UNKNOWN_ID.number(), 13);
+}
+
+/// Every length of the result slice around the answer's, and ids up to and above their count.
+#[test]
+fn slices_and_ids() {
+    let image = samples::report().pages();
+    for question in Question::ALL {
+        for id in [0, 1, 2, 3, 4, 5, u32::MAX - 1] {
+            let enough = assert_as_the_paper(question, &image, id, 100);
+            for length in 0..enough.length as usize + 6 {
+                assert_as_the_paper(question, &image, id, length);
+            }
+        }
+    }
+}
+
+/// The images that try every clause of the refusals.
+#[test]
+fn listed_images() {
+    let folder = Path::new(env!("CARGO_MANIFEST_DIR")).join("../../crates/refusals/data");
+    let index = fs::read_to_string(folder.join("index")).unwrap();
+    for line in index.lines() {
+        let (name, number) = line.split_once(' ').unwrap();
+        let image = fs::read(folder.join(name)).unwrap();
+        for question in Question::ALL {
+            let answer = assert_as_the_paper(question, &image, 0, 8);
+            let number: u32 = number.parse().unwrap();
+            assert!(answer.number == number || (number == 0 && answer.number > 12), "{name}");
+        }
+    }
+}
+
+/// Answers that are longer than the slice that is lent first.
+#[test]
+fn long_answers() {
+    let image = samples::largest().pages();
+    let order = sir_analyses::order(&image).unwrap();
+    let blocks: usize = order.iter().map(|function| function.blocks.len()).sum();
+    assert_eq!(blocks, sir_image::MAX_BLOCKS);
+    assert_as_the_paper(Question::Uses, &image, 511, 1 << 20);
+    assert_as_the_paper(Question::EntrySet, &image, 0, 4096);
+}
