@@ -1,12 +1,13 @@
 //! Links the proved library where it has been built: `libsir_analyses.a` in the folder `SIR_ANALYSES_LIB`, or in
 //! `target/staticlib` of the repository, where `rt staticlib sir_analyses` puts it. The cfg `sir_linked` says that it is
-//! there.
+//! there and exports every question, `sir_partial` that it exports order, predecessors and uses only.
 
 use std::env;
+use std::fs;
 use std::path::{Path, PathBuf};
 
 fn main() {
-    println!("cargo::rustc-check-cfg=cfg(sir_linked)");
+    println!("cargo::rustc-check-cfg=cfg(sir_linked, sir_partial)");
     println!("cargo::rerun-if-env-changed=SIR_ANALYSES_LIB");
     let package = PathBuf::from(env::var_os("CARGO_MANIFEST_DIR").expect("cargo sets it"));
     let repository = package.ancestors().nth(2).expect("the crate stands in the folder rust of the repository");
@@ -15,14 +16,16 @@ fn main() {
     let library = folder.join("libsir_analyses.a");
     println!("cargo::rerun-if-changed={}", library.display());
     if library.is_file() {
-        link(&folder);
+        link(&folder, &fs::read(&library).expect("the library can be read"));
     } else {
         println!("cargo::warning=no library {}: built without it (run rt staticlib sir_analyses)", library.display());
     }
 }
 
-fn link(folder: &Path) {
-    println!("cargo::rustc-cfg=sir_linked");
+fn link(folder: &Path, library: &[u8]) {
+    let last = b"sir_allocation";
+    let whole = library.windows(last.len()).any(|bytes| bytes == last);
+    println!("cargo::rustc-cfg={}", if whole { "sir_linked" } else { "sir_partial" });
     println!("cargo::rustc-link-search=native={}", folder.display());
     println!("cargo::rustc-link-lib=static=sir_analyses");
 }

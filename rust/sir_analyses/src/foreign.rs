@@ -1,13 +1,13 @@
 //! The C functions, as `include/sir_analyses.h` declares them.
-#![cfg_attr(sir_linked, allow(unsafe_code))]
+#![cfg_attr(any(sir_linked, sir_partial), allow(unsafe_code))]
 
 use crate::Answer;
 
-/// Declares the functions where the library is linked, and wraps each in a safe one. The arguments between the two
-/// slices are numbers.
+/// Declares the functions where the library has them, and wraps each in a safe one. The arguments between the two slices
+/// are numbers.
 macro_rules! functions {
-    ($($(#[$doc:meta])* $name:ident = $symbol:ident($($id:ident)?);)*) => {
-        #[cfg(sir_linked)]
+    ($linked:meta; $($(#[$doc:meta])* $name:ident = $symbol:ident($($id:ident)?);)*) => {
+        #[cfg($linked)]
         unsafe extern "C" {
             $(fn $symbol(
                 image: *const u8,
@@ -20,7 +20,7 @@ macro_rules! functions {
 
         $(
             $(#[$doc])*
-            #[cfg(sir_linked)]
+            #[cfg($linked)]
             pub fn $name(image: &[u8], $($id: u32,)? result: &mut [u8]) -> Answer {
                 // Safety: the function reads the bytes of one slice and writes bytes of the other, both lent for the
                 // time of the call, and asks nothing else of its caller.
@@ -28,28 +28,31 @@ macro_rules! functions {
             }
 
             $(#[$doc])*
-            #[cfg(not(sir_linked))]
+            #[cfg(not($linked))]
             pub fn $name(image: &[u8], $($id: u32,)? result: &mut [u8]) -> Answer {
                 let _ = (image, $($id,)? result);
-                panic!("the library was missing when this was built: run rt staticlib sir_analyses, then build again")
+                panic!("the library had no such function when this was built: run rt staticlib sir_analyses, then build again")
             }
         )*
     };
 }
 
-functions! {
+functions! { any(sir_linked, sir_partial);
     /// The order. For each function of it: id, block count, block ids.
     order = sir_order();
-    /// The rounds of liveness: one word.
-    rounds = sir_rounds();
     /// The predecessors of a block, repeats kept.
     predecessors = sir_predecessors(block);
+    /// The uses of a local. For each: block, kind, place.
+    uses = sir_uses(local);
+}
+
+functions! { sir_linked;
+    /// The rounds of liveness: one word.
+    rounds = sir_rounds();
     /// The entry set of a block, ids ascending.
     entry_set = sir_entry_set(block);
     /// The exit set of a block, ids ascending.
     exit_set = sir_exit_set(block);
-    /// The uses of a local. For each: block, kind, place.
-    uses = sir_uses(local);
     /// The intervals of a local. For each: block, start, end.
     intervals = sir_intervals(local);
     /// The owner of a local: allocation + 1, or 0.

@@ -1,10 +1,18 @@
 //! The linked library: accepted and refused images, unknown ids, short slices, and the bytes that are left alone.
-#![cfg(sir_linked)]
+#![cfg(any(sir_linked, sir_partial))]
 
 use paper_reference::Question;
-use sir_analyses::{Answer, End, FunctionBlocks, Interval, Place, Refusal, Size, Start, Use, calls};
-use sir_image::samples;
+use sir_analyses::{Answer, FunctionBlocks, Place, Refusal, Use, calls};
+#[cfg(sir_linked)]
+use sir_analyses::{End, Interval, Size, Start};
+use sir_image::{Block, Control, Image, MAX_BLOCKS, MAX_OPERANDS, MAX_OPERATIONS, Operation, Span, samples};
 use std::{fs, path::Path};
+
+/// The questions that the library answers.
+fn questions() -> Vec<Question> {
+    let first = [Question::Order, Question::Predecessors, Question::Uses];
+    Question::ALL.into_iter().filter(|question| cfg!(sir_linked) || first.contains(question)).collect()
+}
 
 fn ask(question: Question, image: &[u8], id: u32, result: &mut [u8]) -> Answer {
     match question {
@@ -34,12 +42,18 @@ fn assert_as_the_paper(question: Question, image: &[u8], id: u32, length: usize)
 fn report_decoded() {
     let image = samples::report().pages();
     assert_eq!(sir_analyses::order(&image), Ok(vec![FunctionBlocks { function: 0, blocks: vec![0, 1] }]));
-    assert_eq!(sir_analyses::rounds(&image), Ok(2));
     assert_eq!(sir_analyses::predecessors(&image, 1), Ok(vec![0]));
-    assert_eq!(sir_analyses::entry_set(&image, 1), Ok(vec![2]));
-    assert_eq!(sir_analyses::exit_set(&image, 0), Ok(vec![1]));
     let uses = [Use { block: 0, place: Place::Operation(2) }, Use { block: 0, place: Place::BlockOutput(0) }];
     assert_eq!(sir_analyses::uses(&image, 1), Ok(uses.to_vec()));
+}
+
+#[test]
+#[cfg(sir_linked)]
+fn report_lifetimes_decoded() {
+    let image = samples::report().pages();
+    assert_eq!(sir_analyses::rounds(&image), Ok(2));
+    assert_eq!(sir_analyses::entry_set(&image, 1), Ok(vec![2]));
+    assert_eq!(sir_analyses::exit_set(&image, 0), Ok(vec![1]));
     let first = Interval { block: 0, start: Start::Operation(1), end: End::Block };
     let second = Interval { block: 1, start: Start::Block, end: End::Operation(3) };
     assert_eq!(sir_analyses::intervals(&image, 1), Ok(vec![first]));
@@ -62,7 +76,7 @@ fn refusals_decoded() {
 #[test]
 fn slices_and_ids() {
     let image = samples::report().pages();
-    for question in Question::ALL {
+    for question in questions() {
         for id in [0, 1, 2, 3, 4, 5, u32::MAX - 1] {
             let enough = assert_as_the_paper(question, &image, id, 100);
             for length in 0..enough.length as usize + 6 {
@@ -80,7 +94,7 @@ fn listed_images() {
     for line in index.lines() {
         let (name, number) = line.split_once(' ').unwrap();
         let image = fs::read(folder.join(name)).unwrap();
-        for question in Question::ALL {
+        for question in questions() {
             let answer = assert_as_the_paper(question, &image, 0, 8);
             let number: u32 = number.parse().unwrap();
             assert!(answer.number == number || (number == 0 && answer.number > 12), "{name}");
@@ -96,5 +110,26 @@ fn long_answers() {
     let blocks: usize = order.iter().map(|function| function.blocks.len()).sum();
     assert_eq!(blocks, sir_image::MAX_BLOCKS);
     assert_as_the_paper(Question::Uses, &image, 511, 1 << 20);
+    #[cfg(sir_linked)]
     assert_as_the_paper(Question::EntrySet, &image, 0, 4096);
+}
+
+/// 256 blocks that each span 1,024 calls, each with all 4,096 operands: one local with 2^30 uses. The answer takes 3 * 2^32
+/// bytes; a slice that is too short is refused by counting, and not by stepping through the uses.
+#[test]
+fn longest_uses() {
+    let mut image = Image::new(1);
+    image.operands = vec![0; MAX_OPERANDS];
+    let all = Span { start: 0, end: MAX_OPERANDS as u32 };
+    let call = Operation { code: 25, inputs: all, outputs: Span::default(), extras: [0, 0] };
+    image.operations = vec![call; MAX_OPERATIONS];
+    image.function(0);
+    for next in 1..=MAX_BLOCKS as u32 {
+        let control = if next < MAX_BLOCKS as u32 { Control::ContinuesTo(next) } else { Control::LastOpTerminates };
+        let operations = Span { start: 0, end: MAX_OPERATIONS as u32 };
+        image.blocks.push(Block { inputs: Span::default(), outputs: Span::default(), operations, control });
+    }
+    let mut result = [7u8; 64];
+    let answer = calls::uses(&image.pages(), 0, &mut result);
+    assert_eq!((answer, result), (Answer { number: 14, length: 0 }, [7u8; 64]));
 }
