@@ -6,6 +6,8 @@ pub mod SetLaws
 pub mod RowLaws
 pub mod FlowLaws
 pub mod GenKill
+pub mod Tables
+pub mod BlockSets
 pub mod LivenessProof
 pub mod Accepted
 pub mod Positions

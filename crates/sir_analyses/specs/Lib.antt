@@ -1,6 +1,7 @@
 pub mod Order
 pub mod Visiting
 pub mod Liveness
+pub mod Tables
 pub mod Allocation
 pub mod Answers
 pub mod Claims

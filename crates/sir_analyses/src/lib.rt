@@ -1,2 +1,3 @@
 // Layer 3: the analyses, one file for each of the source's, and the questions that can be put to an image.
+pub mod block_sets;
 pub mod reverse_post_order;

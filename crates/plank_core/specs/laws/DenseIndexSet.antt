@@ -7,7 +7,7 @@ use Prim.Native.Nat.{ℕ, zero, suc, _+_, _-_, _*_, _/_, _%_, _^_, _≤_, _<_}
 use native.Mathlib.Nat.{pos-of-ne-zero, le-refl}
 use native.Mathlib.Numerals.{add-one}
 use native.Mathlib.Omega.{arith}
-use lib.ListN.{length, getD, set, take, drop, length-set, length-drop, List·getD-eq-default}
+use lib.ListN.{length, getD, set, take, drop, replicate, length-set, length-drop, List·getD-eq-default}
 use lib.Seq.{getD-set-same, getD-set-other, getD-take, getD-drop, ext-getD, set-out, length-take-le}
 use lib.Dec.{eqb}
 use lib.Bits.{bitAnd, bitOr, or-lt, and-le-l}
@@ -331,10 +331,35 @@ pub contains-empty : (n : ℕ) → contains emptySet n ≡ false
 unfolding emptySet
 contains-empty n = ⊎-elim (λ (h : n < 512). contains-setOf 8 n (λ n. false) h) (λ (h : 512 ≤ n). contains-past (setOf 8 (λ n. false)) n (omega (arith, length-setOf 8 (λ n. false)))) (split n 512)
 
+pub contains-cleared : (m n : ℕ) → contains (replicate m 0) n ≡ false
+unfolding contains
+contains-cleared m n = rw (zeros m (n / 64)) (bit-of-zero (n % 64))
+  where
+    zeros : (m j : ℕ) → getD {A = ℕ} (replicate m 0) j 0 ≡ 0
+    zeros zero j = refl
+    zeros (suc m) zero = refl
+    zeros (suc m) (suc j) = zeros m j
+
+-- two numbers of a table are one exactly if they are one number of one row
+row-place : (r i q n : ℕ) → i < 512 → n < 512 → eqb (512 * q + n) (512 * r + i) ≡ (eqb q r && eqb n i)
+row-place r i q n h l = by (eqb q r) (eqb n i) refl refl
+  where
+    by : (s t : Bool) → eqb q r ≡ s → eqb n i ≡ t → eqb (512 * q + n) (512 * r + i) ≡ (s && t)
+    by true true a b = let x : q ≡ r = eqb-true q r a in let y : n ≡ i = eqb-true n i b in eq-eqb (512 * q + n) (512 * r + i) (omega arith)
+    by true false a b = let y : n ≡ i → ⊥ = eqb-false n i b in ne-eqb _ _ (λ (e : 512 * q + n ≡ 512 * r + i). y (omega (arith, eqb-true q r a)))
+    by false t a b = let x : q ≡ r → ⊥ = eqb-false q r a in ne-eqb _ _ (λ (e : 512 * q + n ≡ 512 * r + i). x (omega arith))
+
 module _ (ws : List ℕ) where
   pub contains-added : (i n : ℕ) → n < 64 * length ws → contains (added ws i) n ≡ (eqb n i || contains ws n)
   unfolding added
   contains-added i n h = contains-setOf (length ws) n _ h
+
+  -- number n of row q, once i is added to row r
+  pub contains-row-added : (r i q n : ℕ) → i < 512 → n < 512 → 8 * q + 8 ≤ length ws
+      → contains (added ws (512 * r + i)) (512 * q + n) ≡ (contains ws (512 * q + n) || (eqb q r && eqb n i))
+  contains-row-added r i q n h l k =
+      contains-added (512 * r + i) (512 * q + n) (omega arith) ∙ ap (λ (t : Bool). t || contains ws (512 * q + n)) (row-place r i q n h l)
+      ∙ or-comm (eqb q r && eqb n i) (contains ws (512 * q + n))
 
   pub contains-removed : (i n : ℕ) → n < 64 * length ws → contains (removed ws i) n ≡ (not (eqb n i) && contains ws n)
   unfolding removed
