@@ -1,7 +1,7 @@
 -- What the tables of operands, of use and def sets and of predecessors hold, step by step. Assumes nothing.
 use mathlib.Core.Path.{_≡_, refl, sym, ap, ap₂, _∙_}
 use mathlib.Core.Logic.{⊎-elim}
-use mathlib.Core.Bool.{Bool, true, false, not, _&&_, _||_, cond, or-assoc, or-false}
+use mathlib.Core.Bool.{Bool, true, false, not, _&&_, _||_, cond, or-false}
 use mathlib.Core.List.{List, [], _∷_, _++_, List·Memᴰ, List·Memᴰ·head, List·Memᴰ·tail, List·Memᴰ·append-cases, List·Memᴰ·not-nil}
 use Prim.Native.Nat.{ℕ, _+_, _*_, _≤_, _<_}
 use native.Mathlib.Omega.{arith}
@@ -9,7 +9,7 @@ use lib.ListN.{length}
 use lib.Dec.{eqb, ltb}
 use borrow.Author.Tests.{eqb-true, eq-eqb, lt-ltb, ltb-true}
 use Rattle.plank_core.specs.Lists.{any, mem, _∈_}
-use Rattle.plank_core.specs.laws.Lists.{split, none, mem-in, in-mem, mem-not, same-tests, both-true, and-true-left, and-true-right}
+use Rattle.plank_core.specs.laws.Lists.{split, none, mem-in, in-mem, mem-not, mem-append, same-tests, both-true, and-true-left, and-true-right}
 use Rattle.plank_core.specs.DenseIndexSet.{contains, rowOf, rowUnion, rowDifference}
 use Rattle.plank_core.specs.laws.DenseIndexSet.{contains-union, contains-difference, contains-row, length-union, length-difference}
 use Rattle.sir_data.specs.Records.{blocks, operations, locals, control, outputs, ops, successors, condition, returned, ins, outs}
@@ -20,10 +20,6 @@ use Rattle.sir_analyses.specs.Tables.{Rows, Adds, OperandRows, Predecess
 use Rattle.sir_analyses.proofs.Tables.{adds-then}
 use Rattle.sir_analyses.proofs.GenKill.{given, beyond, use-length, def-length, has-use, has-def}
 use Rattle.sir_analyses.proofs.OrderProof.{blocks-seen, blocks-below, predecessors-in, predecessors-out}
-
-pub mem-append : (x : ℕ) (xs ys : List ℕ) → mem x (xs ++ ys) ≡ (mem x xs || mem x ys)
-mem-append x [] ys = refl
-mem-append x (y ∷ xs) ys = ap (λ (t : Bool). eqb x y || t) (mem-append x xs ys) ∙ sym (or-assoc (eqb x y) (mem x xs) (mem x ys))
 
 -- what is read behind a block's operations
 abbrev pub end : List ℕ → ℕ → List ℕ

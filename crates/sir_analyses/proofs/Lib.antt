@@ -7,6 +7,8 @@ pub mod RowLaws
 pub mod FlowLaws
 pub mod GenKill
 pub mod Tables
+pub mod Growth
+pub mod Sending
 pub mod BlockSets
 pub mod LivenessProof
 pub mod Accepted

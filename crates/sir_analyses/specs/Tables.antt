@@ -4,8 +4,8 @@ use mathlib.Core.Path.{_≡_}
 use mathlib.Core.Bool.{Bool, true, not, _&&_, _||_}
 use mathlib.Core.List.{List, map}
 use Prim.Native.Nat.{ℕ, _+_, _*_, _≤_, _<_}
-use lib.ListN.{length, getD, take}
-use lib.Dec.{eqb}
+use lib.ListN.{length, getD}
+
 use Rattle.plank_core.specs.Lists.{upto, any, keep, mem, _∈_}
 use Rattle.plank_core.specs.DenseIndexSet.{contains}
 use Rattle.sir_data.specs.Records.{blocks, operations, locals, inputs, outputs, ins, outs}
@@ -55,3 +55,46 @@ BlocksSeen w seen = (p : ℕ) → p < blocks w → contains seen (512 + p) ≡ i
 pub record PredecessorRows (w preds : List ℕ) : Type 0 where
   pub preds-long : length preds ≡ 2048
   pub preceded : Rows preds (blocks w) (λ b p. mem p (predecessors w b))
+
+-- ---- liveness over tables
+
+-- words that show a block's entry set, use ∪ (exit − def), by row b of the three tables
+abbrev pub EntryWords : List ℕ → List ℕ → List ℕ → ℕ → List ℕ → Type 0
+EntryWords uses defs exits b ws = (v : ℕ) → v < 512 → contains ws v ≡ (contains uses (512 * b + v) || (contains exits (512 * b + v) && not (contains defs (512 * b + v))))
+
+-- the members of a set parted by whether they are inputs of block b: those that are not, and the positions of those that are
+pub record Parted (w : List ℕ) (b : ℕ) (set passing moved : List ℕ) : Type 0 where
+  pub passes : (v : ℕ) → v < 512 → contains passing v ≡ (contains set v && not (mem v (inputs w b)))
+  pub moves : moved ≡ keep (λ k. contains set (getD (inputs w b) k 0)) (upto (length (inputs w b)))
+
+-- the outputs of block p at some positions
+abbrev pub outputsAt : List ℕ → ℕ → List ℕ → List ℕ
+outputsAt w p moved = map (λ k. getD (outputs w p) k 0) moved
+
+-- what so parted arrives at the exit of block p
+abbrev pub arrives : List ℕ → List ℕ → List ℕ → ℕ → ℕ → Bool
+arrives w passing moved p i = contains passing i || mem i (outputsAt w p moved)
+
+-- t′ is t with i added to row r wherever p r i, and `told` tells whether one of the first n rows grew
+pub record Sends (n : ℕ) (t : List ℕ) (p : ℕ → ℕ → Bool) (t′ : List ℕ) (told : Bool) : Type 0 where
+  pub adds : Adds t p t′
+  pub tells : told ≡ grew n t t′
+
+-- the exits, a row for each block, show a table of sets
+pub record Shown (w exits : List ℕ) (e : List Set) : Type 0 where
+  pub tall : length e ≡ blocks w
+  pub wide : (b : ℕ) → b < length e → length (rowOf e b) ≡ locals w
+  pub rows : SameRows exits e (blocks w)
+
+-- what row b of `sent` has was sent on: under its name there, it is in the exit of each predecessor of b
+abbrev pub SentOn : List ℕ → List ℕ → List ℕ → Type 0
+SentOn w exits sent = (b p v : ℕ) → b < blocks w → p ∈ predecessors w b → v < 512 → contains sent (512 * b + v) ≡ true → contains exits (512 * p + renamed w p b v) ≡ true
+
+-- the exits went on by one step of the definition, whatever table of sets they showed
+pub record Stepped (w : List ℕ) (step : List Set → List Set) (exits exits′ sent′ : List ℕ) (told : Bool) : Type 0 where
+  pub exits-long : length exits′ ≡ 2048
+  pub sent-long : length sent′ ≡ 2048
+  pub same : (e : List Set) → Shown w exits e → Shown w exits′ (step e)
+  pub sent-on : SentOn w exits′ sent′
+  pub more : (k : ℕ) → k < 512 * blocks w → contains exits k ≡ true → contains exits′ k ≡ true
+  pub tells : told ≡ grew (blocks w) exits exits′

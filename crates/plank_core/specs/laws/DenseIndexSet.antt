@@ -398,6 +398,13 @@ module _ (ws : List ℕ) where
       let b : (512 * q + n) % 512 ≡ n = omega arith in
       contains-setOf (length ws) (512 * q + n) _ (omega arith) ∙ rw (a, b)
 
+  -- the same of a set by itself
+  pub set-union : (s : List ℕ) (n : ℕ) → n < 512 → 8 ≤ length ws → contains (rowUnion ws 0 s) n ≡ (contains ws n || contains s n)
+  set-union s n h l = let e : 512 * 0 + n ≡ n = omega arith in rw e at (contains-union 0 s 0 n h (omega arith))
+
+  pub set-difference : (s : List ℕ) (n : ℕ) → n < 512 → 8 ≤ length ws → contains (rowDifference ws 0 s) n ≡ (contains ws n && not (contains s n))
+  set-difference s n h l = let e : 512 * 0 + n ≡ n = omega arith in rw e at (contains-difference 0 s 0 n h (omega arith))
+
   pub length-row : (r : ℕ) → 8 * r + 8 ≤ length ws → length (rowOf ws r) ≡ 8
   unfolding rowOf
   length-row r h = length-take-le 8 (drop (8 * r) ws) (omega (arith, length-drop (8 * r) ws))

@@ -95,7 +95,7 @@ digits-kept p (suc k) b w h =
     digits-kept p k (suc b) (w / 2) (λ j l. ap p (suc-add b j ∙ sym (add-suc b j)) ∙ h (suc j) (omega arith) ∙ bit-suc w j) in
     rw (here, rest)
 
-keep-append : (p : ℕ → Bool) (xs ys : List ℕ) → keep p (xs ++ ys) ≡ keep p xs ++ keep p ys
+pub keep-append : (p : ℕ → Bool) (xs ys : List ℕ) → keep p (xs ++ ys) ≡ keep p xs ++ keep p ys
 keep-append p [] ys = refl
 keep-append p (x ∷ xs) ys = go (p x) (keep-append p xs ys)
   where
