@@ -9,9 +9,9 @@ use lib.ListN.{length}
 use lib.Dec.{eqb}
 use borrow.Author.Tests.{eqb-true, eq-eqb, not-true}
 use Rattle.plank_core.specs.Lists.{any, upto}
-use Rattle.plank_core.specs.laws.Lists.{or-false-left, or-false-right, and-true-left, and-true-right, both-true, or-true-left, or-true-right, or-cases, bool-or, refuted, same-tests, none, any-some, any-none, any-find}
+use Rattle.plank_core.specs.laws.Lists.{and-true-left, and-true-right, both-true, or-true-left, or-true-right, or-cases, bool-or, refuted, same-tests, none, any-some, any-none, any-find}
 use Rattle.plank_core.specs.DenseIndexSet.{contains, added, rowUnion, grows}
-use Rattle.sir_analyses.specs.Tables.{Adds, grew, Sends}
+use Rattle.sir_analyses.specs.Tables.{Adds, More, grew, Sends}
 use Rattle.sir_analyses.proofs.Tables.{adds-one, adds-union, adds-as, adds-then, adds-none}
 
 -- a member that t lacks and p adds
@@ -53,7 +53,7 @@ module _ (n : ℕ) {t : List ℕ} {p : ℕ → ℕ → Bool} {t′ : List ℕ} (
       }
 
 -- where none of the first n rows grew, their members stay
-pub grew-not : (n : ℕ) (t t′ : List ℕ) → grew n t t′ ≡ false → ((k : ℕ) → k < 512 * n → contains t k ≡ true → contains t′ k ≡ true) → (k : ℕ) → k < 512 * n → contains t′ k ≡ contains t k
+pub grew-not : (n : ℕ) (t t′ : List ℕ) → grew n t t′ ≡ false → More n t t′ → (k : ℕ) → k < 512 * n → contains t′ k ≡ contains t k
 unfolding grew
 grew-not n t t′ g more k l =
     same-tests (contains t′ k) (contains t k)
@@ -118,58 +118,41 @@ module _ (n : ℕ) (t : List ℕ) (row : ℕ) (l : row < n) (long : 8 * n ≤ le
 
 -- ---- one step after another
 
-module _ (n : ℕ) {t : List ℕ} {p : ℕ → ℕ → Bool} {t′ : List ℕ} {q : ℕ → ℕ → Bool} {t″ : List ℕ} (a : Adds t p t′) (b : Adds t′ q t″) (long : 8 * n ≤ length t) where
-  pub grew-join : (grew n t t′ || grew n t′ t″) ≡ grew n t t″
-  grew-join = same-tests (grew n t t′ || grew n t′ t″) (grew n t t″) there here
-    where
-      c : Adds t (λ r i. p r i || q r i) t″
-      c = adds-then a b
+pub adds-more : (n : ℕ) {t : List ℕ} {p : ℕ → ℕ → Bool} {t′ : List ℕ} → Adds t p t′ → 8 * n ≤ length t → More n t t′
+adds-more n {t} {p} {t′} a long k l y =
+    let e : 512 * (k / 512) + k % 512 ≡ k = omega arith in
+    rw e at (a .same (k / 512) (k % 512) (omega arith) (omega arith)) ∙ or-true-left (contains t k) (p (k / 512) (k % 512)) y
 
-      wide : 8 * n ≤ length t′
-      wide = omega (arith, a .long)
+pub grew-join : (n : ℕ) (t t′ t″ : List ℕ) → More n t t′ → More n t′ t″ → (grew n t t′ || grew n t′ t″) ≡ grew n t t″
+unfolding grew
+grew-join n t t′ t″ a b = same-tests (grew n t t′ || grew n t′ t″) (grew n t t″) there here
+  where
+    found : (x y : List ℕ) (k : ℕ) → k < 512 * n → contains x k ≡ false → contains y k ≡ true → grew n x y ≡ true
+    found x y k l f t = any-some (λ j. contains y j && not (contains x j)) 0 (512 * n) k (omega arith) (omega arith) (both-true (contains y k) (not (contains x k)) t (ap not f))
 
-      first : grew n t t′ ≡ true → grew n t t″ ≡ true
-      first g =
-          let f = grew-out n a long g in
-          grew-in n c long (record { row = f .row; place = f .place; below = f .below; small = f .small; lacked = f .lacked; put = or-true-left (p (f .row) (f .place)) (q (f .row) (f .place)) (f .put) })
+    there : (grew n t t′ || grew n t′ t″) ≡ true → grew n t t″ ≡ true
+    there y = ⊎-elim
+        (λ (g : grew n t t′ ≡ true).
+        let w = any-find (λ j. contains t′ j && not (contains t j)) 0 (512 * n) g in
+        let l : w .0 < 512 * n = omega (arith, w .2) in
+        found t t″ (w .0) l (not-true (contains t (w .0)) (and-true-right (contains t′ (w .0)) (not (contains t (w .0))) (w .3))) (b (w .0) l (and-true-left (contains t′ (w .0)) (not (contains t (w .0))) (w .3))))
+        (λ (g : grew n t′ t″ ≡ true).
+        let w = any-find (λ j. contains t″ j && not (contains t′ j)) 0 (512 * n) g in
+        let l : w .0 < 512 * n = omega (arith, w .2) in
+        let f : contains t′ (w .0) ≡ false = not-true (contains t′ (w .0)) (and-true-right (contains t″ (w .0)) (not (contains t′ (w .0))) (w .3)) in
+        found t t″ (w .0) l (refuted (contains t (w .0)) (λ x. none (contains t′ (w .0)) (a (w .0) l x) f)) (and-true-left (contains t″ (w .0)) (not (contains t′ (w .0))) (w .3)))
+        (or-cases (grew n t t′) (grew n t′ t″) y)
 
-      second : grew n t′ t″ ≡ true → grew n t t″ ≡ true
-      second g =
-          let f = grew-out n b wide g in
-          let l = f .below in
-          let z : (contains t (512 * f .row + f .place) || p (f .row) (f .place)) ≡ false = sym (a .same (f .row) (f .place) (omega arith) (f .small)) ∙ f .lacked in
-          grew-in n c long (record {
-            row = f .row;
-            place = f .place;
-            below = f .below;
-            small = f .small;
-            lacked = or-false-left (contains t (512 * f .row + f .place)) (p (f .row) (f .place)) z;
-            put = or-true-right (p (f .row) (f .place)) (q (f .row) (f .place)) (f .put);
-          })
-
-      there : (grew n t t′ || grew n t′ t″) ≡ true → grew n t t″ ≡ true
-      there y = ⊎-elim first second (or-cases (grew n t t′) (grew n t′ t″) y)
-
-      here : grew n t t″ ≡ true → (grew n t t′ || grew n t′ t″) ≡ true
-      here g = split (grew-out n c long g)
-        where
-          split : Fresh n t (λ r i. p r i || q r i) → (grew n t t′ || grew n t′ t″) ≡ true
-          split f =
-              let l = f .below in
-              ⊎-elim
-              (λ (x : p (f .row) (f .place) ≡ true).
-              or-true-left (grew n t t′) (grew n t′ t″) (grew-in n a long (record { row = f .row; place = f .place; below = f .below; small = f .small; lacked = f .lacked; put = x })))
-              (λ (x : p (f .row) (f .place) ≡ false).
-              or-true-right (grew n t t′) (grew n t′ t″)
-              (grew-in n b wide (record {
-                row = f .row;
-                place = f .place;
-                below = f .below;
-                small = f .small;
-                lacked = a .same (f .row) (f .place) (omega arith) (f .small) ∙ ap₂ (λ x y. x || y) (f .lacked) x;
-                put = sym (ap (λ (y : Bool). y || q (f .row) (f .place)) x) ∙ f .put;
-              })))
-              (bool-or (p (f .row) (f .place)))
+    here : grew n t t″ ≡ true → (grew n t t′ || grew n t′ t″) ≡ true
+    here g =
+        let w = any-find (λ j. contains t″ j && not (contains t j)) 0 (512 * n) g in
+        let l : w .0 < 512 * n = omega (arith, w .2) in
+        ⊎-elim
+        (λ (x : contains t′ (w .0) ≡ true).
+        or-true-left (grew n t t′) (grew n t′ t″) (found t t′ (w .0) l (not-true (contains t (w .0)) (and-true-right (contains t″ (w .0)) (not (contains t (w .0))) (w .3))) x))
+        (λ (x : contains t′ (w .0) ≡ false).
+        or-true-right (grew n t t′) (grew n t′ t″) (found t′ t″ (w .0) l x (and-true-left (contains t″ (w .0)) (not (contains t (w .0))) (w .3))))
+        (bool-or (contains t′ (w .0)))
 
 module _ {n : ℕ} {t : List ℕ} {p : ℕ → ℕ → Bool} {t′ : List ℕ} {told : Bool} where
   pub sends-as : {q : ℕ → ℕ → Bool} → ((r i : ℕ) → i < 512 → p r i ≡ q r i) → Sends n t p t′ told → Sends n t q t′ told
@@ -177,7 +160,10 @@ module _ {n : ℕ} {t : List ℕ} {p : ℕ → ℕ → Bool} {t′ : List ℕ} {
 
   -- `now` tells whether either grew
   pub sends-then : {q : ℕ → ℕ → Bool} {t″ : List ℕ} {now later : Bool} → 8 * n ≤ length t → Sends n t p t′ told → Sends n t′ q t″ later → now ≡ (told || later) → Sends n t (λ r i. p r i || q r i) t″ now
-  sends-then {t″ = t″} long a b e = record { adds = adds-then (a .adds) (b .adds); tells = e ∙ ap₂ (λ x y. x || y) (a .tells) (b .tells) ∙ grew-join n (a .adds) (b .adds) long }
+  sends-then {t″ = t″} long a b e = record {
+    adds = adds-then (a .adds) (b .adds);
+    tells = e ∙ ap₂ (λ x y. x || y) (a .tells) (b .tells) ∙ grew-join n t t′ t″ (adds-more n (a .adds) long) (adds-more n (b .adds) (omega (arith, a .adds .long)));
+  }
 
 pub sends-none : (n : ℕ) (t : List ℕ) {p : ℕ → ℕ → Bool} → ((r i : ℕ) → i < 512 → p r i ≡ false) → Sends n t p t false
 sends-none n t e = record { adds = adds-none e; tells = sym (same-grew n t t (λ k l. refl)) }

@@ -9,6 +9,8 @@ pub mod GenKill
 pub mod Tables
 pub mod Growth
 pub mod Sending
+pub mod Stepping
+pub mod Passes
 pub mod BlockSets
 pub mod LivenessProof
 pub mod Accepted

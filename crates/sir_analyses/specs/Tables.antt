@@ -33,6 +33,10 @@ pub record Adds (t : List ℕ) (p : ℕ → ℕ → Bool) (t′ : List ℕ) : Ty
 unfoldable pub grew : ℕ → List ℕ → List ℕ → Bool
 grew n t t′ = any (λ k. contains t′ k && not (contains t k)) (upto (512 * n))
 
+-- the first n rows of t′ have all members of those of t
+abbrev pub More : ℕ → List ℕ → List ℕ → Type 0
+More n t t′ = (k : ℕ) → k < 512 * n → contains t k ≡ true → contains t′ k ≡ true
+
 -- what each operation reads, and what it writes
 pub record OperandRows (w reads writes : List ℕ) : Type 0 where
   pub reads-long : length reads ≡ 8192
@@ -96,5 +100,5 @@ pub record Stepped (w : List ℕ) (step : List Set → List Set) (exits exits′
   pub sent-long : length sent′ ≡ 2048
   pub same : (e : List Set) → Shown w exits e → Shown w exits′ (step e)
   pub sent-on : SentOn w exits′ sent′
-  pub more : (k : ℕ) → k < 512 * blocks w → contains exits k ≡ true → contains exits′ k ≡ true
+  pub more : More (blocks w) exits exits′
   pub tells : told ≡ grew (blocks w) exits exits′

@@ -26,7 +26,7 @@ ghost use Rattle.sir_analyses.specs.Tables.{SameRows, BlockRows, Predece
 // A block's entry set from its exit set: use ∪ (exit − def).
 pub fn entry(uses: &[u64], defs: &[u64], exits: &[u64], b: BlockId) -> DenseIndexSet
     requires { ⌜ (8 * b .0 + 8 ≤ length (now uses)) × (8 * b .0 + 8 ≤ length (now defs)) × (8 * b .0 + 8 ≤ length (now exits)) ⌝ }
-    ensures { λ r. ⌜ EntryWords (now (uses .entry)) (now (defs .entry)) (now (exits .entry)) (b .0) (r .words) ⌝ }
+    ensures { λ r. ⌜ (length (r .words) ≡ 8) × EntryWords (now (uses .entry)) (now (defs .entry)) (now (exits .entry)) (b .0) (r .words) ⌝ }
 {
     let row = b.0 as usize;
     let mut words = [0u64; 8];

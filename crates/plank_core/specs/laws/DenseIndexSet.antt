@@ -15,7 +15,7 @@ use lib.Pow.{pow-lt}
 use lib.Count.{trailingZeros}
 use borrow.Author.Tests.{eq-eqb, ne-eqb, eqb-true, eqb-false, not-true, not-false}
 use Rattle.plank_core.specs.Lists.{count, upto, any, keep}
-use Rattle.plank_core.specs.DenseIndexSet.{bit, contains, wordOf, setOf, emptySet, added, removed, inRow, rowUnion, rowDifference, grows, rowOf, size}
+use Rattle.plank_core.specs.DenseIndexSet.{bit, contains, wordOf, setOf, emptySet, added, removed, inRow, rowUnion, rowDifference, grows, rowOf, isEmpty, size}
 use Rattle.plank_core.specs.laws.Lists.{split, bool-or, any-some, any-none, any-find, any-not, and-true-left, and-true-right, or-true-right, keep-most, keep-lt, count-mem, none}
 use Rattle.plank_core.specs.laws.Loops.{upto-more, any-append, length-map-upto, getD-map-upto, length-count}
 use Rattle.plank_core.specs.laws.Bits.{bit-or, bit-and, bit-not, bit-pow, bit-of-zero, bit-ext, wordOf-lt, bit-wordOf, tz-lt, tz-set}
@@ -330,6 +330,10 @@ grows-words ws r s a b = ⊎-elim yes no (bool-or (any (changes ws r s) (upto 8)
 pub contains-empty : (n : ℕ) → contains emptySet n ≡ false
 unfolding emptySet
 contains-empty n = ⊎-elim (λ (h : n < 512). contains-setOf 8 n (λ n. false) h) (λ (h : 512 ≤ n). contains-past (setOf 8 (λ n. false)) n (omega (arith, length-setOf 8 (λ n. false)))) (split n 512)
+
+pub empty-none : (s : List ℕ) → isEmpty s ≡ true → (n : ℕ) → n < 512 → contains s n ≡ false
+unfolding isEmpty
+empty-none s e n h = any-not (contains s) 0 512 n (not-true _ e) (omega arith) (omega arith)
 
 pub contains-cleared : (m n : ℕ) → contains (replicate m 0) n ≡ false
 unfolding contains
