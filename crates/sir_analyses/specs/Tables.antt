@@ -5,7 +5,6 @@ use mathlib.Core.Bool.{Bool, true, not, _&&_, _||_}
 use mathlib.Core.List.{List, map}
 use Prim.Native.Nat.{ℕ, _+_, _*_, _≤_, _<_}
 use lib.ListN.{length, getD}
-
 use Rattle.plank_core.specs.Lists.{upto, any, keep, mem, _∈_}
 use Rattle.plank_core.specs.DenseIndexSet.{contains}
 use Rattle.sir_data.specs.Records.{blocks, operations, locals, inputs, outputs, ins, outs}

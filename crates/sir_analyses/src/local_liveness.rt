@@ -110,7 +110,15 @@ fn send_all(words: &[u32], ids: &[u32], set: &[u64], moved: &[u32], exits: &mut 
 }
 
 // One block of a pass: what its entry set has and was not sent before goes to its predecessors' exits. Whether one grew.
-fn send_back(words: &[u32], b: BlockId, uses: &[u64], defs: &[u64], preds: &[u64], sent: &mut [u64], exits: &mut [u64]) -> bool
+fn send_back(
+    words: &[u32],
+    b: BlockId,
+    uses: &[u64],
+    defs: &[u64],
+    preds: &[u64],
+    sent: &mut [u64],
+    exits: &mut [u64],
+) -> bool
     requires { ⌜ WellFormed (now words) ⌝ }
     requires { ⌜ b .0 < blocks (now words) ⌝ }
     requires { ⌜ BlockRows (now words) (now uses) (now defs) × PredecessorRows (now words) (now preds) ⌝ }
@@ -133,7 +141,15 @@ fn send_back(words: &[u32], b: BlockId, uses: &[u64], defs: &[u64], preds: &[u64
 }
 
 // A pass: the blocks of the order, backwards. Whether an exit grew.
-fn pass_back(words: &[u32], rpo: &[u32], uses: &[u64], defs: &[u64], preds: &[u64], sent: &mut [u64], exits: &mut [u64]) -> bool
+fn pass_back(
+    words: &[u32],
+    rpo: &[u32],
+    uses: &[u64],
+    defs: &[u64],
+    preds: &[u64],
+    sent: &mut [u64],
+    exits: &mut [u64],
+) -> bool
     requires { ⌜ WellFormed (now words) ⌝ }
     requires { ⌜ now rpo ≡ blocksRpo (now words) ⌝ }
     requires { ⌜ BlockRows (now words) (now uses) (now defs) × PredecessorRows (now words) (now preds) ⌝ }
@@ -152,7 +168,14 @@ fn pass_back(words: &[u32], rpo: &[u32], uses: &[u64], defs: &[u64], preds: &[u6
 }
 
 // Passes until one adds nothing: how many, that one counted. The exits, empty at first, are then the exit sets.
-pub fn liveness(words: &[u32], rpo: &[u32], uses: &[u64], defs: &[u64], preds: &[u64], exits: &mut [u64]) -> u32
+pub fn liveness(
+    words: &[u32],
+    rpo: &[u32],
+    uses: &[u64],
+    defs: &[u64],
+    preds: &[u64],
+    exits: &mut [u64],
+) -> u32
     requires { ⌜ WellFormed (now words) ⌝ }
     requires { ⌜ now rpo ≡ blocksRpo (now words) ⌝ }
     requires { ⌜ BlockRows (now words) (now uses) (now defs) × PredecessorRows (now words) (now preds) ⌝ }

@@ -39,14 +39,13 @@ row-union-with-requires-2 : tie.Need-row-union-with-requires-2
 row-union-with-requires-2 c κs = (omega arith, ap length (c .row-of3 .ensures) ∙ length-row (c .before .before .before .before .before .before .before .before .before .before .before .before .before .before .args .uses .now) (c .before .before .before .before .before .before .before .before .before .before .before .before .before .before .args .b .0) (c .before .before .before .before .before .before .before .before .before .before .before .before .before .before .pre .0))
 
 returns : tie.Need-returns
-returns c = let a = c .before .before .before .before .before .before .before .before .before .before .before .before .before .before .before .before .args in
-    (
-      omega (arith, c .before .row-union-with2 .kept, c .before .before .before .before .before .row-difference-with .kept, c .before .before .before .before .before .before .before .before .before .row-union-with .kept),
-      entry-words (a .uses .now) (a .defs .now) (a .exits .now) (a .b .0)
+returns c = let a = c .before .before .before .before .before .before .before .before .before .before .before .before .before .before .before .before .args in (
+  omega (arith, c .before .row-union-with2 .kept, c .before .before .before .before .before .row-difference-with .kept, c .before .before .before .before .before .before .before .before .before .row-union-with .kept),
+  entry-words (a .uses .now) (a .defs .now) (a .exits .now) (a .b .0)
       (rw (c .before .before .before .before .before .before .before .before .before .before .row-of .ensures) at (c .before .before .before .before .before .before .before .before .before .row-union-with .ensures .1))
       (rw (c .before .before .before .before .before .before .row-of2 .ensures) at (c .before .before .before .before .before .row-difference-with .ensures))
       (rw (c .before .before .row-of3 .ensures) at (c .before .row-union-with2 .ensures .1)),
-    )
+)
 
 pub entry-spec : {M : Type 1} → statement M
 entry-spec =

@@ -81,8 +81,7 @@ same-length-2 c = c .before .loop .inv .moved-long
 
 returns : tie.Need-returns Inv-loop μ-loop
 returns c = let s = c .before .before .before .before .before .before in
-    let l = c .before .loop in
-    (
+    let l = c .before .loop in (
       omega (arith, l .inv .few, l .inv .here, inputs-few (s .pre .0) (s .args .b .0) (s .pre .1 .0) (c .before .before .block-inputs .ensures)),
       parting-ends (c .before .before .block-inputs .ensures) (omega arith) (l .inv),
     )

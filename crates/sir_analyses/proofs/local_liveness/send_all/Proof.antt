@@ -51,11 +51,10 @@ loop-again c = let s = c .before .before .before .before .before .before .before
     let i : l .k < length (s .args .ids .now) = omega arith in
     let long : 8 * blocks w ≤ length (s .args .exits .now) = omega (arith, s .pre .1 .0, s .pre .0 .sized .blocks-most) in
     let r = c .before .before .before .send-to in
-    let told : c .if1 .grew ≡ (l .grew || r .result) = ⊎-elim (λ x. told-set (l .grew) (x .0 .taken) (x .1)) (λ x. told-kept (l .grew) (x .0 .left) (x .1)) (c .if1 .came) in
-    (
+    let told : c .if1 .grew ≡ (l .grew || r .result) = ⊎-elim (λ x. told-set (l .grew) (x .0 .taken) (x .1)) (λ x. told-kept (l .grew) (x .0 .left) (x .1)) (c .if1 .came) in (
       omega arith,
       sends-as (λ q v h. and-taken (s .args .ids .now) (l .k) i (λ x. arrives w (s .args .set .now) (s .args .moved .now) x v) q)
-      (sends-then long (l .inv .1) (r .ensures) told),
+          (sends-then long (l .inv .1) (r .ensures) told),
     )
 
 same-length : tie.Need-same-length Inv-loop μ-loop

@@ -101,8 +101,7 @@ send-all-requires c κs = let s = c .before .before .before .before .before .bef
     let new = c .before .before .before .before .before .before .before .before .before .before .before .before .before .before .before .before .before .before .before .before .before .before .before .before .row-difference-with .last .0 in
     let ids : take (k .result - 0) (k .last .1 .0) ≡ members (rowOf (s .args .preds .now) b) = listed (c .before .before .before .before .before .before .before .before .before .row-of2 .result .now) _ (k .ensures .0) (k .ensures .1) ∙ ap members (c .before .before .before .before .before .before .before .before .before .row-of2 .ensures) in
     let z : p .result - 0 ≡ p .result = omega arith in
-    let parts : Parted w b new (p .last .1 .1 .0) (take (p .result - 0) (p .last .1 .1 .1 .0)) = subst (λ (j : ℕ). Parted w b new (p .last .1 .1 .0) (take j (p .last .1 .1 .1 .0))) (sym z) (p .ensures .1) in
-    (
+    let parts : Parted w b new (p .last .1 .1 .0) (take (p .result - 0) (p .last .1 .1 .1 .0)) = subst (λ (j : ℕ). Parted w b new (p .last .1 .1 .0) (take j (p .last .1 .1 .1 .0))) (sym z) (p .ensures .1) in (
       s .pre .0,
       (
         (omega (arith, p .kept, c .before .before .before .before .before .before .before .before .before .before .before .before .before .before .before .before .before .before .before .before .before .before .before .before .row-difference-with .kept, c .before .before .before .before .before .before .before .before .before .before .before .before .before .before .before .before .before .before .before .before .before .before .before .before .before .before .before .before .before .entry .ensures .0), s .pre .1 .1 .1 .1),

@@ -55,11 +55,10 @@ row-add-requires : tie.Need-row-add-requires Inv-loop μ-loop
 row-add-requires c κs = let s = c .before .before .before .before .before .before .before .before .before .before in
     let l = c .before .before .before .before .loop in
     let i : l .k < length (s .args .moved .now) = omega arith in
-    let at : ℕ = getD (s .args .moved .now) (l .k) 0 in
-    (
+    let at : ℕ = getD (s .args .moved .now) (l .k) 0 in (
       omega (arith, l .inv .1 .adds .long, s .pre .1 .0, s .pre .0 .sized .blocks-most),
       output-small (s .pre .0) (s .args .p .0) (s .pre .1 .0 .0) (c .before .before .before .before .before .before .block-outputs .ensures) at
-      (omega (arith, s .pre .1 .1 at (getD-mem (s .args .moved .now) (l .k) 0 i), ap length (c .before .before .before .before .before .before .block-outputs .ensures))),
+          (omega (arith, s .pre .1 .1 at (getD-mem (s .args .moved .now) (l .k) 0 i), ap length (c .before .before .before .before .before .before .block-outputs .ensures))),
     )
 
 add-k : tie.Need-add-k Inv-loop μ-loop
@@ -82,12 +81,11 @@ loop-again c = let s = c .before .before .before .before .before .before .before
     let r = c .before .before .before .row-add in
     let one : Sends (blocks (s .args .words .now)) (l .exits) (λ q v. eqb q p && eqb v (getD xs at 0)) (r .last .0) (r .result) =
     sends-one (blocks (s .args .words .now)) (l .exits) p (s .pre .1 .0 .0) (omega (arith, l .inv .1 .adds .long)) (getD xs at 0) small (r .ensures .0) (r .ensures .1) in
-    let told : c .if1 .grew ≡ (l .grew || r .result) = ⊎-elim (λ x. told-set (l .grew) (x .0 .taken) (x .1)) (λ x. told-kept (l .grew) (x .0 .left) (x .1)) (c .if1 .came) in
-    (
+    let told : c .if1 .grew ≡ (l .grew || r .result) = ⊎-elim (λ x. told-set (l .grew) (x .0 .taken) (x .1)) (λ x. told-kept (l .grew) (x .0 .left) (x .1)) (c .if1 .came) in (
       omega arith,
       sends-as
-      (λ q v h. sym (and-or-distrib-left (eqb q p) (mem v (map (λ j. getD xs j 0) (take (l .k) moved))) (eqb v (getD xs at 0))) ∙ ap (λ (t : Bool). eqb q p && t) (mapped-next (λ j. getD xs j 0) moved (l .k) i v))
-      (sends-then long (l .inv .1) one told),
+          (λ q v h. sym (and-or-distrib-left (eqb q p) (mem v (map (λ j. getD xs j 0) (take (l .k) moved))) (eqb v (getD xs at 0))) ∙ ap (λ (t : Bool). eqb q p && t) (mapped-next (λ j. getD xs j 0) moved (l .k) i v))
+          (sends-then long (l .inv .1) one told),
     )
 
 same-length : tie.Need-same-length Inv-loop μ-loop
