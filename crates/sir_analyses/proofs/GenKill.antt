@@ -99,10 +99,10 @@ module _ (w : List ℕ) (b : ℕ) where
   pub def-length : length (defSet w b) ≡ locals w
   def-length = length-map-upto (given w (ops w b)) (locals w)
 
-  has-use : (v : ℕ) → v < locals w → has (useSet w b) v ≡ readFirst w end (ops w b) v
+  pub has-use : (v : ℕ) → v < locals w → has (useSet w b) v ≡ readFirst w end (ops w b) v
   has-use v h = getD-map-upto (readFirst w end (ops w b)) (locals w) v false h
 
-  has-def : (v : ℕ) → v < locals w → has (defSet w b) v ≡ given w (ops w b) v
+  pub has-def : (v : ℕ) → v < locals w → has (defSet w b) v ≡ given w (ops w b) v
   has-def v h = getD-map-upto (given w (ops w b)) (locals w) v false h
 
   pub gen-kill : (x : Set) → length x ≡ locals w → (v : ℕ) → has (entryFrom w b x) v ≡ (has (useSet w b) v || (has x v && not (has (defSet w b) v)))

@@ -12,6 +12,12 @@ pub mod SetLaws
 pub mod RowLaws
 pub mod FlowLaws
 pub mod GenKill
+pub mod Tables
+pub mod Growth
+pub mod Sending
+pub mod Stepping
+pub mod Passes
+pub mod BlockSets
 pub mod LivenessProof
 pub mod Accepted
 pub mod Bases

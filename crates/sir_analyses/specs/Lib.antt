@@ -3,6 +3,7 @@ pub mod Visiting
 pub mod Writing
 pub mod Liveness
 pub mod Uses
+pub mod Tables
 pub mod Allocation
 pub mod Bases
 pub mod Answers

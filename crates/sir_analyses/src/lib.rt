@@ -1,8 +1,10 @@
 // Layer 3: the analyses, one file for each of the source's, and the questions that can be put to an image.
 pub mod allocation_liveness;
 pub mod answers;
+pub mod block_sets;
 pub mod def_use;
 pub mod loading;
+pub mod local_liveness;
 pub mod predecessors;
 pub mod questions;
 pub mod reverse_post_order;

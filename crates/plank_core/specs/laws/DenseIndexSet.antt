@@ -7,7 +7,7 @@ use Prim.Native.Nat.{ℕ, zero, suc, _+_, _-_, _*_, _/_, _%_, _^_, _≤_, _<_}
 use native.Mathlib.Nat.{pos-of-ne-zero, le-refl}
 use native.Mathlib.Numerals.{add-one}
 use native.Mathlib.Omega.{arith}
-use lib.ListN.{length, getD, set, take, drop, length-set, length-drop, List·getD-eq-default}
+use lib.ListN.{length, getD, set, take, drop, replicate, length-set, length-drop, List·getD-eq-default}
 use lib.Seq.{getD-set-same, getD-set-other, getD-take, getD-drop, ext-getD, set-out, length-take-le}
 use lib.Dec.{eqb}
 use lib.Bits.{bitAnd, bitOr, or-lt, and-le-l}
@@ -15,7 +15,7 @@ use lib.Pow.{pow-lt}
 use lib.Count.{trailingZeros}
 use borrow.Author.Tests.{eq-eqb, ne-eqb, eqb-true, eqb-false, not-true, not-false}
 use Rattle.plank_core.specs.Lists.{count, upto, any, keep}
-use Rattle.plank_core.specs.DenseIndexSet.{bit, contains, wordOf, setOf, emptySet, added, removed, inRow, rowUnion, rowDifference, grows, rowOf, size}
+use Rattle.plank_core.specs.DenseIndexSet.{bit, contains, wordOf, setOf, emptySet, added, removed, inRow, rowUnion, rowDifference, grows, rowOf, isEmpty, size}
 use Rattle.plank_core.specs.laws.Lists.{split, bool-or, any-some, any-none, any-find, any-not, and-true-left, and-true-right, or-true-right, keep-most, keep-lt, count-mem, none}
 use Rattle.plank_core.specs.laws.Loops.{upto-more, any-append, length-map-upto, getD-map-upto, length-count}
 use Rattle.plank_core.specs.laws.Bits.{bit-or, bit-and, bit-not, bit-pow, bit-of-zero, bit-ext, wordOf-lt, bit-wordOf, tz-lt, tz-set}
@@ -331,10 +331,39 @@ pub contains-empty : (n : ℕ) → contains emptySet n ≡ false
 unfolding emptySet
 contains-empty n = ⊎-elim (λ (h : n < 512). contains-setOf 8 n (λ n. false) h) (λ (h : 512 ≤ n). contains-past (setOf 8 (λ n. false)) n (omega (arith, length-setOf 8 (λ n. false)))) (split n 512)
 
+pub empty-none : (s : List ℕ) → isEmpty s ≡ true → (n : ℕ) → n < 512 → contains s n ≡ false
+unfolding isEmpty
+empty-none s e n h = any-not (contains s) 0 512 n (not-true _ e) (omega arith) (omega arith)
+
+pub contains-cleared : (m n : ℕ) → contains (replicate m 0) n ≡ false
+unfolding contains
+contains-cleared m n = rw (zeros m (n / 64)) (bit-of-zero (n % 64))
+  where
+    zeros : (m j : ℕ) → getD {A = ℕ} (replicate m 0) j 0 ≡ 0
+    zeros zero j = refl
+    zeros (suc m) zero = refl
+    zeros (suc m) (suc j) = zeros m j
+
+-- two numbers of a table are one exactly if they are one number of one row
+row-place : (r i q n : ℕ) → i < 512 → n < 512 → eqb (512 * q + n) (512 * r + i) ≡ (eqb q r && eqb n i)
+row-place r i q n h l = by (eqb q r) (eqb n i) refl refl
+  where
+    by : (s t : Bool) → eqb q r ≡ s → eqb n i ≡ t → eqb (512 * q + n) (512 * r + i) ≡ (s && t)
+    by true true a b = let x : q ≡ r = eqb-true q r a in let y : n ≡ i = eqb-true n i b in eq-eqb (512 * q + n) (512 * r + i) (omega arith)
+    by true false a b = let y : n ≡ i → ⊥ = eqb-false n i b in ne-eqb _ _ (λ (e : 512 * q + n ≡ 512 * r + i). y (omega (arith, eqb-true q r a)))
+    by false t a b = let x : q ≡ r → ⊥ = eqb-false q r a in ne-eqb _ _ (λ (e : 512 * q + n ≡ 512 * r + i). x (omega arith))
+
 module _ (ws : List ℕ) where
   pub contains-added : (i n : ℕ) → n < 64 * length ws → contains (added ws i) n ≡ (eqb n i || contains ws n)
   unfolding added
   contains-added i n h = contains-setOf (length ws) n _ h
+
+  -- number n of row q, once i is added to row r
+  pub contains-row-added : (r i q n : ℕ) → i < 512 → n < 512 → 8 * q + 8 ≤ length ws
+      → contains (added ws (512 * r + i)) (512 * q + n) ≡ (contains ws (512 * q + n) || (eqb q r && eqb n i))
+  contains-row-added r i q n h l k =
+      contains-added (512 * r + i) (512 * q + n) (omega arith) ∙ ap (λ (t : Bool). t || contains ws (512 * q + n)) (row-place r i q n h l)
+      ∙ or-comm (eqb q r && eqb n i) (contains ws (512 * q + n))
 
   pub contains-removed : (i n : ℕ) → n < 64 * length ws → contains (removed ws i) n ≡ (not (eqb n i) && contains ws n)
   unfolding removed
@@ -372,6 +401,13 @@ module _ (ws : List ℕ) where
       let a : (512 * q + n) / 512 ≡ q = omega arith in
       let b : (512 * q + n) % 512 ≡ n = omega arith in
       contains-setOf (length ws) (512 * q + n) _ (omega arith) ∙ rw (a, b)
+
+  -- the same of a set by itself
+  pub set-union : (s : List ℕ) (n : ℕ) → n < 512 → 8 ≤ length ws → contains (rowUnion ws 0 s) n ≡ (contains ws n || contains s n)
+  set-union s n h l = let e : 512 * 0 + n ≡ n = omega arith in rw e at (contains-union 0 s 0 n h (omega arith))
+
+  pub set-difference : (s : List ℕ) (n : ℕ) → n < 512 → 8 ≤ length ws → contains (rowDifference ws 0 s) n ≡ (contains ws n && not (contains s n))
+  set-difference s n h l = let e : 512 * 0 + n ≡ n = omega arith in rw e at (contains-difference 0 s 0 n h (omega arith))
 
   pub length-row : (r : ℕ) → 8 * r + 8 ≤ length ws → length (rowOf ws r) ≡ 8
   unfolding rowOf

@@ -192,6 +192,19 @@ module _ {A : Type 0} where
   mem-elem (List·Memᴰ·head e) = (0, cc)
   mem-elem (List·Memᴰ·tail m) = let r = mem-elem m in (suc (r .0), r .1)
 
+  pub getD-elem : (xs : List A) (i : ℕ) (d : A) → i < length xs → getElem? xs i ≡ some (getD xs i d)
+  getD-elem [] i d h = absurd (omega arith)
+  getD-elem (x ∷ xs) zero d h = refl
+  getD-elem (x ∷ xs) (suc i) d h = getD-elem xs i d (omega arith)
+
+  -- the default does not matter within the list
+  pub getD-any : (xs : List A) (i : ℕ) (d e : A) → i < length xs → getD xs i d ≡ getD xs i e
+  getD-any xs i d e h = elem-getD xs i d (getD xs i e) (getD-elem xs i e h)
+
+  -- a member stands at some place
+  pub mem-place : {x : A} {xs : List A} (d : A) → List·Memᴰ x xs → (i : ℕ) × (i < length xs) × (getD xs i d ≡ x)
+  mem-place {x} {xs} d m = let r = mem-elem m in (r .0, elem-less xs (r .0) x (r .1), elem-getD xs (r .0) d x (r .1))
+
   pub getD-mem : (xs : List A) (i : ℕ) (d : A) → i < length xs → List·Memᴰ (getD xs i d) xs
   getD-mem [] i d h = absurd (omega arith)
   getD-mem (y ∷ ys) zero d h = List·Memᴰ·head refl
@@ -262,6 +275,21 @@ in-mem x (List·Memᴰ·tail {x = y} {xs = ys} m) = or-true-right (eqb x y) (mem
 
 pub mem-not : (x : ℕ) (ys : List ℕ) → ¬ (x ∈ ys) → mem x ys ≡ false
 mem-not x ys n = refuted (mem x ys) (λ h. n (mem-in x ys h))
+
+pub mem-append : (x : ℕ) (ys zs : List ℕ) → mem x (ys ++ zs) ≡ (mem x ys || mem x zs)
+mem-append x [] zs = refl
+mem-append x (y ∷ ys) zs = rw (mem-append x ys zs) (go (eqb x y))
+  where
+    go : (t : Bool) → (t || (mem x ys || mem x zs)) ≡ ((t || mem x ys) || mem x zs)
+    go true = refl
+    go false = refl
+
+pub mem-snoc : (x y : ℕ) (ys : List ℕ) → mem x (ys ++ (y ∷ [])) ≡ (mem x ys || eqb x y)
+mem-snoc x y ys = mem-append x ys (y ∷ []) ∙ go (mem x ys) (eqb x y)
+  where
+    go : (s t : Bool) → (s || (t || false)) ≡ (s || t)
+    go s true = refl
+    go s false = refl
 
 pub mem-keep : (p : ℕ → Bool) (x : ℕ) (ys : List ℕ) → mem x (keep p ys) ≡ (p x && mem x ys)
 mem-keep p x ys =

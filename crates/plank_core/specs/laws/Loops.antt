@@ -66,6 +66,9 @@ range-next i n h =
     rw (e, add-one)
 
 -- none is left
+pub range-before : (i n : ℕ) → 0 < i → i ≤ n → range (i - 1) n ≡ (i - 1) ∷ range i n
+range-before i n p h = let e : i - 1 + 1 ≡ i = omega arith in range-next (i - 1) n (omega arith) ∙ ap (λ (j : ℕ). (i - 1) ∷ range j n) e
+
 pub range-none : (i n : ℕ) → n ≤ i → range i n ≡ []
 range-none i n h = let e : n - i ≡ 0 = omega arith in rw e
 

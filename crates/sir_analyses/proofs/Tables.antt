@@ -1,0 +1,126 @@
+-- Laws of tables that show sets: rows filled one after the other, and members added step by step. Assumes nothing.
+use mathlib.Core.Path.{_≡_, refl, sym, ap, _∙_}
+use mathlib.Core.Bool.{Bool, true, false, _&&_, _||_, or-false, or-assoc, and-false, and-or-distrib-left}
+use mathlib.Core.List.{List, [], _∷_}
+use Prim.Native.Nat.{ℕ, _+_, _*_, _≤_, _<_}
+use native.Mathlib.Omega.{arith}
+use native.Mathlib.Numerals.{add-one}
+use lib.ListN.{length, getD, drop, replicate, length-replicate, drop-of-length-le}
+use lib.Seq.{drop-cons}
+use lib.Dec.{eqb, ltb}
+use borrow.Author.Tests.{lt-ltb, le-ltb, eqb-true, eqb-false, eq-eqb, ne-eqb, ltb-true, ltb-false}
+use Rattle.plank_core.specs.Lists.{mem}
+use Rattle.plank_core.specs.DenseIndexSet.{contains, added, rowUnion}
+use Rattle.plank_core.specs.laws.DenseIndexSet.{contains-cleared, contains-row-added, contains-union, length-added, length-union}
+use Rattle.sir_analyses.specs.Tables.{Rows, Adds}
+
+-- ---- a table of zeros
+
+pub cleared-long : (t : List ℕ) (m : ℕ) → t ≡ replicate m 0 → length t ≡ m
+cleared-long t m e = ap length e ∙ length-replicate m 0
+
+pub cleared-row : (t : List ℕ) (m r i : ℕ) → t ≡ replicate m 0 → contains t (512 * r + i) ≡ false
+cleared-row t m r i e = ap (λ (ws : List ℕ). contains ws (512 * r + i)) e ∙ contains-cleared m (512 * r + i)
+
+-- ---- one step
+
+pub adds-one : (t : List ℕ) (row i : ℕ) → i < 512 → Adds t (λ r n. eqb r row && eqb n i) (added t (512 * row + i))
+adds-one t row i h = record { long = length-added t (512 * row + i); same = λ r n l k. contains-row-added t row i r n h k l }
+
+pub adds-union : (t : List ℕ) (row : ℕ) (s : List ℕ) → Adds t (λ r n. eqb r row && contains s n) (rowUnion t row s)
+adds-union t row s = record { long = length-union t row s; same = λ r n l k. contains-union t row s r n k l }
+
+module _ {t : List ℕ} {p q : ℕ → ℕ → Bool} {t′ : List ℕ} where
+  -- the same members, said in another way
+  pub adds-as : ((r i : ℕ) → i < 512 → p r i ≡ q r i) → Adds t p t′ → Adds t q t′
+  adds-as e a = record { long = a .long; same = λ r i l k. a .same r i l k ∙ ap (λ (x : Bool). contains t (512 * r + i) || x) (e r i k) }
+
+  pub adds-then : {t″ : List ℕ} → Adds t p t′ → Adds t′ q t″ → Adds t (λ r i. p r i || q r i) t″
+  adds-then a b = record {
+    long = b .long ∙ a .long;
+    same = λ r i l k.
+        b .same r i (omega (arith, a .long)) k ∙ ap (λ (x : Bool). x || q r i) (a .same r i l k)
+        ∙ or-assoc (contains t (512 * r + i)) (p r i) (q r i);
+  }
+
+-- ---- a loop that adds: t with q still to be added is t₀ with p added
+
+pub record Adding (t₀ : List ℕ) (p : ℕ → ℕ → Bool) (t : List ℕ) (q : ℕ → ℕ → Bool) : Type 0 where
+  pub long : length t ≡ length t₀
+  pub same : (r i : ℕ) → 8 * r + 8 ≤ length t₀ → i < 512 → (contains t (512 * r + i) || q r i) ≡ (contains t₀ (512 * r + i) || p r i)
+
+pub adding-starts : {t : List ℕ} {p : ℕ → ℕ → Bool} → Adding t p t p
+adding-starts = record { long = refl; same = λ r i l k. refl }
+
+module _ {t₀ : List ℕ} {p : ℕ → ℕ → Bool} {t : List ℕ} {q : ℕ → ℕ → Bool} where
+  pub adding-more : {a : ℕ → ℕ → Bool} {t′ : List ℕ} {q′ : ℕ → ℕ → Bool} → Adding t₀ p t q → Adds t a t′ → ((r i : ℕ) → i < 512 → q r i ≡ (a r i || q′ r i)) → Adding t₀ p t′ q′
+  adding-more {a} {t′} {q′} g s e = record {
+    long = s .long ∙ g .long;
+    same = λ r i l k.
+        ap (λ (x : Bool). x || q′ r i) (s .same r i (omega (arith, g .long)) k)
+        ∙ or-assoc (contains t (512 * r + i)) (a r i) (q′ r i) ∙ ap (λ (x : Bool). contains t (512 * r + i) || x) (sym (e r i k)) ∙ g .same r i l k;
+  }
+
+  pub adding-ends : Adding t₀ p t q → ((r i : ℕ) → i < 512 → q r i ≡ false) → Adds t₀ p t
+  adding-ends g e = record {
+    long = g .long;
+    same = λ r i l k. sym (or-false (contains t (512 * r + i))) ∙ ap (λ (x : Bool). contains t (512 * r + i) || x) (sym (e r i k)) ∙ g .same r i l k;
+  }
+
+-- a list of one, and of none
+pub adds-single : (t : List ℕ) (row i : ℕ) (xs : List ℕ) → xs ≡ i ∷ [] → i < 512 → Adds t (λ r n. eqb r row && mem n xs) (added t (512 * row + i))
+adds-single t row i xs e h = adds-as (λ r n l. ap (λ (x : Bool). eqb r row && x) (sym (or-false (eqb n i)) ∙ ap (mem n) (sym e))) (adds-one t row i h)
+
+pub adds-none : {t : List ℕ} {p : ℕ → ℕ → Bool} → ((r i : ℕ) → i < 512 → p r i ≡ false) → Adds t p t
+adds-none e = adding-ends adding-starts e
+
+pub adds-nothing : (t : List ℕ) (row : ℕ) (xs : List ℕ) → xs ≡ [] → Adds t (λ r n. eqb r row && mem n xs) t
+adds-nothing t row xs e = adds-none (λ r n l. ap (λ (ys : List ℕ). eqb r row && mem n ys) e ∙ and-false (eqb r row))
+
+-- ---- rows filled one after the other
+
+-- the first k of n rows are filled, the others empty
+abbrev pub Filled : List ℕ → ℕ → ℕ → (ℕ → ℕ → Bool) → Type 0
+Filled t n k f = Rows t n (λ r i. ltb r k && f r i)
+
+pub filled-starts : (t : List ℕ) (m n : ℕ) (f : ℕ → ℕ → Bool) → t ≡ replicate m 0 → Filled t n 0 f
+filled-starts t m n f e r i l h = cleared-row t m r i e ∙ rw (le-ltb r 0 (omega arith))
+
+-- one more of those below k
+pub below-more : (r k : ℕ) (f : ℕ → Bool) → ((ltb r k && f r) || (eqb r k && f k)) ≡ (ltb r (k + 1) && f r)
+below-more r k f = go (eqb r k) refl (ltb r k) refl
+  where
+    go : (x : Bool) → eqb r k ≡ x → (y : Bool) → ltb r k ≡ y → ((ltb r k && f r) || (eqb r k && f k)) ≡ (ltb r (k + 1) && f r)
+    go true e y d = let q : r ≡ k = eqb-true r k e in rw (q, le-ltb k k (omega arith), eq-eqb k k refl, lt-ltb k (k + 1) (omega arith))
+    go false e true d = let q : r < k = ltb-true r k d in rw (e, d, lt-ltb r (k + 1) (omega arith)) (or-false (f r))
+    go false e false d =
+        let q : k ≤ r = ltb-false r k d in
+        let n : r ≡ k → ⊥ = eqb-false r k e in
+        rw (e, d, le-ltb r (k + 1) (omega arith))
+
+pub filled-more : (t t′ : List ℕ) (n k : ℕ) (f : ℕ → ℕ → Bool) → 8 * n ≤ length t → Filled t n k f → Adds t (λ r i. eqb r k && f k i) t′ → Filled t′ n (k + 1) f
+filled-more t t′ n k f w g a r i l h =
+    a .same r i (omega arith) h ∙ ap (λ (x : Bool). x || (eqb r k && f k i)) (g r i l h) ∙ below-more r k (λ q. f q i)
+
+-- a row that is still to be filled
+pub filled-not : (t : List ℕ) (n k : ℕ) (f : ℕ → ℕ → Bool) → k < n → Filled t n k f → (i : ℕ) → i < 512 → contains t (512 * k + i) ≡ false
+filled-not t n k f l g i h = g k i l h ∙ rw (le-ltb k k (omega arith))
+
+pub filled-ends : (t : List ℕ) (n k m : ℕ) (f : ℕ → ℕ → Bool) → m ≤ k → m ≤ n → Filled t n k f → Rows t m f
+filled-ends t n k m f h j g r i l b = g r i (omega arith) b ∙ rw (lt-ltb r k (omega arith))
+
+-- ---- a loop over a list
+
+-- the next of the list, and those behind it
+pub mem-next : (xs : List ℕ) (k : ℕ) → k < length xs → (x : ℕ) → mem x (drop k xs) ≡ (eqb x (getD xs k 0) || mem x (drop (k + 1) xs))
+mem-next xs k h x = rw (add-one, drop-cons xs k 0 h)
+
+pub mem-end : (xs : List ℕ) (k : ℕ) → length xs ≤ k → (x : ℕ) → mem x (drop k xs) ≡ false
+mem-end xs k h x = ap (mem x) (drop-of-length-le xs {i = k} h)
+
+-- where each of the list, in turn, is taken together with a test
+pub and-next : (a : Bool) (xs : List ℕ) (k : ℕ) → k < length xs → (x : ℕ) → (a && mem x (drop k xs)) ≡ ((a && eqb x (getD xs k 0)) || (a && mem x (drop (k + 1) xs)))
+and-next a xs k h x = ap (λ (t : Bool). a && t) (mem-next xs k h x) ∙ and-or-distrib-left a (eqb x (getD xs k 0)) (mem x (drop (k + 1) xs))
+
+pub and-end : (a : Bool) (xs : List ℕ) (k : ℕ) → length xs ≤ k → (x : ℕ) → (a && mem x (drop k xs)) ≡ false
+and-end a xs k h x = ap (λ (t : Bool). a && t) (mem-end xs k h x) ∙ and-false a

@@ -1,0 +1,85 @@
+-- `add_to_successors` meets its contract. The invariant: with the rest of the successors taken, the table is as it will be.
+use mathlib.Core.Path.{_≡_, sym, ap, ap₂, _∙_}
+use mathlib.Core.Bool.{Bool, _&&_, and-comm}
+use Prim.Native.Nat.{ℕ, _+_, _-_, _*_, _≤_, _<_}
+use lib.ListN.{length, getD, drop}
+use lib.Dec.{eqb}
+use Rattle.plank_core.specs.Lists.{mem}
+use Rattle.plank_core.specs.laws.Lists.{getD-mem}
+use Rattle.sir_data.specs.Records.{successors}
+use Rattle.sir_analyses.specs.Tables.{Adds}
+use Rattle.sir_analyses.proofs.Tables.{Adding, adding-starts, adding-more, adding-ends, adds-as, adds-one, and-next, and-end}
+use borrow.Author.Needs.{needs}
+use native.Mathlib.Omega.{arith}
+use Rattle.sir_analyses.proofs.block_sets.add_to_successors.Statement.{statement}
+use Rattle.sir_analyses.proofs.block_sets.add_to_successors.Tie as tie
+
+abbrev Inv-loop : tie.InvT-loop
+Inv-loop words p preds₀ count i₀ preds i = (i ≤ count) × Adding preds₀ (λ b n. eqb n (p .0) && mem b (successors words (p .0))) preds (λ b n. eqb n (p .0) && mem b (drop i (successors words (p .0))))
+
+abbrev μ-loop : tie.MeasureT-loop
+μ-loop words p preds₀ count i₀ preds i = count - i
+
+successor-count-requires : tie.Need-successor-count-requires Inv-loop μ-loop
+successor-count-requires c κs = search needs
+
+loop-holds : tie.Need-loop-holds Inv-loop μ-loop
+loop-holds c = (omega arith, adding-starts)
+
+successor-requires : tie.Need-successor-requires Inv-loop μ-loop
+successor-requires c κs = let s = c .before .before .before .before .before in
+    (s .pre .0 .sized, (s .pre .0 .in-range, (s .pre .1 .0, omega (arith, c .before .before .successor-count .ensures))))
+
+cast-row-add : tie.Need-cast-row-add Inv-loop μ-loop
+cast-row-add c = omega arith
+
+row-add-requires : tie.Need-row-add-requires Inv-loop μ-loop
+row-add-requires c κs = let s = c .before .before .before .before .before .before .before .before in
+    let l = c .before .before .before .before .loop in
+    let w = s .args .words .now in
+    let i : l .i < length (successors w (s .args .p .0)) = omega (arith, c .before .before .before .before .before .successor-count .ensures) in
+    let b = s .pre .0 .in-range .successor (s .args .p .0) _ (s .pre .1 .0) (getD-mem (successors w (s .args .p .0)) (l .i) 0 i) in
+    (omega (arith, l .inv .1 .long, b, c .before .before .successor .ensures, s .pre .0 .sized .blocks-most), omega (arith, s .pre .0 .sized .blocks-most))
+
+add-i : tie.Need-add-i Inv-loop μ-loop
+add-i c = omega arith
+
+loop-less : tie.Need-loop-less Inv-loop μ-loop
+loop-less c = omega arith
+
+loop-again : tie.Need-loop-again Inv-loop μ-loop
+loop-again c = let s = c .before .before .before .before .before .before .before .before .before .before .before in
+    let l = c .before .before .before .before .before .before .before .loop in
+    let w = s .args .words .now in
+    let p = s .args .p .0 in
+    let i : l .i < length (successors w p) = omega (arith, c .before .before .before .before .before .before .before .before .successor-count .ensures) in
+    let a : Adds (l .preds) (λ b n. eqb n p && eqb b (getD (successors w p) (l .i) 0)) (c .before .before .row-add .last .0) =
+    rw (c .before .before .row-add .ensures .1, c .before .before .before .before .before .successor .ensures)
+    (adds-as (λ b n h. and-comm (eqb b (getD (successors w p) (l .i) 0)) (eqb n p)) (adds-one (l .preds) (getD (successors w p) (l .i) 0) p (omega (arith, s .pre .0 .sized .blocks-most)))) in
+    (omega arith, adding-more (l .inv .1) a (λ b n h. and-next (eqb n p) (successors w p) (l .i) i b))
+
+same-length : tie.Need-same-length Inv-loop μ-loop
+same-length c = c .before .loop .inv .1 .long
+
+returns : tie.Need-returns Inv-loop μ-loop
+returns c = let s = c .before .before .before .before .before in
+    let l = c .before .loop in
+    let e : length (successors (s .args .words .now) (s .args .p .0)) ≤ l .i = omega (arith, c .before .before .successor-count .ensures) in
+    adding-ends (l .inv .1) (λ r n h. and-end (eqb n (s .args .p .0)) (successors (s .args .words .now) (s .args .p .0)) (l .i) e r)
+
+pub add-to-successors-spec : {M : Type 1} → statement M
+add-to-successors-spec =
+    tie.close
+    (tie.spec
+    Inv-loop
+    μ-loop
+    successor-count-requires
+    loop-holds
+    successor-requires
+    cast-row-add
+    row-add-requires
+    add-i
+    loop-less
+    loop-again
+    same-length
+    returns)

@@ -1,0 +1,90 @@
+-- `predecessor_sets` meets its contract. The invariant: the visited ones among the blocks below p stand in the rows of their successors.
+use mathlib.Core.Path.{_≡_, refl, sym, ap, _∙_}
+use mathlib.Core.Logic.{⊎-elim}
+use mathlib.Core.Bool.{Bool, true, false, _&&_, _||_, and-false}
+use Prim.Native.Nat.{ℕ, _+_, _-_, _*_, _≤_, _<_}
+use lib.ListN.{length}
+use lib.Dec.{eqb, ltb}
+use borrow.Author.Tests.{le-ltb}
+use Rattle.plank_core.specs.Lists.{mem}
+use Rattle.plank_core.specs.DenseIndexSet.{contains}
+use Rattle.sir_data.specs.Records.{blocks, successors}
+use Rattle.sir_analyses.specs.Order.{isVisited}
+use Rattle.sir_analyses.specs.Tables.{Rows, Adds}
+use Rattle.sir_analyses.proofs.Tables.{adds-as, adds-none, below-more, cleared-long, cleared-row}
+use Rattle.sir_analyses.proofs.BlockSets.{pred-test}
+use borrow.Author.Needs.{needs}
+use native.Mathlib.Omega.{arith}
+use Rattle.sir_analyses.proofs.block_sets.predecessor_sets.Statement.{statement}
+use Rattle.sir_analyses.proofs.block_sets.predecessor_sets.Tie as tie
+
+abbrev Inv-loop : tie.InvT-loop
+Inv-loop words seen preds₀ count p₀ preds p = (p ≤ count) × (length preds ≡ 2048) × Rows preds 256 (λ b i. ltb i p && (isVisited words i && mem b (successors words i)))
+
+abbrev μ-loop : tie.MeasureT-loop
+μ-loop words seen preds₀ count p₀ preds p = count - p
+
+block-count-requires : tie.Need-block-count-requires Inv-loop μ-loop
+block-count-requires c κs = search needs
+
+loop-holds : tie.Need-loop-holds Inv-loop μ-loop
+loop-holds c = let a = c .before .before .before .before .args in
+    let e = c .before .before .before .before .pre .1 .1 in
+    (omega arith, cleared-long (a .preds .now) 2048 e, λ b i l h. cleared-row (a .preds .now) 2048 b i e ∙ rw (le-ltb i 0 (omega arith)))
+
+row-contains-requires : tie.Need-row-contains-requires Inv-loop μ-loop
+row-contains-requires c κs = (omega arith, omega (arith, c .before .before .before .before .before .before .pre .0 .sized .blocks-most, c .before .before .block-count .ensures))
+
+add-to-successors-requires : tie.Need-add-to-successors-requires Inv-loop μ-loop
+add-to-successors-requires c κs = (c .before .before .before .before .before .before .before .before .before .pre .0, (omega (arith, c .before .before .before .before .before .block-count .ensures), c .before .before .before .before .loop .inv .1))
+
+add-p : tie.Need-add-p Inv-loop μ-loop
+add-p c = omega arith
+
+loop-less : tie.Need-loop-less Inv-loop μ-loop
+loop-less c = omega arith
+
+loop-again : tie.Need-loop-again Inv-loop μ-loop
+loop-again c = let s = c .before .before .before .before .before .before .before .before in
+    let w = s .args .words .now in
+    let l = c .before .before .before .loop in
+    let h : l .p < blocks w = omega (arith, c .before .before .before .before .block-count .ensures) in
+    let seen : c .before .row-contains .result ≡ isVisited w (l .p) = c .before .row-contains .ensures ∙ s .pre .1 .0 .1 (l .p) h in
+    let a : Adds (l .preds) (λ b i. eqb i (l .p) && (isVisited w (l .p) && mem b (successors w (l .p)))) (c .if1 .preds) =
+    ⊎-elim
+    (λ x. rw (x .5) (adds-as (λ b i k. rw (sym seen ∙ x .0 .taken)) (x .2 .ensures)))
+    (λ x. rw (x .1) (adds-none (λ b i k. rw (sym seen ∙ x .0 .left) (and-false (eqb i (l .p))))))
+    (c .if1 .came) in (
+      omega arith,
+      a .long ∙ l .inv .1,
+      λ b i k n. a .same b i (omega (arith, l .inv .1)) n ∙ ap (λ (x : Bool). x || (eqb i (l .p) && (isVisited w (l .p) && mem b (successors w (l .p))))) (l .inv .2 b i k n) ∙ below-more i (l .p) (λ q. isVisited w q && mem b (successors w q)),
+    )
+
+same-length : tie.Need-same-length Inv-loop μ-loop
+same-length c = omega (arith, cleared-long (c .before .before .before .before .before .before .args .preds .now) 2048 (c .before .before .before .before .before .before .pre .1 .1))
+
+returns : tie.Need-returns Inv-loop μ-loop
+returns c = let s = c .before .before .before .before .before .before in
+    let w = s .args .words .now in
+    let l = c .before .loop in
+    let e : l .p ≡ blocks w = omega (arith, c .before .before .block-count .ensures) in
+    record {
+      preds-long = l .inv .1;
+      preceded = λ b i k n. l .inv .2 b i (omega (arith, s .pre .0 .sized .blocks-most)) n ∙ ap (λ (m : ℕ). ltb i m && (isVisited w i && mem b (successors w i))) e ∙ pred-test (s .pre .0) i b;
+    }
+
+pub predecessor-sets-spec : {M : Type 1} → statement M
+predecessor-sets-spec =
+    tie.close
+    (tie.spec
+    Inv-loop
+    μ-loop
+    block-count-requires
+    loop-holds
+    row-contains-requires
+    add-to-successors-requires
+    add-p
+    loop-less
+    loop-again
+    same-length
+    returns)

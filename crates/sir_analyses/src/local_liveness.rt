@@ -1,0 +1,194 @@
+// Live locals at the entry and exit of each block, as `LocalLiveness` of the source has them, over lent tables of sets.
+use plank_core::dense_index_set::DenseIndexSet;
+use plank_core::dense_index_set::is_empty;
+use plank_core::dense_index_set::list;
+use plank_core::index::BlockId;
+use plank_core::rows::row_add;
+use plank_core::rows::row_difference_with;
+use plank_core::rows::row_of;
+use plank_core::rows::row_remove;
+use plank_core::rows::row_union_with;
+use sir_data::records::block_inputs;
+use sir_data::records::block_outputs;
+ghost use mathlib.Core.Path.{_≡_};
+ghost use mathlib.Core.Bool.{_&&_};
+ghost use Prim.Native.Nat.{ℕ, _+_, _*_, _≤_, _<_};
+ghost use lib.ListN.{length, take, replicate};
+ghost use lib.Dec.{eqb};
+ghost use Rattle.plank_core.specs.Lists.{mem, _∈_};
+ghost use Rattle.plank_core.specs.DenseIndexSet.{contains};
+ghost use Rattle.sir_data.specs.Records.{blocks, outputs};
+ghost use Rattle.sir_data.specs.WellFormed.{WellFormed};
+ghost use Rattle.sir_analyses.specs.Order.{blocksRpo};
+ghost use Rattle.sir_analyses.specs.Liveness.{back, pass, rounds, settled};
+ghost use Rattle.sir_analyses.specs.Tables.{SameRows, BlockRows, PredecessorRows, EntryWords, Parted, outputsAt, arrives, Sends, SentOn, Stepped};
+
+// A block's entry set from its exit set: use ∪ (exit − def).
+pub fn entry(uses: &[u64], defs: &[u64], exits: &[u64], b: BlockId) -> DenseIndexSet
+    requires { ⌜ (8 * b .0 + 8 ≤ length (now uses)) × (8 * b .0 + 8 ≤ length (now defs)) × (8 * b .0 + 8 ≤ length (now exits)) ⌝ }
+    ensures { λ r. ⌜ (length (r .words) ≡ 8) × EntryWords (now (uses .entry)) (now (defs .entry)) (now (exits .entry)) (b .0) (r .words) ⌝ }
+{
+    let row = b.0 as usize;
+    let mut words = [0u64; 8];
+    row_union_with(&mut words, 0, row_of(exits, row));
+    row_difference_with(&mut words, 0, row_of(defs, row));
+    row_union_with(&mut words, 0, row_of(uses, row));
+    DenseIndexSet { words }
+}
+
+// Parts the members of a set by whether they are inputs of b: those that are go, and their positions stand at the front of `moved`.
+fn part_inputs(words: &[u32], b: BlockId, set: &mut [u64], moved: &mut [u32]) -> usize
+    requires { ⌜ WellFormed (now words) ⌝ }
+    requires { ⌜ (b .0 < blocks (now words)) × (length (now set) ≡ 8) × (length (now moved) ≡ 512) ⌝ }
+    ensures { λ r. ⌜ (r ≤ 512) × Parted (now (words .entry)) (b .0) (now (set .entry)) (now (set .exit)) (take r (now (moved .exit))) ⌝ }
+{
+    let inputs = block_inputs(words, b);
+    let mut n: usize = 0;
+    let mut i: usize = 0;
+    while i < inputs.len() {
+        if row_remove(set, 0, inputs[i]) {
+            moved[n] = i as u32;
+            n += 1;
+        }
+        i += 1;
+    }
+    n
+}
+
+// Adds the outputs of block p at the positions to its exit. Whether the exit grew.
+fn send_moved(words: &[u32], p: BlockId, moved: &[u32], exits: &mut [u64]) -> bool
+    requires { ⌜ WellFormed (now words) ⌝ }
+    requires { ⌜ (p .0 < blocks (now words)) × (length (now exits) ≡ 2048) ⌝ }
+    requires { ⌜ ((k : ℕ) → k ∈ now moved → k < length (outputs (now words) (p .0))) ⌝ }
+    ensures { λ r. ⌜ Sends (blocks (now (words .entry))) (now (exits .entry)) (λ q i. eqb q (p .0) && mem i (outputsAt (now (words .entry)) (p .0) (now (moved .entry)))) (now (exits .exit)) r ⌝ }
+{
+    let outputs = block_outputs(words, p);
+    let row = p.0 as usize;
+    let mut grew = false;
+    let mut k: usize = 0;
+    while k < moved.len() {
+        let at = moved[k] as usize;
+        if row_add(exits, row, outputs[at]) {
+            grew = true;
+        }
+        k += 1;
+    }
+    grew
+}
+
+// Sends to block p: the set itself, and the outputs of p at the positions. Whether its exit grew.
+fn send_to(words: &[u32], p: BlockId, set: &[u64], moved: &[u32], exits: &mut [u64]) -> bool
+    requires { ⌜ WellFormed (now words) ⌝ }
+    requires { ⌜ (p .0 < blocks (now words)) × (length (now set) ≡ 8) × (length (now exits) ≡ 2048) ⌝ }
+    requires { ⌜ ((k : ℕ) → k ∈ now moved → k < length (outputs (now words) (p .0))) ⌝ }
+    ensures { λ r. ⌜ Sends (blocks (now (words .entry))) (now (exits .entry)) (λ q i. eqb q (p .0) && arrives (now (words .entry)) (now (set .entry)) (now (moved .entry)) (p .0) i) (now (exits .exit)) r ⌝ }
+{
+    let passed = row_union_with(exits, p.0 as usize, set);
+    if send_moved(words, p, moved, exits) {
+        return true;
+    }
+    passed
+}
+
+// Sends to each of some blocks. Whether an exit grew.
+fn send_all(words: &[u32], ids: &[u32], set: &[u64], moved: &[u32], exits: &mut [u64]) -> bool
+    requires { ⌜ WellFormed (now words) ⌝ }
+    requires { ⌜ (length (now set) ≡ 8) × (length (now exits) ≡ 2048) ⌝ }
+    requires { ⌜ ((p : ℕ) → p ∈ now ids → p < blocks (now words)) ⌝ }
+    requires { ⌜ ((p k : ℕ) → p ∈ now ids → k ∈ now moved → k < length (outputs (now words) p)) ⌝ }
+    ensures { λ r. ⌜ Sends (blocks (now (words .entry))) (now (exits .entry)) (λ q i. mem q (now (ids .entry)) && arrives (now (words .entry)) (now (set .entry)) (now (moved .entry)) q i) (now (exits .exit)) r ⌝ }
+{
+    let mut grew = false;
+    let mut k: usize = 0;
+    while k < ids.len() {
+        if send_to(words, BlockId(ids[k]), set, moved, exits) {
+            grew = true;
+        }
+        k += 1;
+    }
+    grew
+}
+
+// One block of a pass: what its entry set has and was not sent before goes to its predecessors' exits. Whether one grew.
+fn send_back(
+    words: &[u32],
+    b: BlockId,
+    uses: &[u64],
+    defs: &[u64],
+    preds: &[u64],
+    sent: &mut [u64],
+    exits: &mut [u64],
+) -> bool
+    requires { ⌜ WellFormed (now words) ⌝ }
+    requires { ⌜ b .0 < blocks (now words) ⌝ }
+    requires { ⌜ BlockRows (now words) (now uses) (now defs) × PredecessorRows (now words) (now preds) ⌝ }
+    requires { ⌜ (length (now sent) ≡ 2048) × (length (now exits) ≡ 2048) × SentOn (now words) (now exits) (now sent) ⌝ }
+    ensures { λ r. ⌜ Stepped (now (words .entry)) (λ e. back (now (words .entry)) e (b .0)) (now (exits .entry)) (now (exits .exit)) (now (sent .exit)) r ⌝ }
+{
+    let row = b.0 as usize;
+    let all = entry(uses, defs, exits, b);
+    let mut new = all.words;
+    row_difference_with(&mut new, 0, row_of(sent, row));
+    if is_empty(&new) {
+        return false;
+    }
+    row_union_with(sent, row, &new);
+    let mut moved = [0u32; 512];
+    let n = part_inputs(words, b, &mut new, &mut moved);
+    let mut ids = [0u32; 512];
+    let count = list(row_of(preds, row), &mut ids);
+    send_all(words, &ids[0..count], &new, &moved[0..n], exits)
+}
+
+// A pass: the blocks of the order, backwards. Whether an exit grew.
+fn pass_back(
+    words: &[u32],
+    rpo: &[u32],
+    uses: &[u64],
+    defs: &[u64],
+    preds: &[u64],
+    sent: &mut [u64],
+    exits: &mut [u64],
+) -> bool
+    requires { ⌜ WellFormed (now words) ⌝ }
+    requires { ⌜ now rpo ≡ blocksRpo (now words) ⌝ }
+    requires { ⌜ BlockRows (now words) (now uses) (now defs) × PredecessorRows (now words) (now preds) ⌝ }
+    requires { ⌜ (length (now sent) ≡ 2048) × (length (now exits) ≡ 2048) × SentOn (now words) (now exits) (now sent) ⌝ }
+    ensures { λ r. ⌜ Stepped (now (words .entry)) (pass (now (words .entry))) (now (exits .entry)) (now (exits .exit)) (now (sent .exit)) r ⌝ }
+{
+    let mut grew = false;
+    let mut k = rpo.len();
+    while 0 < k {
+        k -= 1;
+        if send_back(words, BlockId(rpo[k]), uses, defs, preds, sent, exits) {
+            grew = true;
+        }
+    }
+    grew
+}
+
+// Passes until one adds nothing: how many, that one counted. The exits, empty at first, are then the exit sets.
+pub fn liveness(
+    words: &[u32],
+    rpo: &[u32],
+    uses: &[u64],
+    defs: &[u64],
+    preds: &[u64],
+    exits: &mut [u64],
+) -> u32
+    requires { ⌜ WellFormed (now words) ⌝ }
+    requires { ⌜ now rpo ≡ blocksRpo (now words) ⌝ }
+    requires { ⌜ BlockRows (now words) (now uses) (now defs) × PredecessorRows (now words) (now preds) ⌝ }
+    requires { ⌜ now exits ≡ replicate 2048 0 ⌝ }
+    ensures { λ r. ⌜ (r ≡ rounds (now (words .entry))) × SameRows (now (exits .exit)) (settled (now (words .entry)) .1) (blocks (now (words .entry))) ⌝ }
+{
+    let mut sent = [0u64; 2048];
+    let mut done: u32 = 0;
+    loop {
+        let grew = pass_back(words, rpo, uses, defs, preds, &mut sent, exits);
+        done += 1;
+        if !grew {
+            return done;
+        }
+    }
+}
