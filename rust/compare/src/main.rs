@@ -23,7 +23,7 @@ mod shrink;
 mod sides;
 mod text;
 
-use image_gen::{Kind, Rng, generate, worst};
+use image_gen::{Kind, Rng, Size, generate, worst};
 use sides::{Disagreement, Tally};
 use sir_image::Image;
 use std::process::ExitCode;
@@ -134,7 +134,7 @@ fn run(options: &Options) -> Result<(), Failure> {
     if options.library && sir_analyses::LINKED && options.files.is_empty() {
         refusals(options)?;
         if options.worst {
-            for (name, image) in worst() {
+            for (name, image) in worst(Size::FULL) {
                 let name = format!("the library, {name}");
                 compare_all(&name, [(name.clone(), image)].into_iter(), sides::with_library_sparsely)?;
             }

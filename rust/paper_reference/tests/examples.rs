@@ -6,7 +6,7 @@ use sir_image::{Code, Control, Image, Span, samples};
 const END: u32 = u32::MAX;
 
 fn answer(image: &Image, question: Question, id: u32) -> Vec<u32> {
-    Reference::new(&image.pages()).ok().expect("an accepted image").answer(question, id).expect("a known id")
+    Reference::new(&image.pages()).expect("an accepted image").answer(question, id).expect("a known id")
 }
 
 /// One block of one function.
