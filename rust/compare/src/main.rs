@@ -10,7 +10,7 @@
 //!   --seed S      the first seed (1)
 //!   --library     put them to the linked library too
 //!   --damaged N   with --library: so many damaged images, of which the refusals are compared (100000)
-//!   --worst       with --library: the largest and slowest images, some ids of each
+//!   --worst       the slowest images of a medium size too; with --library also those of full size, some ids of each
 //! ```
 //!
 //! Images of every kind are taken in turn, each with a seed of its own. Where files are named, these images are taken
@@ -129,6 +129,10 @@ fn run(options: &Options) -> Result<(), Failure> {
             let name = format!("{side}, {name} images, seed {}", options.seed);
             let images = seeds.iter().map(|&(kind, seed)| (format!("{kind:?} {seed}"), generate(kind, seed)));
             compare_all(&name, images, compare)?;
+        }
+        if options.worst {
+            let images = worst(Size::MEDIUM).into_iter().map(|(name, image)| (name.to_string(), image));
+            compare_all(&format!("{side}, worst images of medium size"), images, compare)?;
         }
     }
     if options.library && sir_analyses::LINKED && options.files.is_empty() {
