@@ -1,5 +1,5 @@
-//! Links the proved library where it has been built: `libsir_analyses.a` in the folder `SIR_ANALYSES_LIB`, or in
-//! `target/staticlib` of the repository, where `rt staticlib sir_analyses` puts it. The cfg `sir_linked` says that it is
+//! Links the proved library where it has been built: `libsir_analyses.a` in the folder `SIR_ANALYSES_LIB`, absolute or
+//! from the root of the repository, or in `target/staticlib`, where `rt staticlib sir_analyses` puts it. The cfg `sir_linked` says that it is
 //! there.
 
 use std::env;

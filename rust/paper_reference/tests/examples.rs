@@ -90,6 +90,19 @@ fn a_sum_of_pointers() {
     assert_eq!(answer(&image, Question::Owner, 3), [2]);
 }
 
+/// Two allocations that reach each other's base: each takes the other's, and neither goes on from it.
+#[test]
+fn owners_that_change_places() {
+    let mut image = Image::new(2);
+    allocate(&mut image, 0);
+    allocate(&mut image, 1);
+    image.block(&[0], &[1], Span::new(0, 1), Control::ContinuesTo(1));
+    image.block(&[0], &[0], Span::new(1, 2), Control::ContinuesTo(2));
+    image.block(&[1], &[], Span::EMPTY, Control::LastOpTerminates);
+    image.function(0);
+    assert_eq!((answer(&image, Question::Owner, 0), answer(&image, Question::Owner, 1)), (vec![2], vec![1]));
+}
+
 /// `v = v + 1` in a loop: v stays live at entry.
 #[test]
 fn outputs_are_removed_before_inputs_are_added() {
