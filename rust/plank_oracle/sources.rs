@@ -1,6 +1,7 @@
 //! Build script of the crates that hold Plank's files.
 //!
-//! The files stay where they are: the folder `PLANK_SRC`, or `../shared/docs/src` beside the repository. In cargo's build
+//! The files stay where they are: the folder `PLANK_SRC`, absolute or from the root of the repository, or
+//! `../shared/docs/src` from there. In cargo's build
 //! folder a tree of links to them is made, completed by the shims for modules that are not among them, since a source
 //! that says `mod idx_slice;` looks for that file next to itself. The crate then includes `modules.rs` of that tree (or
 //! the source's own `lib.rs`). Where the folder is missing nothing is made, the cfg `plank_sources` stays off, and the

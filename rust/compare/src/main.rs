@@ -10,7 +10,7 @@
 //!   --seed S      the first seed (1)
 //!   --library     put them to the linked library too
 //!   --damaged N   with --library: so many damaged images, of which the refusals are compared (100000)
-//!   --worst       with --library: the largest and slowest images, some ids of each
+//!   --worst       the slowest images of a medium size too; with --library also those of full size, some ids of each
 //! ```
 //!
 //! Images of every kind are taken in turn, each with a seed of its own. Where files are named, these images are taken
@@ -23,7 +23,7 @@ mod shrink;
 mod sides;
 mod text;
 
-use image_gen::{Kind, Rng, generate, worst};
+use image_gen::{Kind, Rng, Size, generate, worst};
 use sides::{Disagreement, Tally};
 use sir_image::Image;
 use std::process::ExitCode;
@@ -130,11 +130,15 @@ fn run(options: &Options) -> Result<(), Failure> {
             let images = seeds.iter().map(|&(kind, seed)| (format!("{kind:?} {seed}"), generate(kind, seed)));
             compare_all(&name, images, compare)?;
         }
+        if options.worst {
+            let images = worst(Size::MEDIUM).into_iter().map(|(name, image)| (name.to_string(), image));
+            compare_all(&format!("{side}, worst images of medium size"), images, compare)?;
+        }
     }
     if options.library && sir_analyses::LINKED && options.files.is_empty() {
         refusals(options)?;
         if options.worst {
-            for (name, image) in worst() {
+            for (name, image) in worst(Size::FULL) {
                 let name = format!("the library, {name}");
                 compare_all(&name, [(name.clone(), image)].into_iter(), sides::with_library_sparsely)?;
             }

@@ -154,7 +154,7 @@ pub fn with_library(image: &Image, tally: &mut Tally) -> Result<(), Disagreement
 pub fn with_library_sparsely(image: &Image, tally: &mut Tally) -> Result<(), Disagreement> {
     let bytes = image.pages();
     tally.images += 1;
-    let paper = Reference::new(&bytes).ok().expect("an accepted image");
+    let paper = Reference::new(&bytes).expect("an accepted image");
     for question in Question::ALL {
         let ids = ids(&paper, question);
         let step = (ids.end / 3).max(1) as usize;

@@ -16,7 +16,7 @@ pub fn full_size(rng: &mut Rng) -> Image {
         arity: 5,
         arities: 3,
         codes: Codes { allocating: 3, deriving: 10, calling: 2, escaping: 6, plain: 10 },
-        controls: [1, 1, 10, 8, 6],
+        controls: [1, 1, 40, 30, 20],
         targets: 8,
         flow: Flow { next: 80, back: 10, any: 10 },
         near: 60,
@@ -41,6 +41,7 @@ pub fn full_lifetimes(rng: &mut Rng) -> Image {
         blocks: (MAX_BLOCKS as u32, MAX_BLOCKS as u32),
         operations: (3, 4),
         arity: 4,
+        ends: 1,
         leaks: 0,
     };
     let mut image = lifetimes::image(&shape, rng);
@@ -98,7 +99,10 @@ impl Size {
         locals: MAX_LOCALS,
     };
 
-    /// Small enough for analyses that take each operand place of each block by itself.
+    /// Small enough for analyses that take each operand place of each block by itself, in each pass.
+    pub const MEDIUM: Size = Size { blocks: 48, operations: 128, operands: 512, targets: 48, locals: 96 };
+
+    /// Small enough to be compared by the hundred.
     pub const SMALL: Size = Size { blocks: 24, operations: 40, operands: 96, targets: 20, locals: 48 };
 }
 
@@ -191,14 +195,26 @@ pub struct Rings {
     pub edges: u32,
     /// Number of locals that are live over those edges.
     pub carried: u32,
+    /// Number of blocks that go on to every ring.
+    pub feeders: u32,
 }
 
 impl Rings {
-    /// The most rings that an image holds.
-    pub const MOST: Rings = Rings { rings: 128, inputs: MAX_LOCALS - 1, edges: 0, carried: 0 };
-    /// Many rings, many edges, and many locals over each edge.
-    pub const WIDE: Rings =
-        Rings { rings: 85, inputs: MAX_LOCALS / 2, edges: MAX_TARGETS as u32, carried: MAX_LOCALS / 2 - 1 };
+    /// As many rings, of as many locals, as a size holds.
+    pub const fn most(size: Size) -> Rings {
+        Rings { rings: size.blocks / 2, inputs: size.locals - 1, edges: 0, carried: 0, feeders: 0 }
+    }
+
+    /// Many rings, many edges from each, and many locals over each edge.
+    pub const fn wide(size: Size) -> Rings {
+        let half = size.locals / 2;
+        Rings { rings: size.blocks / 3, inputs: half, edges: size.targets, carried: half - 1, feeders: 0 }
+    }
+
+    /// Many rings, and many edges to each.
+    pub const fn fed(size: Size) -> Rings {
+        Rings { rings: size.blocks / 4, feeders: size.blocks / 2, ..Rings::most(size) }
+    }
 }
 
 /// Rings in a row, each of which begins to turn when the one after it has turned all the way.
@@ -208,18 +224,20 @@ impl Rings {
 /// hands on the last and drops the others. The last ring reads v0. Passes add up, to about `rings` times `inputs`.
 ///
 /// With `edges` above 0 a ring switches over so many targets, all one block that reads the carried locals, and comes
-/// back by way of a block between.
+/// back by way of a block between. Feeders come first: each goes on to every ring and to the next feeder, and drops all
+/// that the rings want. There can be edges or feeders, not both.
 pub fn rings(shape: Rings) -> Image {
-    let Rings { rings, inputs: k, edges, carried } = shape;
-    assert!(rings > 0 && k > 1);
+    let Rings { rings, inputs: k, edges, carried, feeders } = shape;
+    assert!(rings > 0 && k > 1 && (edges == 0 || feeders == 0));
     let spare = k;
     let mut image = Image::new(k + 1 + carried);
     let turned: Vec<LocalId> = (0..k).chain([0]).collect();
     image.run(&turned);
     let (inputs, turned) = (Span::new(0, k), Span::new(1, k + 1));
-    let handed: Vec<LocalId> = std::iter::repeat_n(spare, k as usize - 1).chain([k - 1]).collect();
+    let handed: Vec<LocalId> = std::iter::repeat_n(spare, k as usize).chain([k - 1]).collect();
     let handed = image.run(&handed);
-    // A link gives the spare local, so that what it drops is live nowhere before it.
+    let (dropped, handed) = (Span::new(handed.start, handed.end - 1), Span::new(handed.start + 1, handed.end));
+    // Links and feeders give the spare local, so that what they drop is live nowhere before them.
     let give = image.operation(Code::SetSmallConst, &[], &[spare]);
     let read = image.operation(Code::SelfDestruct, &[0], &[]);
     let carry = image.operations.len() as u32;
@@ -228,13 +246,20 @@ pub fn rings(shape: Rings) -> Image {
     }
     let one = |operation| Span::new(operation, operation + 1);
     let blocks_of_ring = if edges > 0 { 3 } else { 2 };
-    let beside = rings * blocks_of_ring - 1;
-    image.targets = vec![beside; edges as usize];
+    let first = |ring| feeders + blocks_of_ring * ring;
+    image.targets = match feeders {
+        0 => vec![first(rings) - 1; edges as usize],
+        _ => (0..rings).map(first).collect(),
+    };
+    let mut push = |outputs, operations, control| image.blocks.push(Block { inputs, outputs, operations, control });
+    for feeder in 0..feeders {
+        let fallback = Some(feeder + 1);
+        push(dropped, one(give), Control::Switch { condition: spare, first: 0, count: rings, fallback });
+    }
     for ring in 0..rings {
         let more = ring + 1 < rings;
-        let block = blocks_of_ring * ring;
+        let block = first(ring);
         let link = block + blocks_of_ring - 1;
-        let mut push = |outputs, operations, control| image.blocks.push(Block { inputs, outputs, operations, control });
         let come_back = match more {
             true => Control::Branches { condition: spare, non_zero: block, zero: link },
             false => Control::ContinuesTo(block),
@@ -255,6 +280,42 @@ pub fn rings(shape: Rings) -> Image {
         let operations = image.operations_from(carry);
         let control = Control::LastOpTerminates;
         image.blocks.push(Block { inputs, outputs: Span::EMPTY, operations, control });
+    }
+    image.function(0);
+    image
+}
+
+/// Every block takes all locals as inputs and hands on all locals as outputs, each time in another order, and switches
+/// over all targets. One allocation reaches every local.
+pub fn renaming(size: Size, rng: &mut Rng) -> Image {
+    let locals = size.locals;
+    let mut image = Image::new(locals);
+    // Each order stands twice, so that every run that begins in its first half holds each local once.
+    for _ in 0..size.operands / (2 * locals) {
+        let mut order: Vec<LocalId> = (0..locals).collect();
+        rng.shuffle(&mut order);
+        image.run(&order);
+        image.run(&order);
+    }
+    let orders = image.operands.len() as u32 / (2 * locals);
+    let allocate = image.operations.len() as u32;
+    image.operations.push(Operation {
+        code: Code::StaticAllocZeroed.into(),
+        inputs: Span::EMPTY,
+        outputs: Span::new(0, 1),
+        extras: [32, 0],
+    });
+    image.targets = (0..size.targets).map(|_| rng.below(size.blocks)).collect();
+    for block in 0..size.blocks {
+        let mut run = || {
+            let start = 2 * locals * rng.below(orders) + rng.below(locals);
+            Span::new(start, start + locals)
+        };
+        let (inputs, outputs) = (run(), run());
+        let operations = if block == 0 { Span::new(allocate, allocate + 1) } else { Span::EMPTY };
+        let fallback = Some((block + 1) % size.blocks);
+        let control = Control::Switch { condition: rng.below(locals), first: 0, count: size.targets, fallback };
+        image.blocks.push(Block { inputs, outputs, operations, control });
     }
     image.function(0);
     image

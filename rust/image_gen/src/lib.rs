@@ -13,7 +13,8 @@ pub mod lifetimes;
 mod rng;
 pub mod shape;
 
-use extremes::{Rings, Size};
+use extremes::Rings;
+pub use extremes::Size;
 use lifetimes::Lifetimes;
 pub use rng::Rng;
 use shape::{Codes, Flow, Shape};
@@ -71,6 +72,8 @@ kinds! {
     SmallRings
     /// Many allocations in many blocks, on a small scale.
     SmallAllocating
+    /// Blocks that hand on all locals in another order, on a small scale.
+    SmallRenaming
 }
 
 impl Kind {
@@ -99,6 +102,7 @@ impl Kind {
         Kind::SmallSpanning,
         Kind::SmallRings,
         Kind::SmallAllocating,
+        Kind::SmallRenaming,
     ];
 }
 
@@ -111,7 +115,7 @@ const PLAIN: Shape = Shape {
     arity: 3,
     arities: 2,
     codes: Codes { allocating: 3, deriving: 4, calling: 1, escaping: 2, plain: 4 },
-    controls: [1, 1, 3, 3, 2],
+    controls: [1, 1, 6, 6, 3],
     targets: 3,
     flow: Flow { next: 5, back: 2, any: 3 },
     near: 40,
@@ -184,6 +188,7 @@ pub fn generate(kind: Kind, seed: u64) -> Image {
                 blocks: (1, 6),
                 operations: (1, 6),
                 arity: 4,
+                ends: 16,
                 leaks: rng.pick(&[0, 0, 1, 5]),
             };
             lifetimes::image(&shape, rng)
@@ -198,6 +203,7 @@ pub fn generate(kind: Kind, seed: u64) -> Image {
                 blocks: (20, 60),
                 operations: (2, 8),
                 arity: 5,
+                ends: 3,
                 leaks: rng.pick(&[0, 0, 1]),
             };
             lifetimes::image(&shape, rng)
@@ -210,14 +216,21 @@ pub fn generate(kind: Kind, seed: u64) -> Image {
             extremes::spanning(size, outputs, rng)
         }
         Kind::SmallRings => {
-            let edges = rng.pick(&[0, 3]);
-            let carried = if edges > 0 { 9 } else { 0 };
-            extremes::rings(Rings { rings: rng.between((1, 8)), inputs: rng.between((2, 40)), edges, carried })
+            let few = Rings { rings: rng.between((1, 8)), inputs: rng.between((2, 40)), ..Rings::most(Size::SMALL) };
+            extremes::rings(match rng.below(3) {
+                0 => few,
+                1 => Rings { edges: 3, carried: 9, ..few },
+                _ => Rings { feeders: 4, ..few },
+            })
         }
         Kind::SmallAllocating => match rng.percent(50) {
             true => extremes::allocating(Size { operations: 160, ..Size::SMALL }, rng),
             false => extremes::long_lived(Size { operations: 160, ..Size::SMALL }, rng),
         },
+        Kind::SmallRenaming => {
+            let size = Size { locals: rng.between((1, 12)), targets: rng.between((0, 6)), ..Size::SMALL };
+            extremes::renaming(size, rng)
+        }
     }
 }
 
@@ -274,7 +287,7 @@ fn mixed(rng: &mut Rng) -> Image {
     shape::image(&shape, rng)
 }
 
-/// An image such as a front end writes: 20 to 60 blocks, several functions, no overlap.
+/// An image such as a front end writes: 20 to 60 blocks, several functions that are all called, no overlap.
 fn deal(rng: &mut Rng) -> Image {
     let shape = Shape {
         functions: (2, 8),
@@ -284,40 +297,45 @@ fn deal(rng: &mut Rng) -> Image {
         arity: 4,
         arities: 2,
         codes: Codes { allocating: 2, deriving: 10, calling: 1, escaping: 4, plain: 14 },
-        controls: [1, 1, 8, 8, 2],
+        controls: [0, 1, 30, 30, 8],
         targets: 5,
-        flow: Flow { next: 85, back: 10, any: 5 },
+        flow: Flow { next: 90, back: 8, any: 2 },
         near: 75,
         rebinding: 5,
         turning: 10,
         overlap: 0,
-        sharing: 5,
+        sharing: 0,
         shared_bases: 0,
     };
     let mut image = shape::image(&shape, rng);
-    // A front end ends a function's last block.
-    if let Some(last) = image.blocks.last_mut() {
-        let stop = image.operations.len() as u32;
-        last.control = Control::LastOpTerminates;
-        image.operation(Code::Stop, &[], &[]);
-        let last = image.blocks.last_mut().expect("there is a last block");
-        if last.operations.end == stop {
-            last.operations.end += 1;
+    let functions = image.entries.len();
+    for function in 0..functions {
+        // The last block of a function returns.
+        let end = image.entries.get(function + 1).map_or(image.blocks.len(), |&next| next as usize);
+        image.blocks[end - 1].control = Control::InternalReturn;
+        // Its first operation calls the next function.
+        if function + 1 < functions {
+            let first = image.blocks[image.entries[function] as usize].operations.start as usize;
+            image.operations[first].code = Code::InternalCall.into();
+            image.operations[first].extras = [function as u32 + 1, 0];
         }
     }
+    shape::part_bases(&mut image);
     image
 }
 
-/// The largest and slowest of the legal images, by name.
-pub fn worst() -> Vec<(&'static str, Image)> {
+/// The slowest of the legal images of a size, by name.
+pub fn worst(size: Size) -> Vec<(&'static str, Image)> {
     let rng = &mut Rng::new(0);
     vec![
-        ("every block all operations, every call all operands", extremes::spanning(Size::FULL, false, rng)),
-        ("the same, and every call gives all locals", extremes::spanning(Size::FULL, true, rng)),
-        ("512 allocations that meet", extremes::allocating(Size::FULL, rng)),
-        ("511 allocations, live in every block", extremes::long_lived(Size::FULL, rng)),
-        ("one ring of 511 locals", extremes::rings(Rings { rings: 1, ..Rings::MOST })),
-        ("128 rings of 511 locals", extremes::rings(Rings::MOST)),
-        ("85 rings of 256 locals with 512 edges each", extremes::rings(Rings::WIDE)),
+        ("every block all operations, every call all operands", extremes::spanning(size, false, rng)),
+        ("the same, and every call gives all locals", extremes::spanning(size, true, rng)),
+        ("allocations that meet", extremes::allocating(size, rng)),
+        ("allocations that live in every block", extremes::long_lived(size, rng)),
+        ("every block all locals in and out, and all edges", extremes::renaming(size, rng)),
+        ("a ring", extremes::rings(Rings { rings: 1, ..Rings::most(size) })),
+        ("rings", extremes::rings(Rings::most(size))),
+        ("rings, many edges from each", extremes::rings(Rings::wide(size))),
+        ("rings, many edges to each", extremes::rings(Rings::fed(size))),
     ]
 }

@@ -22,6 +22,8 @@ pub struct Lifetimes {
     pub operations: (u32, u32),
     /// The most inputs of a block.
     pub arity: u32,
+    /// Chance in a hundred that a block has no successor.
+    pub ends: u32,
     /// Chance in a hundred that an operand is just any local.
     pub leaks: u32,
 }
@@ -136,11 +138,12 @@ impl<'a> Builder<'a> {
 
     fn control(&mut self, block: BlockId, blocks: u32) -> Control {
         let next = (block + 1) % blocks;
-        match self.rng.weighted(&[1, 1, 3, 5, 2]) {
-            0 => Control::LastOpTerminates,
-            1 => Control::InternalReturn,
-            2 => Control::ContinuesTo(next),
-            3 => {
+        if self.rng.percent(self.shape.ends) {
+            return self.rng.pick(&[Control::LastOpTerminates, Control::InternalReturn]);
+        }
+        match self.rng.weighted(&[3, 5, 2]) {
+            0 => Control::ContinuesTo(next),
+            1 => {
                 let condition = if self.rng.percent(20) { self.pointer() } else { self.value() };
                 Control::Branches { condition, non_zero: self.rng.below(blocks), zero: next }
             }

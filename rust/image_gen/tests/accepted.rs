@@ -1,6 +1,6 @@
 //! Every generated image is accepted, but for shared bases.
 
-use image_gen::{Kind, generate, worst};
+use image_gen::{Kind, Size, generate, worst};
 use paper_reference::{Question, Reference};
 
 #[test]
@@ -22,8 +22,10 @@ fn large_images_are_accepted() {
 
 #[test]
 fn the_worst_images_are_accepted() {
-    for (name, image) in worst() {
-        assert_eq!(paper_reference::refusal(&image.pages()), 0, "{name}");
+    for size in [Size::FULL, Size::MEDIUM, Size::SMALL] {
+        for (name, image) in worst(size) {
+            assert_eq!(paper_reference::refusal(&image.pages()), 0, "{name}");
+        }
     }
 }
 
@@ -39,9 +41,23 @@ fn kinds_have_what_they_are_for() {
     assert!(marks(Kind::Lives, 0) > 100, "unmarked allocations with intervals");
     let rounds = |kind, seed| {
         let image = generate(kind, seed).pages();
-        Reference::new(&image).ok().expect("an accepted image").answer(Question::Rounds, 0).unwrap()[0]
+        Reference::new(&image).expect("an accepted image").answer(Question::Rounds, 0).unwrap()[0]
     };
     assert!((0..20).any(|seed| rounds(Kind::SmallRings, seed) > 100), "many rounds");
+}
+
+/// "The number is at most the final number of exit members plus 1", and at least 1.
+#[test]
+fn rounds_are_bounded() {
+    for &kind in Kind::SMALL.iter().chain(&[Kind::SmallRings, Kind::SmallRenaming]) {
+        for seed in 0..100 {
+            let Ok(reference) = Reference::new(&generate(kind, seed).pages()) else { continue };
+            let exit_set = |block| reference.answer(Question::ExitSet, block).unwrap().len();
+            let members: usize = (0..reference.ids(Question::ExitSet)).map(exit_set).sum();
+            let rounds = reference.answer(Question::Rounds, 0).unwrap()[0] as usize;
+            assert!((1..=members + 1).contains(&rounds), "{kind:?} {seed}: {rounds} rounds, {members} members");
+        }
+    }
 }
 
 fn allocations(reference: &Reference) -> impl Iterator<Item = Vec<u32>> {

@@ -37,6 +37,7 @@ pub fn breaks_12(allocations: &[Allocation]) -> bool {
 }
 
 /// What the use lists say of pointers.
+#[derive(Clone, Debug)]
 pub struct Uses {
     /// By local: what one step of the reach adds for it.
     links: Vec<BTreeSet<usize>>,

@@ -124,6 +124,7 @@ pub fn uses(records: &Records, order: &Order, local: usize) -> Vec<u32> {
 }
 
 /// Which locals each operation reads, and which it gives.
+#[derive(Clone, Debug)]
 pub struct Operands {
     /// By operation, by local.
     pub reads: Vec<Vec<bool>>,
@@ -150,6 +151,7 @@ fn set(locals: usize, members: &[usize]) -> Vec<bool> {
 }
 
 /// The sets of every block, and the passes that they took.
+#[derive(Clone, Debug)]
 pub struct Liveness {
     /// Entry sets, by block, by local.
     pub entry: Vec<Vec<bool>>,
@@ -163,14 +165,20 @@ impl Liveness {
     /// "A pass takes the blocks of the order backwards and adds each entry set to its predecessors' exits before the
     /// next block; the first starts from empty sets."
     pub fn of(records: &Records, order: &Order, operands: &Operands) -> Liveness {
-        let predecessors = predecessors(records, order);
+        let mut predecessors = predecessors(records, order);
+        // Adding a set to an exit a second time adds nothing, whether for a repeated predecessor or in a later pass.
+        predecessors.iter_mut().for_each(Vec::dedup);
         let empty = vec![vec![false; records.locals]; records.blocks.len()];
         let mut live = Liveness { entry: empty.clone(), exit: empty, rounds: 0 };
         let positions: Vec<Vec<Option<usize>>> = records.blocks.iter().map(|block| positions(records, block)).collect();
         loop {
             let mut added = false;
             for block in order.blocks().rev() {
-                live.entry[block] = entry_set(&records.blocks[block], operands, &live.exit[block]);
+                let entry = entry_set(&records.blocks[block], operands, &live.exit[block]);
+                if live.rounds > 0 && live.entry[block] == entry {
+                    continue;
+                }
+                live.entry[block] = entry;
                 for &before in &predecessors[block] {
                     for local in (0..records.locals).filter(|&local| live.entry[block][local]) {
                         // An input becomes the output at its position; other names pass.

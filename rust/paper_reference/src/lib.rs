@@ -55,6 +55,7 @@ impl Question {
 }
 
 /// An image that rules 1 to 12 accept, and its analyses.
+#[derive(Clone, Debug)]
 pub struct Reference {
     records: Records,
     order: Order,

@@ -9,7 +9,7 @@ pub const PAYLOAD: usize = 126;
 
 /// The payload words of all pages, padding included; or 1, 2 or 3.
 pub fn payload(image: &[u8]) -> Result<Vec<u32>, u32> {
-    if image.is_empty() || image.len() % PAGE != 0 || image.len() > MOST {
+    if image.is_empty() || !image.len().is_multiple_of(PAGE) || image.len() > MOST {
         return Err(1);
     }
     let pages: Vec<Vec<u32>> = image.chunks(PAGE).map(words).collect();

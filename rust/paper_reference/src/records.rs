@@ -77,9 +77,8 @@ struct Parts<'a> {
 /// The records in these payload words, or the lowest number from 4 to 11 that applies.
 pub fn records(words: &[u32]) -> Result<Records, u32> {
     let parts = parts(words)?;
-    let broken: [(u32, fn(&Parts) -> bool); 5] =
-        [(7, breaks_7), (8, breaks_8), (9, breaks_9), (10, breaks_10), (11, breaks_11)];
-    for (number, breaks) in broken {
+    let rules: [fn(&Parts) -> bool; 5] = [breaks_7, breaks_8, breaks_9, breaks_10, breaks_11];
+    for (number, breaks) in (7..).zip(rules) {
         if breaks(&parts) {
             return Err(number);
         }

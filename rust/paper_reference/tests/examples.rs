@@ -6,7 +6,7 @@ use sir_image::{Code, Control, Image, Span, samples};
 const END: u32 = u32::MAX;
 
 fn answer(image: &Image, question: Question, id: u32) -> Vec<u32> {
-    Reference::new(&image.pages()).ok().expect("an accepted image").answer(question, id).expect("a known id")
+    Reference::new(&image.pages()).expect("an accepted image").answer(question, id).expect("a known id")
 }
 
 /// One block of one function.
@@ -88,6 +88,19 @@ fn a_sum_of_pointers() {
     assert_eq!(answer(&image, Question::Allocation, 0)[6], 1);
     assert_eq!(answer(&image, Question::Allocation, 1)[6], 1);
     assert_eq!(answer(&image, Question::Owner, 3), [2]);
+}
+
+/// Two allocations that reach each other's base: each takes the other's, and neither goes on from it.
+#[test]
+fn owners_that_change_places() {
+    let mut image = Image::new(2);
+    allocate(&mut image, 0);
+    allocate(&mut image, 1);
+    image.block(&[0], &[1], Span::new(0, 1), Control::ContinuesTo(1));
+    image.block(&[0], &[0], Span::new(1, 2), Control::ContinuesTo(2));
+    image.block(&[1], &[], Span::EMPTY, Control::LastOpTerminates);
+    image.function(0);
+    assert_eq!((answer(&image, Question::Owner, 0), answer(&image, Question::Owner, 1)), (vec![2], vec![1]));
 }
 
 /// `v = v + 1` in a loop: v stays live at entry.

@@ -1,7 +1,7 @@
 //! Puts images to Plank's own analyses and gives their answers as the paper writes them.
 //!
-//! Plank's files are compiled unchanged from the folder `PLANK_SRC`, or from `../shared/docs/src` beside the repository;
-//! none of them stands in the repository. Where the folder is missing, the crates build to nothing but this interface:
+//! Plank's files are compiled unchanged from the folder `PLANK_SRC`, absolute or from the root of the repository, or
+//! `../shared/docs/src` from there; none of them stands in the repository. Where the folder is missing, the crates build to nothing but this interface:
 //! [`PRESENT`] is false and [`Program::new`] gives `None`.
 //!
 //! # Shims

@@ -85,6 +85,19 @@ fn equal_targets() {
     assert_eq!(with(&image, |plank| plank.predecessors(1)), [0, 0]);
 }
 
+/// Two allocations that reach each other's base: each takes the other's, and neither goes on from it.
+#[test]
+fn owners_that_change_places() {
+    let mut image = Image::new(2);
+    image.operation_with(Code::StaticAllocZeroed, &[], &[0], [32, 0]);
+    image.operation_with(Code::StaticAllocZeroed, &[], &[1], [32, 1]);
+    image.block(&[0], &[1], Span::new(0, 1), Control::ContinuesTo(1));
+    image.block(&[0], &[0], Span::new(1, 2), Control::ContinuesTo(2));
+    image.block(&[1], &[], Span::EMPTY, Control::LastOpTerminates);
+    image.function(0);
+    with(&image, |plank| assert_eq!((plank.owner(0), plank.owner(1)), (vec![2], vec![1])));
+}
+
 /// Two pointers added: both marked, the sum owned by the later.
 #[test]
 fn a_sum_of_pointers() {

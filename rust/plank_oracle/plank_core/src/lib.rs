@@ -1,7 +1,7 @@
 //! Plank's crate `plank_core`, as far as its files are at hand.
 //!
 //! Shims: this root, for the `lib.rs` that is not among the files, and `shims/idx_slice.rs`.
-#![cfg_attr(plank_sources, allow(missing_docs))]
+#![cfg_attr(plank_sources, allow(missing_docs, clippy::all))]
 
 #[cfg(plank_sources)]
 extern crate plank_outside as allocator_api2;

@@ -1,7 +1,7 @@
 //! Plank's crate `sir_data`: its own `lib.rs` and `view.rs`.
 //!
 //! Shims: `shims/index.rs`, `shims/operation.rs` and `shims/builder.rs`, for the modules that are not among the files.
-#![cfg_attr(plank_sources, allow(missing_docs))]
+#![cfg_attr(plank_sources, allow(missing_docs, clippy::all))]
 
 #[cfg(plank_sources)]
 extern crate plank_outside as alloy_primitives;

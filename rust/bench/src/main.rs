@@ -1,0 +1,224 @@
+//! Times the linked library against Plank's own analyses, in one run. From the folder `rust`:
+//!
+//! ```text
+//! cargo run --release -p bench -- [deals] [full] [medium] [worst]
+//! ```
+//!
+//! Without words all four groups are timed: deals of 20 to 60 blocks, full-size images, the worst images of a medium size
+//! that Plank can take too, and the worst legal images.
+//!
+//! The library reads and checks the image anew for every question; Plank begins with a program that is in memory. A
+//! question is timed by itself, as the mean over some ids of each image; for Plank this is the time of the analyses that
+//! it needs and of its answer. "all" is every question about every id of an image: for the library the sum of the
+//! single times, for Plank one run of all analyses and all answers from it. Plank reports no rounds, so that question
+//! has no ratio. Result slices are lent once and not cleared between calls. A side that was missing when this was built
+//! is left out, with a message.
+
+use image_gen::{Kind, Size, generate, worst};
+use paper_reference::{Question, Reference};
+use plank_oracle::{Analyses, Program};
+use sir_analyses::{Answer, calls};
+use sir_image::Image;
+use std::hint::black_box;
+use std::time::{Duration, Instant};
+
+/// Room for the longest answer that is asked for.
+const RESULT_BYTES: usize = 1 << 26;
+
+/// Images that are timed together.
+struct Group {
+    name: String,
+    images: Vec<Image>,
+    /// Whether Plank can take them in reasonable time and memory.
+    plank: bool,
+}
+
+fn main() {
+    if !sir_analyses::LINKED {
+        println!("the library was missing when this was built (run rt staticlib sir_analyses): it is left out");
+    }
+    if !plank_oracle::PRESENT {
+        println!("Plank's files were missing when this was built (set PLANK_SRC): it is left out");
+    }
+    let asked: Vec<String> = std::env::args().skip(1).collect();
+    if let Some(unknown) = asked.iter().find(|word| !["deals", "full", "medium", "worst"].contains(&word.as_str())) {
+        eprintln!("bench: no group {unknown}");
+        std::process::exit(2);
+    }
+    let is_asked = |name: &str| asked.is_empty() || asked.iter().any(|word| word == name);
+    let of = |kinds: [Kind; 2], count: u64| -> Vec<Image> {
+        (0..count).flat_map(|seed| kinds.map(|kind| generate(kind, seed))).collect()
+    };
+    if is_asked("deals") {
+        let images = of([Kind::Deal, Kind::DealLives], 10);
+        table(&Group { name: "deals of 20 to 60 blocks".to_string(), images, plank: true });
+    }
+    if is_asked("full") {
+        let images = of([Kind::FullSize, Kind::FullLives], 3);
+        table(&Group { name: "full-size".to_string(), images, plank: true });
+    }
+    for (name, image) in worst(Size::MEDIUM).into_iter().filter(|_| is_asked("medium")) {
+        table(&Group { name: format!("worst of medium size: {name}"), images: vec![image], plank: true });
+    }
+    for (name, image) in worst(Size::FULL).into_iter().filter(|_| is_asked("worst")) {
+        // Plank takes each operand place of each block, and each local over each edge, in every pass.
+        let plank = name.starts_with("allocations") || name == "a ring";
+        table(&Group { name: format!("worst legal: {name}"), images: vec![image], plank });
+    }
+}
+
+/// Times a group and prints a row for each question.
+fn table(group: &Group) {
+    let plank = group.plank && plank_oracle::PRESENT;
+    let count = group.images.len();
+    println!("\n{}, {count} {}", group.name, if count == 1 { "image" } else { "images" });
+    if !plank && !sir_analyses::LINKED {
+        println!("left out: Plank is missing or it is too much for Plank, and there is no library");
+        return;
+    }
+    println!("{:14} {:>14} {:>14} {:>16}", "", "library", "Plank", "library / Plank");
+    let mut result = vec![0; if sir_analyses::LINKED { RESULT_BYTES } else { 0 }];
+    let images: Vec<Timed> = group.images.iter().map(Timed::new).collect();
+    let mut all_library = Duration::ZERO;
+    for question in Question::ALL {
+        let mut times = Times::default();
+        for image in &images {
+            let ids = image.sample(question);
+            if ids.is_empty() {
+                continue;
+            }
+            times.images += 1;
+            if sir_analyses::LINKED {
+                let time = mean(&ids, |id| _ = black_box(ask_library(&image.bytes, question, id, &mut result)));
+                times.library += time;
+                all_library += time * image.count(question);
+            }
+            if plank && question != Question::Rounds {
+                times.plank += mean(&ids, |id| image.fresh(|plank| _ = black_box(ask_plank(plank, question, id))));
+            }
+        }
+        let library = sir_analyses::LINKED.then_some(times.library);
+        let plank = (plank && question != Question::Rounds).then_some(times.plank);
+        row(&format!("{question:?}"), times.images, library, plank);
+    }
+    let all_plank = plank.then(|| images.iter().map(|image| best(|| image.fresh(|plank| image.ask_all(plank)))).sum());
+    row("all", images.len() as u32, sir_analyses::LINKED.then_some(all_library), all_plank);
+}
+
+#[derive(Default)]
+struct Times {
+    images: u32,
+    library: Duration,
+    plank: Duration,
+}
+
+fn row(name: &str, images: u32, library: Option<Duration>, plank: Option<Duration>) {
+    if images == 0 {
+        return;
+    }
+    let show = |time: Option<Duration>| match time.map(|time| (time / images).as_secs_f64() * 1e6) {
+        Some(micros) if micros < 10_000.0 => format!("{micros:.1} µs"),
+        Some(micros) => format!("{:.1} ms", micros / 1e3),
+        None => "-".to_string(),
+    };
+    let ratio = match (library, plank) {
+        (Some(library), Some(plank)) => format!("{:.2}", library.as_secs_f64() / plank.as_secs_f64()),
+        _ => "-".to_string(),
+    };
+    println!("{name:14} {:>14} {:>14} {ratio:>16}", show(library), show(plank));
+}
+
+/// An image in each side's form.
+struct Timed {
+    bytes: Vec<u8>,
+    program: Option<Program>,
+    counts: Vec<(Question, u32)>,
+}
+
+impl Timed {
+    fn new(image: &Image) -> Timed {
+        let bytes = image.pages();
+        let reference = Reference::new(&bytes).expect("an accepted image");
+        let count = |question| match question {
+            Question::Order | Question::Rounds => 1,
+            _ => reference.ids(question),
+        };
+        let counts = Question::ALL.map(|question| (question, count(question))).to_vec();
+        Timed { bytes, program: Program::new(image), counts }
+    }
+
+    fn count(&self, question: Question) -> u32 {
+        self.counts.iter().find(|(other, _)| *other == question).expect("every question has a count").1
+    }
+
+    /// Up to four ids, spread over all.
+    fn sample(&self, question: Question) -> Vec<u32> {
+        let count = self.count(question);
+        (0..count).step_by(count.div_ceil(4).max(1) as usize).collect()
+    }
+
+    /// Something with analyses that have not run yet.
+    fn fresh(&self, run: impl FnOnce(&Analyses)) {
+        run(&self.program.as_ref().expect("Plank's files are there").analyses());
+    }
+
+    /// Every question about every id, but the rounds.
+    fn ask_all(&self, plank: &Analyses) {
+        for &(question, count) in self.counts.iter().filter(|(question, _)| *question != Question::Rounds) {
+            (0..count).for_each(|id| _ = black_box(ask_plank(plank, question, id)));
+        }
+    }
+}
+
+/// The mean time over these ids.
+fn mean(ids: &[u32], mut run: impl FnMut(u32)) -> Duration {
+    ids.iter().map(|&id| best(|| run(id))).sum::<Duration>() / ids.len() as u32
+}
+
+/// The shortest of several times; of fewer, the longer one takes.
+fn best(mut run: impl FnMut()) -> Duration {
+    let mut once = || {
+        let started = Instant::now();
+        run();
+        started.elapsed()
+    };
+    let mut best = once();
+    let mut spent = best;
+    for _ in 0..20 {
+        if spent > Duration::from_millis(20) {
+            break;
+        }
+        let time = once();
+        spent += time;
+        best = best.min(time);
+    }
+    best
+}
+
+fn ask_library(image: &[u8], question: Question, id: u32, result: &mut [u8]) -> Answer {
+    match question {
+        Question::Order => calls::order(image, result),
+        Question::Predecessors => calls::predecessors(image, id, result),
+        Question::EntrySet => calls::entry_set(image, id, result),
+        Question::ExitSet => calls::exit_set(image, id, result),
+        Question::Uses => calls::uses(image, id, result),
+        Question::Intervals => calls::intervals(image, id, result),
+        Question::Allocation => calls::allocation(image, id, result),
+        Question::Owner => calls::owner(image, id, result),
+        Question::Rounds => calls::rounds(image, result),
+    }
+}
+
+fn ask_plank(plank: &Analyses, question: Question, id: u32) -> Vec<u32> {
+    match question {
+        Question::Order => plank.order(),
+        Question::Predecessors => plank.predecessors(id),
+        Question::EntrySet => plank.entry_set(id),
+        Question::ExitSet => plank.exit_set(id),
+        Question::Uses => plank.uses(id),
+        Question::Intervals => plank.intervals(id),
+        Question::Allocation => plank.allocation(id),
+        Question::Owner => plank.owner(id),
+        Question::Rounds => unreachable!("the source reports no rounds"),
+    }
+}
