@@ -24,7 +24,7 @@ high-kind k h = rw (ne-eqb k 0 (λ e. omega arith), ne-eqb k 1 (λ e. omega arit
 
 -- ---- the first rule that is broken
 
--- no rule is broken
+-- no rule is broken, if each has a number above 0
 abbrev pub Kept : List (ℕ × Bool) → Type 0
 Kept [] = Unit {0}
 Kept (r ∷ rs) = 0 < r .0 → (r .1 ≡ false) × Kept rs
@@ -37,11 +37,12 @@ keeps (r ∷ rs) h = go (r .1) refl (keeps rs)
     go true e rest = let z : r .0 ≡ 0 = rw e at h in λ l. absurd (omega arith)
     go false e rest = λ l. (e, rest (rw e at h))
 
--- of some rules and others after them
+-- each has a number above 0
 abbrev Numbered : List (ℕ × Bool) → Type 0
 Numbered [] = Unit {0}
 Numbered (r ∷ rs) = (0 < r .0) × Numbered rs
 
+-- of some rules and others after them
 pub first-append : (xs ys : List (ℕ × Bool)) → Numbered xs → first (xs ++ ys) ≡ cond (eqb (first xs) 0) (first ys) (first xs)
 first-append [] ys n = refl
 first-append (r ∷ xs) ys n = go (r .1) refl (first-append xs ys (n .1))

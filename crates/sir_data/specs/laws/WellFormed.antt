@@ -18,11 +18,11 @@ use Rattle.sir_data.specs.laws.Rules.{keeps}
 
 -- ---- a rule's parts
 
-abbrev Each : Bool → List Bool → Type 0
+abbrev pub Each : Bool → List Bool → Type 0
 Each t [] = Unit {0}
 Each t (x ∷ xs) = (x ≡ t) × Each t xs
 
-abbrev ors : Bool → List Bool → Bool
+abbrev pub ors : Bool → List Bool → Bool
 ors a [] = a
 ors a (b ∷ bs) = ors (a || b) bs
 
@@ -30,7 +30,7 @@ abbrev ands : Bool → List Bool → Bool
 ands a [] = a
 ands a (b ∷ bs) = ands (a && b) bs
 
-ors-each : (a : Bool) (bs : List Bool) → ors a bs ≡ false → Each false (a ∷ bs)
+pub ors-each : (a : Bool) (bs : List Bool) → ors a bs ≡ false → Each false (a ∷ bs)
 ors-each a [] h = (h, tt)
 ors-each a (b ∷ bs) h =
     let r = ors-each (a || b) bs h in
