@@ -11,6 +11,7 @@ pub mod Growth
 pub mod Sending
 pub mod Stepping
 pub mod Passes
+pub mod Scanning
 pub mod BlockSets
 pub mod LivenessProof
 pub mod Accepted

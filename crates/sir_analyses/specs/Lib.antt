@@ -4,6 +4,7 @@ pub mod Liveness
 pub mod Tables
 pub mod Allocation
 pub mod Answers
+pub mod Scanning
 pub mod Claims
 pub mod Walk
 pub mod Examples

@@ -16,8 +16,7 @@ returned-outputs-requires c κs = search needs
 
 add-run-requires : tie.Need-add-run-requires
 add-run-requires c κs = let s = c .before .before .before .before .before .before .before .before .before in
-    let b = s .args .b .0 in
-    (
+    let b = s .args .b .0 in (
       omega (arith, c .before .before .before .before .before .add-condition .ensures .long, s .pre .1, s .pre .0 .sized .blocks-most),
       λ v m. small (s .pre .0) (returned-below (s .pre .0) b v (s .pre .1 .0) (rw (c .returned-outputs .ensures) at m)),
     )

@@ -39,12 +39,11 @@ loop-holds c = let s = c .before .before .before .before .before .before .before
     let w = s .args .words .now in
     let b = s .args .b .0 in
     let l = s .pre .1 .1 .0 .0 in
-    let span = c .before .before .block-operations .ensures in
-    (
+    let span = c .before .before .block-operations .ensures in (
       omega (arith, s .pre .0 .in-range .ops-range b l, span),
       omega arith,
       back-starts (range-none (c .before .before .block-operations .result .end) (c .before .before .block-operations .result .end) (omega arith))
-      (ended-row w b (omega (arith, s .pre .1 .1 .0, s .pre .0 .sized .blocks-most)) (s .pre .1 .1 .1 .0) (c .before .before .before .before .before .add-end .ensures)),
+          (ended-row w b (omega (arith, s .pre .1 .1 .0, s .pre .0 .sized .blocks-most)) (s .pre .1 .1 .1 .0) (c .before .before .before .before .before .add-end .ensures)),
     )
 
 sub-o : tie.Need-sub-o Inv-loop μ-loop
@@ -56,8 +55,7 @@ row-of-requires c κs = let s = c .before .before .before .before .before .befor
 
 row-difference-with-requires : tie.Need-row-difference-with-requires Inv-loop μ-loop
 row-difference-with-requires c κs = let s = c .before .before .before .before .before .before .before .before .before .before .before .before .before .before .before .before .before in
-    let l = c .before .before .before .loop in
-    (
+    let l = c .before .before .before .loop in (
       omega (arith, l .inv .2 .uses-long, c .before .before .before .before .before .before .before .before .before .add-end .ensures .long, s .pre .1 .1 .0, s .pre .0 .sized .blocks-most),
       ap length (c .row-of .ensures) ∙ length-row (s .args .writes .now) (l .o - 1) (omega (arith, s .pre .1 .0 .writes-long, s .pre .0 .sized .operations-most, s .pre .0 .in-range .ops-range (s .args .b .0) (s .pre .1 .1 .0 .0), c .before .before .before .before .before .before .block-operations .ensures)),
     )
@@ -68,8 +66,7 @@ row-of-requires-2 c κs = let s = c .before .before .before .before .before .bef
 
 row-union-with-requires : tie.Need-row-union-with-requires Inv-loop μ-loop
 row-union-with-requires c κs = let s = c .before .before .before .before .before .before .before .before .before .before .before .before .before .before .before .before .before .before .before .before .before .before in
-    let l = c .before .before .before .before .before .before .before .before .loop in
-    (
+    let l = c .before .before .before .before .before .before .before .before .loop in (
       omega (arith, c .before .before .before .before .row-difference-with .kept, l .inv .2 .uses-long, c .before .before .before .before .before .before .before .before .before .before .before .before .before .before .add-end .ensures .long, s .pre .1 .1 .0, s .pre .0 .sized .blocks-most),
       ap length (c .row-of2 .ensures) ∙ length-row (s .args .reads .now) (l .o - 1) (omega (arith, s .pre .1 .0 .reads-long, s .pre .0 .sized .operations-most, s .pre .0 .in-range .ops-range (s .args .b .0) (s .pre .1 .1 .0 .0), c .before .before .before .before .before .before .before .before .before .before .before .block-operations .ensures)),
     )
@@ -80,8 +77,7 @@ row-of-requires-3 c κs = let s = c .before .before .before .before .before .bef
 
 row-union-with-requires-2 : tie.Need-row-union-with-requires-2 Inv-loop μ-loop
 row-union-with-requires-2 c κs = let s = c .before .before .before .before .before .before .before .before .before .before .before .before .before .before .before .before .before .before .before .before .before .before .before .before .before .before .before in
-    let l = c .before .before .before .before .before .before .before .before .before .before .before .before .before .loop in
-    (
+    let l = c .before .before .before .before .before .before .before .before .before .before .before .before .before .loop in (
       omega (arith, l .inv .2 .defs-long, s .pre .1 .1 .0, s .pre .0 .sized .blocks-most),
       ap length (c .row-of3 .ensures) ∙ length-row (s .args .writes .now) (l .o - 1) (omega (arith, s .pre .1 .0 .writes-long, s .pre .0 .sized .operations-most, s .pre .0 .in-range .ops-range (s .args .b .0) (s .pre .1 .1 .0 .0), c .before .before .before .before .before .before .before .before .before .before .before .before .before .before .before .before .block-operations .ensures)),
     )
@@ -92,12 +88,11 @@ loop-less c = omega arith
 loop-again : tie.Need-loop-again Inv-loop μ-loop
 loop-again c = let s = c .before .before .before .before .before .before .before .before .before .before .before .before .before .before .before .before .before .before .before .before .before .before .before .before .before .before .before .before .before .before in
     let l = c .before .before .before .before .before .before .before .before .before .before .before .before .before .before .before .before .loop in
-    let h : l .o - 1 < operations (s .args .words .now) = omega (arith, s .pre .0 .in-range .ops-range (s .args .b .0) (s .pre .1 .1 .0 .0), c .before .before .before .before .before .before .before .before .before .before .before .before .before .before .before .before .before .before .before .block-operations .ensures) in
-    (
+    let h : l .o - 1 < operations (s .args .words .now) = omega (arith, s .pre .0 .in-range .ops-range (s .args .b .0) (s .pre .1 .1 .0 .0), c .before .before .before .before .before .before .before .before .before .before .before .before .before .before .before .before .before .before .before .block-operations .ensures) in (
       omega arith,
       omega arith,
       rw (range-before (l .o) (c .before .before .before .before .before .before .before .before .before .before .before .before .before .before .before .before .before .before .before .block-operations .result .end) (omega arith) (omega arith), c .before .before .before .before .before .before .before .row-union-with .ensures .1, c .before .before .before .before .before .before .before .before .row-of2 .ensures, c .before .before .before .before .before .before .before .before .before .before .before .before .row-difference-with .ensures, c .before .before .before .before .before .before .before .before .before .before .before .before .before .row-of .ensures, c .before .before .row-union-with2 .ensures .1, c .before .before .before .row-of3 .ensures)
-      (back-more (s .args .reads .now) (s .args .writes .now) (l .o - 1) (s .pre .1 .0) h (l .inv .2)),
+          (back-more (s .args .reads .now) (s .args .writes .now) (l .o - 1) (s .pre .1 .0) h (l .inv .2)),
     )
 
 same-length : tie.Need-same-length Inv-loop μ-loop
@@ -113,8 +108,7 @@ returns c = let s = c .before .before .before .before .before .before .before .b
     let l = c .before .loop in
     let span = c .before .before .before .before .block-operations .ensures in
     let first : l .o ≡ blockWord w b 4 = omega (arith, span) in
-    let os : range (l .o) (c .before .before .before .before .block-operations .result .end) ≡ ops w b = ap₂ range first (span .1) in
-    (
+    let os : range (l .o) (c .before .before .before .before .block-operations .result .end) ≡ ops w b = ap₂ range first (span .1) in (
       back-used (s .pre .0) b (s .pre .1 .1 .0 .0) (s .pre .1 .1 .1 .0) (c .before .before .before .before .before .before .before .add-end .ensures) os (l .inv .2),
       back-defined (s .pre .0) b (s .pre .1 .1 .0 .0) os (l .inv .2),
     )
