@@ -1,15 +1,15 @@
 -- What the tables of operands, of use and def sets and of predecessors hold, step by step. Assumes nothing.
-use mathlib.Core.Path.{_≡_, refl, sym, ap, ap₂, _∙_}
+use mathlib.Core.Path.{_≡_, refl, sym, ap, _∙_}
 use mathlib.Core.Logic.{⊎-elim}
 use mathlib.Core.Bool.{Bool, true, false, not, _&&_, _||_, cond, or-false, and-or-distrib-left}
-use mathlib.Core.List.{List, [], _∷_, _++_, List·Memᴰ, List·Memᴰ·head, List·Memᴰ·tail, List·Memᴰ·append-cases, List·Memᴰ·not-nil}
+use mathlib.Core.List.{List, [], _∷_, List·Memᴰ·head, List·Memᴰ·tail, List·Memᴰ·append-cases, List·Memᴰ·not-nil}
 use Prim.Native.Nat.{ℕ, _+_, _*_, _≤_, _<_}
 use native.Mathlib.Omega.{arith}
 use lib.ListN.{length}
 use lib.Dec.{eqb, ltb}
 use borrow.Author.Tests.{eqb-true, eq-eqb, lt-ltb, ltb-true}
-use Rattle.plank_core.specs.Lists.{any, mem, _∈_}
-use Rattle.plank_core.specs.laws.Lists.{split, none, mem-in, in-mem, mem-not, mem-append, same-tests, both-true, and-true-left, and-true-right}
+use Rattle.plank_core.specs.Lists.{mem, _∈_}
+use Rattle.plank_core.specs.laws.Lists.{split, mem-in, in-mem, mem-not, mem-append, same-tests, both-true, and-true-left, and-true-right}
 use Rattle.plank_core.specs.DenseIndexSet.{contains, rowOf, rowUnion, rowDifference}
 use Rattle.plank_core.specs.laws.DenseIndexSet.{contains-union, contains-difference, contains-row, length-union, length-difference}
 use Rattle.sir_data.specs.Records.{blocks, operations, locals, control, outputs, ops, successors, condition, returned, ins, outs}

@@ -12,6 +12,7 @@ pub mod Sending
 pub mod Stepping
 pub mod Passes
 pub mod Scanning
+pub mod SetAnswers
 pub mod BlockSets
 pub mod LivenessProof
 pub mod Accepted

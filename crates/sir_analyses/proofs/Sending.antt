@@ -1,23 +1,23 @@
 -- What one block sends: its entry set, parted by its inputs, and what of it arrives at the exits of its predecessors.
 -- Assumes nothing.
 use mathlib.Core.Path.{_≡_, refl, sym, ap, ap₂, subst, _∙_}
-use mathlib.Core.Logic.{_⊎_, inl, inr, ⊎-elim}
+use mathlib.Core.Logic.{⊎-elim}
 use mathlib.Core.Bool.{Bool, true, false, not, _&&_, _||_, cond, and-true, and-or-distrib-right}
-use mathlib.Core.List.{List, [], _∷_, _++_, map, append-nil, List·Memᴰ, List·Memᴰ·head, List·Memᴰ·tail, Memᴰ·cast, Memᴰ·map, Memᴰ·of-map}
-use Prim.Native.Nat.{ℕ, zero, suc, _+_, _*_, _≤_, _<_}
+use mathlib.Core.List.{List, [], _∷_, _++_, map, append-nil, List·Memᴰ·head, List·Memᴰ·tail, Memᴰ·cast, Memᴰ·map, Memᴰ·of-map}
+use Prim.Native.Nat.{ℕ, _+_, _*_, _≤_, _<_}
 use native.Mathlib.Omega.{arith}
 use native.Mathlib.Numerals.{add-one}
-use lib.ListN.{length, getD, set, take, replicate, length-replicate, length-set, List·getD-eq-default}
+use lib.ListN.{length, getD, set, take, replicate, length-set, List·getD-eq-default}
 use lib.Seq.{length-take-le, take-suc, take-suc-set, getD-take, take-all}
 use lib.Dec.{eqb}
-use borrow.Author.Tests.{eqb-true, eq-eqb}
+use borrow.Author.Tests.{eqb-true}
 use Rattle.plank_core.specs.Lists.{upto, keep, mem, distinct, _∈_}
-use Rattle.plank_core.specs.laws.Lists.{and-true-left, both-true, or-true-left, or-true-right, or-cases, bool-or, none, upto-mem, mem-upto, keep-mem, keep-out, mem-in, in-mem, mem-not, mem-snoc, mem-elem, mem-place, getD-mem, getD-elem, getD-any, distinct-places}
+use Rattle.plank_core.specs.laws.Lists.{and-true-left, both-true, or-true-left, or-true-right, or-cases, none, upto-mem, mem-upto, keep-mem, keep-out, mem-in, in-mem, mem-not, mem-snoc, mem-place, getD-mem, getD-elem, getD-any, distinct-places}
 use Rattle.plank_core.specs.laws.Loops.{upto-more, map-append}
 use Rattle.plank_core.specs.laws.Members.{keep-append}
 use Rattle.plank_core.specs.DenseIndexSet.{contains, removed, rowOf, rowUnion, rowDifference}
 use Rattle.plank_core.specs.laws.DenseIndexSet.{contains-cleared, contains-row, contains-removed, length-removed, length-union, length-difference, set-union, set-difference}
-use Rattle.sir_data.specs.Records.{blocks, locals, inputs, outputs, successors}
+use Rattle.sir_data.specs.Records.{blocks, locals, inputs, outputs}
 use Rattle.sir_data.specs.WellFormed.{WellFormed}
 use Rattle.sir_analyses.specs.Order.{predecessors}
 use Rattle.sir_analyses.specs.Liveness.{indexOf, renamed}

@@ -8,7 +8,7 @@ use native.Mathlib.Numerals.{add-one}
 use lib.ListN.{length, getD, drop, replicate, length-replicate, drop-of-length-le}
 use lib.Seq.{drop-cons}
 use lib.Dec.{eqb, ltb}
-use borrow.Author.Tests.{lt-ltb, le-ltb, eqb-true, eqb-false, eq-eqb, ne-eqb, ltb-true, ltb-false}
+use borrow.Author.Tests.{lt-ltb, le-ltb, eqb-true, eqb-false, eq-eqb, ltb-true, ltb-false}
 use Rattle.plank_core.specs.Lists.{mem}
 use Rattle.plank_core.specs.DenseIndexSet.{contains, added, rowUnion}
 use Rattle.plank_core.specs.laws.DenseIndexSet.{contains-cleared, contains-row-added, contains-union, length-added, length-union}

@@ -16,7 +16,6 @@ ghost use Prim.Native.Nat.{ℕ, _+_, _*_, _≤_, _<_};
 ghost use lib.ListN.{length, take, replicate};
 ghost use lib.Dec.{eqb};
 ghost use Rattle.plank_core.specs.Lists.{mem, _∈_};
-ghost use Rattle.plank_core.specs.DenseIndexSet.{contains};
 ghost use Rattle.sir_data.specs.Records.{blocks, outputs};
 ghost use Rattle.sir_data.specs.WellFormed.{WellFormed};
 ghost use Rattle.sir_analyses.specs.Order.{blocksRpo};

@@ -1,7 +1,6 @@
 -- `add_run` meets its contract. The invariant: with the rest of the run added, the row is as it will be.
-use mathlib.Core.Path.{_≡_}
 use mathlib.Core.Bool.{_&&_}
-use Prim.Native.Nat.{_+_, _-_, _*_, _≤_, _<_}
+use Prim.Native.Nat.{_-_, _≤_, _<_}
 use lib.ListN.{length, getD, drop}
 use lib.Dec.{eqb}
 use Rattle.plank_core.specs.Lists.{mem}

@@ -1,7 +1,6 @@
 -- `add_to_successors` meets its contract. The invariant: with the rest of the successors taken, the table is as it will be.
-use mathlib.Core.Path.{_≡_, sym, ap, ap₂, _∙_}
-use mathlib.Core.Bool.{Bool, _&&_, and-comm}
-use Prim.Native.Nat.{ℕ, _+_, _-_, _*_, _≤_, _<_}
+use mathlib.Core.Bool.{_&&_, and-comm}
+use Prim.Native.Nat.{_-_, _≤_, _<_}
 use lib.ListN.{length, getD, drop}
 use lib.Dec.{eqb}
 use Rattle.plank_core.specs.Lists.{mem}

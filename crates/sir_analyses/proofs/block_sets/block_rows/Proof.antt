@@ -1,6 +1,6 @@
 -- `block_rows` meets its contract. The invariant: row b is what the operations from o on, taken backwards, make of it.
 use mathlib.Core.Path.{_≡_, ap, ap₂, _∙_}
-use Prim.Native.Nat.{_+_, _-_, _*_, _≤_, _<_}
+use Prim.Native.Nat.{_-_, _≤_, _<_}
 use lib.ListN.{length}
 use Rattle.plank_core.specs.Lists.{range}
 use Rattle.plank_core.specs.laws.Loops.{range-before, range-none}

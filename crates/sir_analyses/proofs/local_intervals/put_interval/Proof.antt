@@ -1,5 +1,5 @@
 -- `put_interval` meets its contract.
-use mathlib.Core.Path.{_≡_, refl, sym}
+use mathlib.Core.Path.{_≡_, sym}
 use mathlib.Core.List.{append-nil}
 use lib.ListN.{take, length-set}
 use borrow.Author.Tests.{ne-eqb}
