@@ -3,7 +3,7 @@
 use mathlib.Core.Path.{_≡_, refl, sym, ap, ap₂, subst, _∙_}
 use mathlib.Core.Logic.{⊎-elim}
 use mathlib.Core.Bool.{Bool, true, false, not, _&&_, _||_, cond, and-true, and-or-distrib-right}
-use mathlib.Core.List.{List, [], _∷_, _++_, map, append-nil, List·Memᴰ·head, List·Memᴰ·tail, Memᴰ·cast, Memᴰ·map, Memᴰ·of-map}
+use mathlib.Core.List.{List, [], _∷_, _++_, append-nil, List·Memᴰ·head, List·Memᴰ·tail, Memᴰ·cast, Memᴰ·map, Memᴰ·of-map}
 use Prim.Native.Nat.{ℕ, _+_, _*_, _≤_, _<_}
 use native.Mathlib.Omega.{arith}
 use native.Mathlib.Numerals.{add-one}
@@ -13,7 +13,7 @@ use lib.Dec.{eqb}
 use borrow.Author.Tests.{eqb-true}
 use Rattle.plank_core.specs.Lists.{upto, keep, mem, distinct, _∈_}
 use Rattle.plank_core.specs.laws.Lists.{and-true-left, both-true, or-true-left, or-true-right, or-cases, none, upto-mem, mem-upto, keep-mem, keep-out, mem-in, in-mem, mem-not, mem-snoc, mem-place, getD-mem, getD-elem, getD-any, distinct-places}
-use Rattle.plank_core.specs.laws.Loops.{upto-more, map-append}
+use Rattle.plank_core.specs.laws.Loops.{upto-more}
 use Rattle.plank_core.specs.laws.Members.{keep-append}
 use Rattle.plank_core.specs.DenseIndexSet.{contains, removed, rowOf, rowUnion, rowDifference}
 use Rattle.plank_core.specs.laws.DenseIndexSet.{contains-cleared, contains-row, contains-removed, length-removed, length-union, length-difference, set-union, set-difference}
@@ -22,6 +22,7 @@ use Rattle.sir_data.specs.WellFormed.{WellFormed}
 use Rattle.sir_analyses.specs.Order.{predecessors}
 use Rattle.sir_analyses.specs.Liveness.{indexOf, renamed}
 use Rattle.sir_analyses.specs.Tables.{EntryWords, Parted, outputsAt, arrives}
+use Rattle.sir_analyses.proofs.Tables.{taken-next}
 use Rattle.sir_analyses.proofs.Positions.{index-at, index-none}
 use Rattle.sir_analyses.proofs.OrderLaws.{free, free-nil, free-new}
 use Rattle.sir_analyses.proofs.OrderProof.{blocks-seen, blocks-below, predecessors-out}
@@ -223,13 +224,7 @@ module _ {w : List ℕ} (good : WellFormed w) where
           not-out true false e = refl
           not-out false t e = none false e refl
 
--- ---- a list taken one by one
-
-pub taken-next : (xs : List ℕ) (k : ℕ) → k < length xs → (x : ℕ) → (mem x (take k xs) || eqb x (getD xs k 0)) ≡ mem x (take (k + 1) xs)
-taken-next xs k h x = rw (add-one, take-suc xs k 0 h) (sym (mem-snoc x (getD xs k 0) (take k xs)))
-
-pub mapped-next : (f : ℕ → ℕ) (xs : List ℕ) (k : ℕ) → k < length xs → (x : ℕ) → (mem x (map f (take k xs)) || eqb x (f (getD xs k 0))) ≡ mem x (map f (take (k + 1) xs))
-mapped-next f xs k h x = rw (add-one, take-suc xs k 0 h, map-append) (sym (mem-snoc x (f (getD xs k 0)) (map f (take k xs))))
+-- ---- blocks taken one by one
 
 -- A holds of each of those taken, and of the next one
 pub and-taken : (xs : List ℕ) (k : ℕ) → k < length xs → (A : ℕ → Bool) (x : ℕ) → ((mem x (take k xs) && A x) || (eqb x (getD xs k 0) && A (getD xs k 0))) ≡ (mem x (take (k + 1) xs) && A x)
