@@ -1,29 +1,25 @@
 -- What the tables of operands, of use and def sets and of predecessors hold, step by step. Assumes nothing.
-use mathlib.Core.Path.{_≡_, refl, sym, ap, ap₂, _∙_}
+use mathlib.Core.Path.{_≡_, refl, sym, ap, _∙_}
 use mathlib.Core.Logic.{⊎-elim}
-use mathlib.Core.Bool.{Bool, true, false, not, _&&_, _||_, cond, or-false}
-use mathlib.Core.List.{List, [], _∷_, _++_, List·Memᴰ, List·Memᴰ·head, List·Memᴰ·tail, List·Memᴰ·append-cases, List·Memᴰ·not-nil}
+use mathlib.Core.Bool.{Bool, true, false, not, _&&_, _||_, cond, or-false, and-or-distrib-left}
+use mathlib.Core.List.{List, [], _∷_, List·Memᴰ·head, List·Memᴰ·tail, List·Memᴰ·append-cases, List·Memᴰ·not-nil}
 use Prim.Native.Nat.{ℕ, _+_, _*_, _≤_, _<_}
 use native.Mathlib.Omega.{arith}
 use lib.ListN.{length}
 use lib.Dec.{eqb, ltb}
 use borrow.Author.Tests.{eqb-true, eq-eqb, lt-ltb, ltb-true}
-use Rattle.plank_core.specs.Lists.{any, mem, _∈_}
-use Rattle.plank_core.specs.laws.Lists.{split, none, mem-in, in-mem, mem-not, mem-append, same-tests, both-true, and-true-left, and-true-right}
+use Rattle.plank_core.specs.Lists.{mem, _∈_}
+use Rattle.plank_core.specs.laws.Lists.{split, mem-in, in-mem, mem-not, mem-append, same-tests, both-true, and-true-left, and-true-right}
 use Rattle.plank_core.specs.DenseIndexSet.{contains, rowOf, rowUnion, rowDifference}
 use Rattle.plank_core.specs.laws.DenseIndexSet.{contains-union, contains-difference, contains-row, length-union, length-difference}
 use Rattle.sir_data.specs.Records.{blocks, operations, locals, control, outputs, ops, successors, condition, returned, ins, outs}
 use Rattle.sir_data.specs.WellFormed.{WellFormed}
 use Rattle.sir_analyses.specs.Order.{isVisited, predecessors}
 use Rattle.sir_analyses.specs.Liveness.{has, readFirst, useSet, defSet}
-use Rattle.sir_analyses.specs.Tables.{Rows, Adds, OperandRows, PredecessorRows}
-use Rattle.sir_analyses.proofs.Tables.{adds-then}
+use Rattle.sir_analyses.specs.Tables.{Adds, endReads, OperandRows}
+use Rattle.sir_analyses.proofs.Tables.{adds-as, adds-then}
 use Rattle.sir_analyses.proofs.GenKill.{given, beyond, use-length, def-length, has-use, has-def}
 use Rattle.sir_analyses.proofs.OrderProof.{blocks-seen, blocks-below, predecessors-in, predecessors-out}
-
--- what is read behind a block's operations
-abbrev pub end : List ℕ → ℕ → List ℕ
-end w b = condition w b ++ returned w b
 
 -- ---- locals are small
 
@@ -41,7 +37,7 @@ module _ {w : List ℕ} (good : WellFormed w) where
       go true k = good .in-range .output b v l k
       go false k = absurd (List·Memᴰ·not-nil k)
 
-  end-below : (b v : ℕ) → b < blocks w → v ∈ end w b → v < locals w
+  end-below : (b v : ℕ) → b < blocks w → v ∈ endReads w b → v < locals w
   end-below b v l m = ⊎-elim (good .in-range .tested b v l) (returned-below b v l) (List·Memᴰ·append-cases (condition w b) m)
 
   -- ---- no set has more than the locals
@@ -64,10 +60,10 @@ module _ {w : List ℕ} (good : WellFormed w) where
   given-none v (o ∷ os) h l =
       rw (above v (outs w o) h (λ x. good .in-range .written o x (l o (List·Memᴰ·head refl)))) (given-none v os h (λ p m. l p (List·Memᴰ·tail m)))
 
-  pub use-test : (b v : ℕ) → b < blocks w → readFirst w (end w b) (ops w b) v ≡ has (useSet w b) v
+  pub use-test : (b v : ℕ) → b < blocks w → readFirst w (endReads w b) (ops w b) v ≡ has (useSet w b) v
   use-test b v l =
       ⊎-elim (λ (h : v < locals w). sym (has-use w b v h))
-      (λ (h : locals w ≤ v). read-none v (end w b) (ops w b) h (λ x. end-below b x l) (λ o. good .in-range .op b o l) ∙ sym (beyond (useSet w b) v (rw use-length h)))
+      (λ (h : locals w ≤ v). read-none v (endReads w b) (ops w b) h (λ x. end-below b x l) (λ o. good .in-range .op b o l) ∙ sym (beyond (useSet w b) v (rw use-length h)))
       (split v (locals w))
 
   pub def-test : (b v : ℕ) → b < blocks w → given w (ops w b) v ≡ has (defSet w b) v
@@ -155,25 +151,29 @@ module _ {w xs : List ℕ} {row : ℕ} {os uses₀ defs₀ uses defs : List ℕ}
             ∙ rw (g .defined r v n k, out v k) (step-defined (eqb r row) (contains defs₀ (512 * r + v)) (given w os v) (mem v (outs w o)));
       }
 
--- before the first operation: the row has what is read behind them all
-pub ended : (w : List ℕ) (b : ℕ) {u u₁ u₂ : List ℕ} → 8 * b + 8 ≤ length u → ((v : ℕ) → v < 512 → contains u (512 * b + v) ≡ false)
-    → Adds u (λ r v. eqb r b && mem v (condition w b)) u₁ → Adds u₁ (λ r v. eqb r b && mem v (returned w b)) u₂
-    → (v : ℕ) → v < 512 → contains u₂ (512 * b + v) ≡ mem v (end w b)
-ended w b l z a₁ a₂ v h =
-    adds-then a₁ a₂ .same b v l h ∙ rw (z v h, eq-eqb b b refl) (sym (mem-append v (condition w b) (returned w b)))
+-- the two kinds of what is read behind the operations
+pub ends-both : (w : List ℕ) (b : ℕ) {u u₁ u₂ : List ℕ} → Adds u (λ r v. eqb r b && mem v (condition w b)) u₁ → Adds u₁ (λ r v. eqb r b && mem v (returned w b)) u₂
+    → Adds u (λ r v. eqb r b && mem v (endReads w b)) u₂
+ends-both w b a₁ a₂ =
+    adds-as (λ r v h. sym (and-or-distrib-left (eqb r b) (mem v (condition w b)) (mem v (returned w b))) ∙ ap (λ (t : Bool). eqb r b && t) (sym (mem-append v (condition w b) (returned w b)))) (adds-then a₁ a₂)
+
+-- before the first operation: a row that was empty has just these
+pub ended-row : (w : List ℕ) (b : ℕ) {u u₁ : List ℕ} → 8 * b + 8 ≤ length u → ((v : ℕ) → v < 512 → contains u (512 * b + v) ≡ false)
+    → Adds u (λ r v. eqb r b && mem v (endReads w b)) u₁ → (v : ℕ) → v < 512 → contains u₁ (512 * b + v) ≡ mem v (endReads w b)
+ended-row w b l z a v h = a .same b v l h ∙ rw (z v h, eq-eqb b b refl)
 
 -- behind the last one: the rows have the use and def sets
-pub back-used : {w : List ℕ} → WellFormed w → (b : ℕ) {u u₁ u₂ : List ℕ} → b < blocks w → ((v : ℕ) → v < 512 → contains u (512 * b + v) ≡ false)
-    → Adds u (λ r v. eqb r b && mem v (condition w b)) u₁ → Adds u₁ (λ r v. eqb r b && mem v (returned w b)) u₂
-    → {os defs₀ uses defs : List ℕ} → os ≡ ops w b → Back w (end w b) b os u₂ defs₀ uses defs → Adds u (λ r v. eqb r b && has (useSet w b) v) uses
-back-used {w} good b {u} {u₂ = u₂} l z a₁ a₂ {os} {uses = uses} e g = record {
-  long = g .uses-long ∙ a₂ .long ∙ a₁ .long;
-  same = λ r v n h. g .used r v (omega (arith, a₁ .long, a₂ .long)) h ∙ go r v n h (eqb r b) refl;
+pub back-used : {w : List ℕ} → WellFormed w → (b : ℕ) {u u₁ : List ℕ} → b < blocks w → ((v : ℕ) → v < 512 → contains u (512 * b + v) ≡ false)
+    → Adds u (λ r v. eqb r b && mem v (endReads w b)) u₁ → {os defs₀ uses defs : List ℕ} → os ≡ ops w b → Back w (endReads w b) b os u₁ defs₀ uses defs
+    → Adds u (λ r v. eqb r b && has (useSet w b) v) uses
+back-used {w} good b {u} {u₁} l z a {os} {uses = uses} e g = record {
+  long = g .uses-long ∙ a .long;
+  same = λ r v n h. g .used r v (omega (arith, a .long)) h ∙ go r v n h (eqb r b) refl;
 }
   where
-    go : (r v : ℕ) → 8 * r + 8 ≤ length u → v < 512 → (t : Bool) → eqb r b ≡ t → cond t (readFirst w (end w b) os v) (contains u₂ (512 * r + v)) ≡ (contains u (512 * r + v) || (t && has (useSet w b) v))
+    go : (r v : ℕ) → 8 * r + 8 ≤ length u → v < 512 → (t : Bool) → eqb r b ≡ t → cond t (readFirst w (endReads w b) os v) (contains u₁ (512 * r + v)) ≡ (contains u (512 * r + v) || (t && has (useSet w b) v))
     go r v n h true q = rw (e, eqb-true r b q, z v h) (use-test good b v l)
-    go r v n h false q = adds-then a₁ a₂ .same r v n h ∙ rw q
+    go r v n h false q = a .same r v n h ∙ rw q
 
 pub back-defined : {w : List ℕ} → WellFormed w → (b : ℕ) → b < blocks w → {xs os uses₀ defs₀ uses defs : List ℕ} → os ≡ ops w b → Back w xs b os uses₀ defs₀ uses defs
     → Adds defs₀ (λ r v. eqb r b && has (defSet w b) v) defs

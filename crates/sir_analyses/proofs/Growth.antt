@@ -8,7 +8,6 @@ use native.Mathlib.Omega.{arith}
 use lib.ListN.{length}
 use lib.Dec.{eqb}
 use borrow.Author.Tests.{eqb-true, eq-eqb, not-true}
-use Rattle.plank_core.specs.Lists.{any, upto}
 use Rattle.plank_core.specs.laws.Lists.{and-true-left, and-true-right, both-true, or-true-left, or-true-right, or-cases, bool-or, refuted, same-tests, none, any-some, any-none, any-find}
 use Rattle.plank_core.specs.DenseIndexSet.{contains, added, rowUnion, grows}
 use Rattle.sir_analyses.specs.Tables.{Adds, More, grew, Sends}

@@ -17,6 +17,8 @@ pub mod Growth
 pub mod Sending
 pub mod Stepping
 pub mod Passes
+pub mod Scanning
+pub mod SetAnswers
 pub mod BlockSets
 pub mod LivenessProof
 pub mod Accepted

@@ -3,7 +3,7 @@ use mathlib.Core.Path.{_≡_, refl, sym, ap, ap₂, subst, _∙_}
 use mathlib.Core.Logic.{⊎-elim}
 use mathlib.Core.Bool.{Bool, true, false, not, _||_, cond}
 use mathlib.Core.List.{List, [], _∷_, _++_, reverse, reverse-cons}
-use Prim.Native.Nat.{ℕ, zero, suc, _+_, _-_, _*_, _/_, _%_, _≤_, _<_}
+use Prim.Native.Nat.{ℕ, suc, _+_, _-_, _*_, _/_, _%_, _≤_, _<_}
 use native.Mathlib.Omega.{arith}
 use native.Mathlib.Nat.{mul-le-mul}
 use native.Mathlib.Numerals.{add-one}
@@ -13,7 +13,7 @@ use Rattle.plank_core.specs.Lists.{foldl}
 use Rattle.plank_core.specs.laws.Lists.{split, refuted, none}
 use Rattle.plank_core.specs.DenseIndexSet.{contains}
 use Rattle.sir_data.specs.Records.{blocks, locals}
-use Rattle.sir_data.specs.WellFormed.{Sized, WellFormed}
+use Rattle.sir_data.specs.WellFormed.{WellFormed}
 use Rattle.sir_analyses.specs.Order.{blocksRpo}
 use Rattle.sir_analyses.specs.Liveness.{Set, has, sameSet, sameRows, rowOf, back, pass, noExits, settle, settled, rounds}
 use Rattle.sir_analyses.specs.Tables.{SameRows, More, grew, Shown, SentOn, Stepped}

@@ -1,26 +1,27 @@
 -- What one block sends: its entry set, parted by its inputs, and what of it arrives at the exits of its predecessors.
 -- Assumes nothing.
 use mathlib.Core.Path.{_≡_, refl, sym, ap, ap₂, subst, _∙_}
-use mathlib.Core.Logic.{_⊎_, inl, inr, ⊎-elim}
+use mathlib.Core.Logic.{⊎-elim}
 use mathlib.Core.Bool.{Bool, true, false, not, _&&_, _||_, cond, and-true, and-or-distrib-right}
-use mathlib.Core.List.{List, [], _∷_, _++_, map, append-nil, List·Memᴰ, List·Memᴰ·head, List·Memᴰ·tail, Memᴰ·cast, Memᴰ·map, Memᴰ·of-map}
-use Prim.Native.Nat.{ℕ, zero, suc, _+_, _*_, _≤_, _<_}
+use mathlib.Core.List.{List, [], _∷_, _++_, append-nil, List·Memᴰ·head, List·Memᴰ·tail, Memᴰ·cast, Memᴰ·map, Memᴰ·of-map}
+use Prim.Native.Nat.{ℕ, _+_, _*_, _≤_, _<_}
 use native.Mathlib.Omega.{arith}
 use native.Mathlib.Numerals.{add-one}
-use lib.ListN.{length, getD, set, take, replicate, length-replicate, length-set, List·getD-eq-default}
+use lib.ListN.{length, getD, set, take, replicate, length-set, List·getD-eq-default}
 use lib.Seq.{length-take-le, take-suc, take-suc-set, getD-take, take-all}
 use lib.Dec.{eqb}
-use borrow.Author.Tests.{eqb-true, eq-eqb}
+use borrow.Author.Tests.{eqb-true}
 use Rattle.plank_core.specs.Lists.{upto, keep, mem, distinct, _∈_}
-use Rattle.plank_core.specs.laws.Lists.{and-true-left, both-true, or-true-left, or-true-right, or-cases, bool-or, none, upto-mem, mem-upto, keep-mem, keep-out, mem-in, in-mem, mem-not, mem-snoc, mem-elem, mem-place, getD-mem, getD-elem, getD-any, distinct-places}
-use Rattle.plank_core.specs.laws.Loops.{upto-more, map-append, keep-append}
+use Rattle.plank_core.specs.laws.Lists.{and-true-left, both-true, or-true-left, or-true-right, or-cases, none, upto-mem, mem-upto, keep-mem, keep-out, mem-in, in-mem, mem-not, mem-snoc, mem-place, getD-mem, getD-elem, getD-any, distinct-places}
+use Rattle.plank_core.specs.laws.Loops.{upto-more, keep-append}
 use Rattle.plank_core.specs.DenseIndexSet.{contains, removed, rowOf, rowUnion, rowDifference}
 use Rattle.plank_core.specs.laws.DenseIndexSet.{contains-cleared, contains-row, contains-removed, length-removed, length-union, length-difference, set-union, set-difference}
-use Rattle.sir_data.specs.Records.{blocks, locals, inputs, outputs, successors}
+use Rattle.sir_data.specs.Records.{blocks, locals, inputs, outputs}
 use Rattle.sir_data.specs.WellFormed.{WellFormed}
 use Rattle.sir_analyses.specs.Order.{predecessors}
 use Rattle.sir_analyses.specs.Liveness.{indexOf, renamed}
 use Rattle.sir_analyses.specs.Tables.{EntryWords, Parted, outputsAt, arrives}
+use Rattle.sir_analyses.proofs.Tables.{taken-next}
 use Rattle.sir_analyses.proofs.Positions.{index-at, index-none}
 use Rattle.sir_analyses.proofs.OrderLaws.{free, free-nil, free-new}
 use Rattle.sir_analyses.proofs.OrderProof.{blocks-seen, blocks-below, predecessors-out}
@@ -222,13 +223,7 @@ module _ {w : List ℕ} (good : WellFormed w) where
           not-out true false e = refl
           not-out false t e = none false e refl
 
--- ---- a list taken one by one
-
-pub taken-next : (xs : List ℕ) (k : ℕ) → k < length xs → (x : ℕ) → (mem x (take k xs) || eqb x (getD xs k 0)) ≡ mem x (take (k + 1) xs)
-taken-next xs k h x = rw (add-one, take-suc xs k 0 h) (sym (mem-snoc x (getD xs k 0) (take k xs)))
-
-pub mapped-next : (f : ℕ → ℕ) (xs : List ℕ) (k : ℕ) → k < length xs → (x : ℕ) → (mem x (map f (take k xs)) || eqb x (f (getD xs k 0))) ≡ mem x (map f (take (k + 1) xs))
-mapped-next f xs k h x = rw (add-one, take-suc xs k 0 h, map-append) (sym (mem-snoc x (f (getD xs k 0)) (map f (take k xs))))
+-- ---- blocks taken one by one
 
 -- A holds of each of those taken, and of the next one
 pub and-taken : (xs : List ℕ) (k : ℕ) → k < length xs → (A : ℕ → Bool) (x : ℕ) → ((mem x (take k xs) && A x) || (eqb x (getD xs k 0) && A (getD xs k 0))) ≡ (mem x (take (k + 1) xs) && A x)

@@ -11,7 +11,7 @@ use lib.Seq.{take-append-seam}
 use lib.Dec.{eqb}
 use borrow.Author.Tests.{eqb-true, eqb-false}
 use Rattle.plank_core.specs.Lists.{upto, foldl, mem, _∈_}
-use Rattle.plank_core.specs.laws.Lists.{and-true-left, and-true-right, both-true, or-true-left, or-true-right, or-cases, bool-or, refuted, same-tests, none, split, mem-upto, keep-out, mem-in, in-mem, foldl-keeps}
+use Rattle.plank_core.specs.laws.Lists.{and-true-left, and-true-right, both-true, or-true-left, or-true-right, or-cases, refuted, same-tests, none, split, mem-upto, keep-out, mem-in, in-mem, foldl-keeps}
 use Rattle.plank_core.specs.DenseIndexSet.{contains, rowUnion, rowDifference, isEmpty}
 use Rattle.plank_core.specs.DenseIndexSet as Words
 use Rattle.plank_core.specs.laws.DenseIndexSet.{contains-row, set-difference, empty-none}
@@ -89,11 +89,10 @@ module _ {w : List ℕ} (good : WellFormed w) (b : ℕ) (l : b < blocks w) where
   shape : {exits : List ℕ} {e : List Set} → Shown w exits e → Shape (blocks w) (locals w) e
   shape s = record { tall = s .tall; wide = s .wide }
 
-  -- the words of the entry set show it
-  pub entry-shows : (ws : List ℕ) {uses defs exits : List ℕ} {e : List Set} → BlockRows w uses defs → EntryWords uses defs exits b ws → Shown w exits e → Same ws (entryFrom w b (rowOf e b))
-  entry-shows ws {e = e} rows words s v h =
-      let long : length (rowOf e b) ≡ locals w = s .wide b (omega (arith, s .tall)) in
-      words v h ∙ rw (rows .used b v l h, rows .defined b v l h, s .rows b v l h) (sym (gen-kill w b (rowOf e b) long v))
+  -- the words of the entry set show it, where row b of the exits shows x
+  pub entry-shows : (ws exits : List ℕ) (x : Set) {uses defs : List ℕ} → BlockRows w uses defs → EntryWords uses defs exits b ws → length x ≡ locals w
+      → ((v : ℕ) → v < 512 → contains exits (512 * b + v) ≡ has x v) → Same ws (entryFrom w b x)
+  entry-shows ws exits x rows words long row v h = words v h ∙ rw (rows .used b v l h, rows .defined b v l h, row v h) (sym (gen-kill w b x long v))
 
   -- what the definition sends to p
   abbrev names : List Set → ℕ → List ℕ
@@ -208,7 +207,7 @@ module _ {w : List ℕ} (good : WellFormed w) (b : ℕ) (l : b < blocks w) where
     stepped rows words wide add t = record {
       exits-long = put .long ∙ long;
       sent-long = add .long ∙ wide;
-      same = λ e s. step-shown s (entry-shows ent rows words s);
+      same = λ e s. step-shown s (entry-shows ent exits (rowOf e b) rows words (s .wide b (omega (arith, s .tall))) (λ v h. s .rows b v l h));
       sent-on = step-sent wide add;
       more = adds-more (blocks w) put (omega (arith, good .sized .blocks-most));
       tells = t;

@@ -1,15 +1,17 @@
 -- Laws of tables that show sets: rows filled one after the other, and members added step by step. Assumes nothing.
 use mathlib.Core.Path.{_≡_, refl, sym, ap, _∙_}
 use mathlib.Core.Bool.{Bool, true, false, _&&_, _||_, or-false, or-assoc, and-false, and-or-distrib-left}
-use mathlib.Core.List.{List, [], _∷_}
+use mathlib.Core.List.{List, [], _∷_, map}
 use Prim.Native.Nat.{ℕ, _+_, _*_, _≤_, _<_}
 use native.Mathlib.Omega.{arith}
 use native.Mathlib.Numerals.{add-one}
-use lib.ListN.{length, getD, drop, replicate, length-replicate, drop-of-length-le}
-use lib.Seq.{drop-cons}
+use lib.ListN.{length, getD, take, replicate, length-replicate}
+use lib.Seq.{take-suc, take-all}
 use lib.Dec.{eqb, ltb}
-use borrow.Author.Tests.{lt-ltb, le-ltb, eqb-true, eqb-false, eq-eqb, ne-eqb, ltb-true, ltb-false}
+use borrow.Author.Tests.{lt-ltb, le-ltb, eqb-true, eqb-false, eq-eqb, ltb-true, ltb-false}
 use Rattle.plank_core.specs.Lists.{mem}
+use Rattle.plank_core.specs.laws.Lists.{mem-snoc}
+use Rattle.plank_core.specs.laws.Loops.{map-append}
 use Rattle.plank_core.specs.DenseIndexSet.{contains, added, rowUnion}
 use Rattle.plank_core.specs.laws.DenseIndexSet.{contains-cleared, contains-row-added, contains-union, length-added, length-union}
 use Rattle.sir_analyses.specs.Tables.{Rows, Adds}
@@ -43,36 +45,13 @@ module _ {t : List ℕ} {p q : ℕ → ℕ → Bool} {t′ : List ℕ} where
         ∙ or-assoc (contains t (512 * r + i)) (p r i) (q r i);
   }
 
--- ---- a loop that adds: t with q still to be added is t₀ with p added
-
-pub record Adding (t₀ : List ℕ) (p : ℕ → ℕ → Bool) (t : List ℕ) (q : ℕ → ℕ → Bool) : Type 0 where
-  pub long : length t ≡ length t₀
-  pub same : (r i : ℕ) → 8 * r + 8 ≤ length t₀ → i < 512 → (contains t (512 * r + i) || q r i) ≡ (contains t₀ (512 * r + i) || p r i)
-
-pub adding-starts : {t : List ℕ} {p : ℕ → ℕ → Bool} → Adding t p t p
-adding-starts = record { long = refl; same = λ r i l k. refl }
-
-module _ {t₀ : List ℕ} {p : ℕ → ℕ → Bool} {t : List ℕ} {q : ℕ → ℕ → Bool} where
-  pub adding-more : {a : ℕ → ℕ → Bool} {t′ : List ℕ} {q′ : ℕ → ℕ → Bool} → Adding t₀ p t q → Adds t a t′ → ((r i : ℕ) → i < 512 → q r i ≡ (a r i || q′ r i)) → Adding t₀ p t′ q′
-  adding-more {a} {t′} {q′} g s e = record {
-    long = s .long ∙ g .long;
-    same = λ r i l k.
-        ap (λ (x : Bool). x || q′ r i) (s .same r i (omega (arith, g .long)) k)
-        ∙ or-assoc (contains t (512 * r + i)) (a r i) (q′ r i) ∙ ap (λ (x : Bool). contains t (512 * r + i) || x) (sym (e r i k)) ∙ g .same r i l k;
-  }
-
-  pub adding-ends : Adding t₀ p t q → ((r i : ℕ) → i < 512 → q r i ≡ false) → Adds t₀ p t
-  adding-ends g e = record {
-    long = g .long;
-    same = λ r i l k. sym (or-false (contains t (512 * r + i))) ∙ ap (λ (x : Bool). contains t (512 * r + i) || x) (sym (e r i k)) ∙ g .same r i l k;
-  }
+-- nothing to add
+pub adds-none : {t : List ℕ} {p : ℕ → ℕ → Bool} → ((r i : ℕ) → i < 512 → p r i ≡ false) → Adds t p t
+adds-none {t} e = record { long = refl; same = λ r i l k. sym (ap (λ (x : Bool). contains t (512 * r + i) || x) (e r i k) ∙ or-false (contains t (512 * r + i))) }
 
 -- a list of one, and of none
 pub adds-single : (t : List ℕ) (row i : ℕ) (xs : List ℕ) → xs ≡ i ∷ [] → i < 512 → Adds t (λ r n. eqb r row && mem n xs) (added t (512 * row + i))
 adds-single t row i xs e h = adds-as (λ r n l. ap (λ (x : Bool). eqb r row && x) (sym (or-false (eqb n i)) ∙ ap (mem n) (sym e))) (adds-one t row i h)
-
-pub adds-none : {t : List ℕ} {p : ℕ → ℕ → Bool} → ((r i : ℕ) → i < 512 → p r i ≡ false) → Adds t p t
-adds-none e = adding-ends adding-starts e
 
 pub adds-nothing : (t : List ℕ) (row : ℕ) (xs : List ℕ) → xs ≡ [] → Adds t (λ r n. eqb r row && mem n xs) t
 adds-nothing t row xs e = adds-none (λ r n l. ap (λ (ys : List ℕ). eqb r row && mem n ys) e ∙ and-false (eqb r row))
@@ -109,18 +88,17 @@ filled-not t n k f l g i h = g k i l h ∙ rw (le-ltb k k (omega arith))
 pub filled-ends : (t : List ℕ) (n k m : ℕ) (f : ℕ → ℕ → Bool) → m ≤ k → m ≤ n → Filled t n k f → Rows t m f
 filled-ends t n k m f h j g r i l b = g r i (omega arith) b ∙ rw (lt-ltb r k (omega arith))
 
--- ---- a loop over a list
+-- ---- a list taken one by one
 
--- the next of the list, and those behind it
-pub mem-next : (xs : List ℕ) (k : ℕ) → k < length xs → (x : ℕ) → mem x (drop k xs) ≡ (eqb x (getD xs k 0) || mem x (drop (k + 1) xs))
-mem-next xs k h x = rw (add-one, drop-cons xs k 0 h)
+pub taken-next : (xs : List ℕ) (k : ℕ) → k < length xs → (x : ℕ) → (mem x (take k xs) || eqb x (getD xs k 0)) ≡ mem x (take (k + 1) xs)
+taken-next xs k h x = rw (add-one, take-suc xs k 0 h) (sym (mem-snoc x (getD xs k 0) (take k xs)))
 
-pub mem-end : (xs : List ℕ) (k : ℕ) → length xs ≤ k → (x : ℕ) → mem x (drop k xs) ≡ false
-mem-end xs k h x = ap (mem x) (drop-of-length-le xs {i = k} h)
+pub mapped-next : (f : ℕ → ℕ) (xs : List ℕ) (k : ℕ) → k < length xs → (x : ℕ) → (mem x (map f (take k xs)) || eqb x (f (getD xs k 0))) ≡ mem x (map f (take (k + 1) xs))
+mapped-next f xs k h x = rw (add-one, take-suc xs k 0 h, map-append) (sym (mem-snoc x (f (getD xs k 0)) (map f (take k xs))))
 
--- where each of the list, in turn, is taken together with a test
-pub and-next : (a : Bool) (xs : List ℕ) (k : ℕ) → k < length xs → (x : ℕ) → (a && mem x (drop k xs)) ≡ ((a && eqb x (getD xs k 0)) || (a && mem x (drop (k + 1) xs)))
-and-next a xs k h x = ap (λ (t : Bool). a && t) (mem-next xs k h x) ∙ and-or-distrib-left a (eqb x (getD xs k 0)) (mem x (drop (k + 1) xs))
+-- each together with a test
+pub and-next : (a : Bool) (xs : List ℕ) (k : ℕ) → k < length xs → (x : ℕ) → ((a && mem x (take k xs)) || (a && eqb x (getD xs k 0))) ≡ (a && mem x (take (k + 1) xs))
+and-next a xs k h x = sym (and-or-distrib-left a (mem x (take k xs)) (eqb x (getD xs k 0))) ∙ ap (λ (t : Bool). a && t) (taken-next xs k h x)
 
-pub and-end : (a : Bool) (xs : List ℕ) (k : ℕ) → length xs ≤ k → (x : ℕ) → (a && mem x (drop k xs)) ≡ false
-and-end a xs k h x = ap (λ (t : Bool). a && t) (mem-end xs k h x) ∙ and-false a
+pub and-all : (a : Bool) (xs : List ℕ) (k : ℕ) → length xs ≤ k → (x : ℕ) → (a && mem x (take k xs)) ≡ (a && mem x xs)
+and-all a xs k h x = ap (λ (ys : List ℕ). a && mem x ys) (take-all k xs h)

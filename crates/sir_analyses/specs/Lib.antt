@@ -8,6 +8,7 @@ pub mod Allocation
 pub mod Bases
 pub mod Answers
 pub mod Loading
+pub mod Scanning
 pub mod Claims
 pub mod Walk
 pub mod Examples

@@ -2,14 +2,14 @@
 -- Assumes nothing.
 use mathlib.Core.Path.{_≡_}
 use mathlib.Core.Bool.{Bool, true, not, _&&_, _||_}
-use mathlib.Core.List.{List, map}
+use mathlib.Core.List.{List, _++_, map}
 use Prim.Native.Nat.{ℕ, _+_, _*_, _≤_, _<_}
 use lib.ListN.{length, getD}
 use Rattle.plank_core.specs.Lists.{upto, any, keep, mem, _∈_}
 use Rattle.plank_core.specs.DenseIndexSet.{contains}
-use Rattle.sir_data.specs.Records.{blocks, operations, locals, inputs, outputs, ins, outs}
+use Rattle.sir_data.specs.Records.{blocks, operations, locals, inputs, outputs, condition, returned, ins, outs}
 use Rattle.sir_analyses.specs.Order.{isVisited, predecessors}
-use Rattle.sir_analyses.specs.Liveness.{Set, has, rowOf, useSet, defSet, renamed}
+use Rattle.sir_analyses.specs.Liveness.{Set, has, rowOf, useSet, defSet, renamed, settled}
 
 -- words that show a set
 abbrev pub Same : List ℕ → Set → Type 0
@@ -42,6 +42,14 @@ pub record OperandRows (w reads writes : List ℕ) : Type 0 where
   pub writes-long : length writes ≡ 8192
   pub read : Rows reads (operations w) (λ o v. mem v (ins w o))
   pub written : Rows writes (operations w) (λ o v. mem v (outs w o))
+
+-- what is read behind a block's operations: its condition, and what it returns
+abbrev pub endReads : List ℕ → ℕ → List ℕ
+endReads w b = condition w b ++ returned w b
+
+pub record EndRows (w ends : List ℕ) : Type 0 where
+  pub ends-long : length ends ≡ 2048
+  pub ended : Rows ends (blocks w) (λ b v. mem v (endReads w b))
 
 -- the use and def sets of each block
 pub record BlockRows (w uses defs : List ℕ) : Type 0 where
@@ -101,3 +109,9 @@ pub record Stepped (w : List ℕ) (step : List Set → List Set) (exits exits′
   pub sent-on : SentOn w exits′ sent′
   pub more : More (blocks w) exits exits′
   pub tells : told ≡ grew (blocks w) exits exits′
+
+-- the use, def and exit sets of each block
+pub record LiveRows (w uses defs exits : List ℕ) : Type 0 where
+  pub block-rows : BlockRows w uses defs
+  pub exits-long : length exits ≡ 2048
+  pub exit-rows : SameRows exits (settled w .1) (blocks w)

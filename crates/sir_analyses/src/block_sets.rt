@@ -27,7 +27,7 @@ ghost use Rattle.plank_core.specs.DenseIndexSet.{contains};
 ghost use Rattle.sir_data.specs.Records.{blocks, successors, condition};
 ghost use Rattle.sir_data.specs.WellFormed.{WellFormed};
 ghost use Rattle.sir_analyses.specs.Liveness.{has, useSet, defSet};
-ghost use Rattle.sir_analyses.specs.Tables.{Adds, OperandRows, BlockRows, BlocksSeen, PredecessorRows};
+ghost use Rattle.sir_analyses.specs.Tables.{Adds, endReads, EndRows, OperandRows, BlockRows, BlocksSeen, PredecessorRows};
 
 // Adds the locals of a run to a row.
 fn add_run(table: &mut [u64], row: usize, run: &[u32])
@@ -69,7 +69,31 @@ fn add_condition(words: &[u32], b: BlockId, uses: &mut [u64])
     row_add(uses, b.0 as usize, v.0);
 }
 
-// The use and def sets of one block, to rows that are empty: its condition and what it returns, then its operations backwards.
+// Adds what is read behind the operations of block b, its condition and what it returns, to row b.
+fn add_end(words: &[u32], b: BlockId, table: &mut [u64])
+    requires { ⌜ WellFormed (now words) ⌝ }
+    requires { ⌜ (b .0 < blocks (now words)) × (length (now table) ≡ 2048) ⌝ }
+    ensures { λ _. ⌜ Adds (now (table .entry)) (λ r v. eqb r (b .0) && mem v (endReads (now (words .entry)) (b .0))) (now (table .exit)) ⌝ }
+{
+    add_condition(words, b, table);
+    add_run(table, b.0 as usize, returned_outputs(words, b));
+}
+
+// What is read behind the operations of each block.
+pub fn end_sets(words: &[u32], ends: &mut [u64])
+    requires { ⌜ WellFormed (now words) ⌝ }
+    requires { ⌜ now ends ≡ replicate 2048 0 ⌝ }
+    ensures { λ _. ⌜ EndRows (now (words .entry)) (now (ends .exit)) ⌝ }
+{
+    let count = block_count(words);
+    let mut b: u32 = 0;
+    while b < count {
+        add_end(words, BlockId(b), ends);
+        b += 1;
+    }
+}
+
+// The use and def sets of one block, to rows that are empty: what is read behind its operations, then these backwards.
 fn block_rows(
     words: &[u32],
     b: BlockId,
@@ -86,8 +110,7 @@ fn block_rows(
     ensures { λ _. ⌜ Adds (now (defs .entry)) (λ r v. eqb r (b .0) && has (defSet (now (words .entry)) (b .0)) v) (now (defs .exit)) ⌝ }
 {
     let row = b.0 as usize;
-    add_condition(words, b, uses);
-    add_run(uses, row, returned_outputs(words, b));
+    add_end(words, b, uses);
     let span = block_operations(words, b);
     let first = span.start as usize;
     let mut o = span.end as usize;

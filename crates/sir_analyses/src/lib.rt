@@ -4,6 +4,7 @@ pub mod answers;
 pub mod block_sets;
 pub mod def_use;
 pub mod loading;
+pub mod local_intervals;
 pub mod local_liveness;
 pub mod predecessors;
 pub mod questions;

@@ -1,4 +1,6 @@
 // Live locals at the entry and exit of each block, as `LocalLiveness` of the source has them, over lent tables of sets.
+use crate::block_sets::block_sets;
+use crate::block_sets::predecessor_sets;
 use plank_core::dense_index_set::DenseIndexSet;
 use plank_core::dense_index_set::is_empty;
 use plank_core::dense_index_set::list;
@@ -16,12 +18,12 @@ ghost use Prim.Native.Nat.{ℕ, _+_, _*_, _≤_, _<_};
 ghost use lib.ListN.{length, take, replicate};
 ghost use lib.Dec.{eqb};
 ghost use Rattle.plank_core.specs.Lists.{mem, _∈_};
-ghost use Rattle.plank_core.specs.DenseIndexSet.{contains};
 ghost use Rattle.sir_data.specs.Records.{blocks, outputs};
 ghost use Rattle.sir_data.specs.WellFormed.{WellFormed};
 ghost use Rattle.sir_analyses.specs.Order.{blocksRpo};
 ghost use Rattle.sir_analyses.specs.Liveness.{back, pass, rounds, settled};
-ghost use Rattle.sir_analyses.specs.Tables.{SameRows, BlockRows, PredecessorRows, EntryWords, Parted, outputsAt, arrives, Sends, SentOn, Stepped};
+ghost use Rattle.sir_analyses.specs.Visiting.{SeenBlocks};
+ghost use Rattle.sir_analyses.specs.Tables.{SameRows, OperandRows, BlockRows, PredecessorRows, EntryWords, Parted, outputsAt, arrives, Sends, SentOn, Stepped, LiveRows};
 
 // A block's entry set from its exit set: use ∪ (exit − def).
 pub fn entry(uses: &[u64], defs: &[u64], exits: &[u64], b: BlockId) -> DenseIndexSet
@@ -191,4 +193,27 @@ pub fn liveness(
             return done;
         }
     }
+}
+
+// The use, def and exit sets of the blocks, to tables that are empty at first, and the number of passes.
+pub fn live_sets(
+    words: &[u32],
+    seen: &[u64],
+    rpo: &[u32],
+    reads: &[u64],
+    writes: &[u64],
+    uses: &mut [u64],
+    defs: &mut [u64],
+    exits: &mut [u64],
+) -> u32
+    requires { ⌜ WellFormed (now words) ⌝ }
+    requires { ⌜ SeenBlocks (now words) (now seen) × (now rpo ≡ blocksRpo (now words)) ⌝ }
+    requires { ⌜ OperandRows (now words) (now reads) (now writes) ⌝ }
+    requires { ⌜ (now uses ≡ replicate 2048 0) × (now defs ≡ replicate 2048 0) × (now exits ≡ replicate 2048 0) ⌝ }
+    ensures { λ r. ⌜ (r ≡ rounds (now (words .entry))) × LiveRows (now (words .entry)) (now (uses .exit)) (now (defs .exit)) (now (exits .exit)) ⌝ }
+{
+    block_sets(words, reads, writes, uses, defs);
+    let mut preds = [0u64; 2048];
+    predecessor_sets(words, seen, &mut preds);
+    liveness(words, rpo, uses, defs, &preds, exits)
 }

@@ -1,12 +1,18 @@
 // The questions that can be put to an image. Each gives its number and the answer's length, and leaves the answer in `out`;
 // refused, it leaves `out` as it was.
 use crate::answers::put_words;
+use crate::block_sets::operand_sets;
 use crate::def_use::input_counts;
 use crate::def_use::put_uses;
 use crate::loading::load;
+use crate::local_liveness::entry;
+use crate::local_liveness::live_sets;
 use crate::predecessors::put_predecessors;
 use crate::reverse_post_order::order_words;
+use plank_core::dense_index_set::list;
 use plank_core::index::BlockId;
+use plank_core::rows::row_contains;
+use plank_core::rows::row_of;
 use sir_data::records::block_count;
 use sir_data::records::local_count;
 ghost use mathlib.Core.Path.{_≡_};
@@ -15,10 +21,10 @@ ghost use lib.ListN.{length};
 ghost use Rattle.plank_core.specs.Lists.{bind};
 ghost use Rattle.sir_data.specs.Pages.{payload, bytesOf};
 ghost use Rattle.sir_data.specs.Records.{blocks, locals};
-ghost use Rattle.sir_analyses.specs.Answers.{refusal, orderAnswer, predecessorsAnswer, usesAnswer, made, answered, outcome};
+ghost use Rattle.sir_analyses.specs.Answers.{refusal, orderAnswer, predecessorsAnswer, usesAnswer, entryAnswer, exitAnswer, roundsAnswer, made, answered, outcome};
 ghost use Rattle.sir_data.specs.WellFormed.{WellFormed};
 ghost use Rattle.sir_analyses.specs.Order.{blocksRpo};
-ghost use Rattle.sir_analyses.specs.Claims.{OrderRule};
+ghost use Rattle.sir_analyses.specs.Claims.{OrderRule, LivenessRule};
 ghost use Rattle.sir_analyses.specs.Visiting.{SeenBlocks};
 
 #[repr(C)]
@@ -147,4 +153,150 @@ pub extern "C" fn sir_uses(image: &[u8], local: u32, out: &mut [u8]) -> Answer
     }
     let blocks = sizes.blocks;
     uses_answer(&words[..n], &rpo[..blocks], local, out)
+}
+
+fn exit_answer(words: &[u32], seen: &[u64], rpo: &[u32], block: u32, out: &mut [u8]) -> Answer
+    requires { ⌜ WellFormed (now words) ⌝ }
+    requires { ⌜ SeenBlocks (now words) (now seen) × (now rpo ≡ blocksRpo (now words)) ⌝ }
+    requires { ⌜ block < blocks (now words) ⌝ }
+    ensures { λ r. ⌜ made (r .number) (r .length) (now (out .exit)) ≡ answered (bind (exitAnswer (now (words .entry)) block) bytesOf) (now (out .entry)) ⌝ }
+{
+    let mut reads = [0u64; 8192];
+    let mut writes = [0u64; 8192];
+    operand_sets(words, &mut reads, &mut writes);
+    let mut uses = [0u64; 2048];
+    let mut defs = [0u64; 2048];
+    let mut exits = [0u64; 2048];
+    live_sets(
+        words,
+        seen,
+        rpo,
+        &reads,
+        &writes,
+        &mut uses,
+        &mut defs,
+        &mut exits,
+    );
+    let mut ids = [0u32; 512];
+    let n = list(row_of(&exits, block as usize), &mut ids);
+    words_answer(&ids[..n], out)
+}
+
+#[no_mangle]
+pub extern "C" fn sir_exit_set(image: &[u8], block: u32, out: &mut [u8]) -> Answer
+    ensures { λ r. ⌜ made (r .number) (r .length) (now (out .exit)) ≡ outcome blocks exitAnswer (now (image .entry)) block (now (out .entry)) ⌝ }
+    ensures { λ r. ⌜ (refusal (now (image .entry)) ≡ 0 → LivenessRule (payload (now (image .entry)))) ⌝ }
+{
+    let mut words = [0u32; 14742];
+    let mut seen = [0u64; 16];
+    let mut post = [0u32; 320];
+    let mut rpo = [0u32; 256];
+    let sizes = load(image, &mut words, &mut seen, &mut post, &mut rpo);
+    let number = sizes.number;
+    if number != 0 {
+        return refuse(number);
+    }
+    let n = sizes.words;
+    if block >= block_count(&words[..n]) {
+        return refuse(13);
+    }
+    let blocks = sizes.blocks;
+    exit_answer(&words[..n], &seen, &rpo[..blocks], block, out)
+}
+
+// A block that was not visited has no entry set.
+fn entry_answer(words: &[u32], seen: &[u64], rpo: &[u32], block: u32, out: &mut [u8]) -> Answer
+    requires { ⌜ WellFormed (now words) ⌝ }
+    requires { ⌜ SeenBlocks (now words) (now seen) × (now rpo ≡ blocksRpo (now words)) ⌝ }
+    requires { ⌜ block < blocks (now words) ⌝ }
+    ensures { λ r. ⌜ made (r .number) (r .length) (now (out .exit)) ≡ answered (bind (entryAnswer (now (words .entry)) block) bytesOf) (now (out .entry)) ⌝ }
+{
+    let mut ids = [0u32; 512];
+    if !row_contains(seen, 1, block) {
+        return words_answer(&ids[..0], out);
+    }
+    let mut reads = [0u64; 8192];
+    let mut writes = [0u64; 8192];
+    operand_sets(words, &mut reads, &mut writes);
+    let mut uses = [0u64; 2048];
+    let mut defs = [0u64; 2048];
+    let mut exits = [0u64; 2048];
+    live_sets(
+        words,
+        seen,
+        rpo,
+        &reads,
+        &writes,
+        &mut uses,
+        &mut defs,
+        &mut exits,
+    );
+    let set = entry(&uses, &defs, &exits, BlockId(block));
+    let n = list(&set.words, &mut ids);
+    words_answer(&ids[..n], out)
+}
+
+#[no_mangle]
+pub extern "C" fn sir_entry_set(image: &[u8], block: u32, out: &mut [u8]) -> Answer
+    ensures { λ r. ⌜ made (r .number) (r .length) (now (out .exit)) ≡ outcome blocks entryAnswer (now (image .entry)) block (now (out .entry)) ⌝ }
+    ensures { λ r. ⌜ (refusal (now (image .entry)) ≡ 0 → LivenessRule (payload (now (image .entry)))) ⌝ }
+{
+    let mut words = [0u32; 14742];
+    let mut seen = [0u64; 16];
+    let mut post = [0u32; 320];
+    let mut rpo = [0u32; 256];
+    let sizes = load(image, &mut words, &mut seen, &mut post, &mut rpo);
+    let number = sizes.number;
+    if number != 0 {
+        return refuse(number);
+    }
+    let n = sizes.words;
+    if block >= block_count(&words[..n]) {
+        return refuse(13);
+    }
+    let blocks = sizes.blocks;
+    entry_answer(&words[..n], &seen, &rpo[..blocks], block, out)
+}
+
+fn rounds_answer(words: &[u32], seen: &[u64], rpo: &[u32], out: &mut [u8]) -> Answer
+    requires { ⌜ WellFormed (now words) ⌝ }
+    requires { ⌜ SeenBlocks (now words) (now seen) × (now rpo ≡ blocksRpo (now words)) ⌝ }
+    ensures { λ r. ⌜ made (r .number) (r .length) (now (out .exit)) ≡ answered (bind (roundsAnswer (now (words .entry))) bytesOf) (now (out .entry)) ⌝ }
+{
+    let mut reads = [0u64; 8192];
+    let mut writes = [0u64; 8192];
+    operand_sets(words, &mut reads, &mut writes);
+    let mut uses = [0u64; 2048];
+    let mut defs = [0u64; 2048];
+    let mut exits = [0u64; 2048];
+    let done = live_sets(
+        words,
+        seen,
+        rpo,
+        &reads,
+        &writes,
+        &mut uses,
+        &mut defs,
+        &mut exits,
+    );
+    words_answer(&[done], out)
+}
+
+#[no_mangle]
+pub extern "C" fn sir_rounds(image: &[u8], out: &mut [u8]) -> Answer
+    ensures { λ r. ⌜ made (r .number) (r .length) (now (out .exit)) ≡ outcome (λ w. 1) (λ w i. roundsAnswer w) (now (image .entry)) 0 (now (out .entry)) ⌝ }
+    ensures { λ r. ⌜ (refusal (now (image .entry)) ≡ 0 → LivenessRule (payload (now (image .entry)))) ⌝ }
+{
+    let mut words = [0u32; 14742];
+    let mut seen = [0u64; 16];
+    let mut post = [0u32; 320];
+    let mut rpo = [0u32; 256];
+    let sizes = load(image, &mut words, &mut seen, &mut post, &mut rpo);
+    let number = sizes.number;
+    if number != 0 {
+        return refuse(number);
+    }
+    let n = sizes.words;
+    let blocks = sizes.blocks;
+    rounds_answer(&words[..n], &seen, &rpo[..blocks], out)
 }

@@ -1,25 +1,24 @@
--- `add_run` meets its contract. The invariant: with the rest of the run added, the row is as it will be.
-use mathlib.Core.Path.{_≡_}
-use mathlib.Core.Bool.{_&&_}
-use Prim.Native.Nat.{_+_, _-_, _*_, _≤_, _<_}
-use lib.ListN.{length, getD, drop}
+-- `add_run` meets its contract. The invariant: the first k of the run are added.
+use mathlib.Core.Bool.{_&&_, and-false}
+use Prim.Native.Nat.{_-_, _≤_, _<_}
+use lib.ListN.{length, getD, take}
 use lib.Dec.{eqb}
 use Rattle.plank_core.specs.Lists.{mem}
 use Rattle.plank_core.specs.laws.Lists.{getD-mem}
 use Rattle.sir_analyses.specs.Tables.{Adds}
-use Rattle.sir_analyses.proofs.Tables.{Adding, adding-starts, adding-more, adding-ends, adds-one, and-next, and-end}
+use Rattle.sir_analyses.proofs.Tables.{adds-as, adds-then, adds-none, adds-one, and-next, and-all}
 use native.Mathlib.Omega.{arith}
 use Rattle.sir_analyses.proofs.block_sets.add_run.Statement.{statement}
 use Rattle.sir_analyses.proofs.block_sets.add_run.Tie as tie
 
 abbrev Inv-loop : tie.InvT-loop
-Inv-loop table₀ row run k₀ table k = (k ≤ length run) × Adding table₀ (λ r i. eqb r row && mem i run) table (λ r i. eqb r row && mem i (drop k run))
+Inv-loop table₀ row run k₀ table k = (k ≤ length run) × Adds table₀ (λ r i. eqb r row && mem i (take k run)) table
 
 abbrev μ-loop : tie.MeasureT-loop
 μ-loop table₀ row run k₀ table k = length run - k
 
 loop-holds : tie.Need-loop-holds Inv-loop μ-loop
-loop-holds c = (omega arith, adding-starts)
+loop-holds c = (omega arith, adds-none (λ r i h. and-false (eqb r (c .before .before .args .row))))
 
 mul-row-add : tie.Need-mul-row-add Inv-loop μ-loop
 mul-row-add c = omega arith
@@ -46,7 +45,7 @@ loop-again c = let s = c .before .before .before .before .before .before .before
     let v = getD (s .args .run .now) (l .k) 0 in
     let a : Adds (l .table) (λ r n. eqb r (s .args .row) && eqb n v) (c .before .before .row-add .last .0) =
     rw (c .before .before .row-add .ensures .1) (adds-one (l .table) (s .args .row) v (s .pre .1 v (getD-mem (s .args .run .now) (l .k) 0 i))) in
-    (omega arith, adding-more (l .inv .1) a (λ r n h. and-next (eqb r (s .args .row)) (s .args .run .now) (l .k) i n))
+    (omega arith, adds-as (λ r n h. and-next (eqb r (s .args .row)) (s .args .run .now) (l .k) i n) (adds-then (l .inv .1) a))
 
 same-length : tie.Need-same-length Inv-loop μ-loop
 same-length c = c .before .loop .inv .1 .long
@@ -55,7 +54,7 @@ returns : tie.Need-returns Inv-loop μ-loop
 returns c = let s = c .before .before .before .before in
     let l = c .before .loop in
     let e : length (s .args .run .now) ≤ l .k = omega arith in
-    adding-ends (l .inv .1) (λ r n h. and-end (eqb r (s .args .row)) (s .args .run .now) (l .k) e n)
+    adds-as (λ r n h. and-all (eqb r (s .args .row)) (s .args .run .now) (l .k) e n) (l .inv .1)
 
 pub add-run-spec : {M : Type 1} → statement M
 add-run-spec =

@@ -1,6 +1,6 @@
 -- `block_sets` meets its contract. The invariant: the rows of the first b blocks are filled.
 use mathlib.Core.Path.{_≡_}
-use Prim.Native.Nat.{_+_, _-_, _*_, _≤_, _<_}
+use Prim.Native.Nat.{_-_, _≤_, _<_}
 use lib.ListN.{length}
 use Rattle.sir_data.specs.Records.{blocks}
 use Rattle.sir_analyses.specs.Liveness.{has, useSet, defSet}

@@ -1,12 +1,9 @@
 -- `operand_sets` meets its contract. The invariant: the rows of the first o operations are filled.
 use mathlib.Core.Path.{_≡_}
-use mathlib.Core.Bool.{_&&_}
-use Prim.Native.Nat.{_+_, _-_, _*_, _≤_, _<_}
-use lib.ListN.{length, getD, drop}
-use lib.Dec.{eqb}
-use Rattle.plank_core.specs.Lists.{mem, _∈_}
+use Prim.Native.Nat.{_-_, _≤_, _<_}
+use lib.ListN.{length}
+use Rattle.plank_core.specs.Lists.{mem}
 use Rattle.sir_data.specs.Records.{operations, ins, outs}
-use Rattle.sir_analyses.specs.Tables.{Adds}
 use Rattle.sir_analyses.proofs.Tables.{Filled, filled-starts, filled-more, filled-ends, cleared-long}
 use Rattle.sir_analyses.proofs.BlockSets.{small}
 use borrow.Author.Needs.{needs}

@@ -1,13 +1,12 @@
 -- `predecessor_sets` meets its contract. The invariant: the visited ones among the blocks below p stand in the rows of their successors.
-use mathlib.Core.Path.{_≡_, refl, sym, ap, _∙_}
+use mathlib.Core.Path.{_≡_, sym, ap, _∙_}
 use mathlib.Core.Logic.{⊎-elim}
-use mathlib.Core.Bool.{Bool, true, false, _&&_, _||_, and-false}
-use Prim.Native.Nat.{ℕ, _+_, _-_, _*_, _≤_, _<_}
+use mathlib.Core.Bool.{Bool, _&&_, _||_, and-false}
+use Prim.Native.Nat.{ℕ, _-_, _≤_, _<_}
 use lib.ListN.{length}
 use lib.Dec.{eqb, ltb}
 use borrow.Author.Tests.{le-ltb}
 use Rattle.plank_core.specs.Lists.{mem}
-use Rattle.plank_core.specs.DenseIndexSet.{contains}
 use Rattle.sir_data.specs.Records.{blocks, successors}
 use Rattle.sir_analyses.specs.Order.{isVisited}
 use Rattle.sir_analyses.specs.Tables.{Rows, Adds}

@@ -1,5 +1,5 @@
 -- `entry` meets its contract.
-use mathlib.Core.Path.{_≡_, ap, _∙_}
+use mathlib.Core.Path.{ap, _∙_}
 use lib.ListN.{length}
 use Rattle.plank_core.specs.laws.DenseIndexSet.{length-row}
 use Rattle.sir_analyses.proofs.Sending.{entry-words}

@@ -1,5 +1,5 @@
 -- `liveness` meets its contract. The invariant: so many passes are done, and the definition goes on from the sets that the exits show.
-use mathlib.Core.Path.{_≡_, refl}
+use mathlib.Core.Path.{refl}
 use Prim.Native.Nat.{_+_, _-_, _*_}
 use borrow.Author.Tests.{not-true, not-false}
 use Rattle.sir_data.specs.Records.{blocks, locals}

@@ -1,7 +1,7 @@
 -- `part_inputs` meets its contract. The invariant: the first i inputs are gone from the set, and the positions of those that it had are found.
 use mathlib.Core.Path.{_≡_, sym, _∙_}
 use mathlib.Core.Logic.{⊎-elim}
-use Prim.Native.Nat.{_+_, _-_, _*_, _≤_, _<_}
+use Prim.Native.Nat.{_-_, _<_}
 use native.Mathlib.Nat.{zero-add}
 use lib.ListN.{length, getD}
 use Rattle.plank_core.specs.DenseIndexSet.{contains, removed}

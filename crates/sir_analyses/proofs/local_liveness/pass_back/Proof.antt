@@ -1,7 +1,7 @@
 -- `pass_back` meets its contract. The invariant: the blocks from place k of the order on are done.
-use mathlib.Core.Path.{_≡_, refl, subst}
+use mathlib.Core.Path.{refl, subst}
 use mathlib.Core.List.{List}
-use Prim.Native.Nat.{ℕ, _-_, _≤_, _<_}
+use Prim.Native.Nat.{ℕ, _-_, _≤_}
 use lib.ListN.{length, getD}
 use Rattle.plank_core.specs.Lists.{_∈_}
 use Rattle.plank_core.specs.laws.Lists.{getD-mem}

@@ -3,7 +3,7 @@ use mathlib.Core.Path.{_≡_, sym, ap, _∙_}
 use mathlib.Core.Logic.{⊎-elim}
 use mathlib.Core.Bool.{Bool, _&&_, _||_, and-false, and-or-distrib-left}
 use mathlib.Core.List.{List, map}
-use Prim.Native.Nat.{ℕ, _+_, _-_, _*_, _≤_, _<_}
+use Prim.Native.Nat.{ℕ, _-_, _*_, _≤_, _<_}
 use lib.ListN.{length, getD, take}
 use lib.Seq.{take-all}
 use lib.Dec.{eqb}
@@ -12,7 +12,8 @@ use Rattle.plank_core.specs.laws.Lists.{getD-mem}
 use Rattle.sir_data.specs.Records.{blocks}
 use Rattle.sir_analyses.specs.Tables.{Sends}
 use Rattle.sir_analyses.proofs.Growth.{sends-as, sends-then, sends-none, sends-one, told-set, told-kept}
-use Rattle.sir_analyses.proofs.Sending.{mapped-next, output-small}
+use Rattle.sir_analyses.proofs.Tables.{mapped-next}
+use Rattle.sir_analyses.proofs.Sending.{output-small}
 use borrow.Author.Needs.{needs}
 use native.Mathlib.Omega.{arith}
 use Rattle.sir_analyses.proofs.local_liveness.send_moved.Statement.{statement}

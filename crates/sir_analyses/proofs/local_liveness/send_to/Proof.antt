@@ -1,5 +1,5 @@
 -- `send_to` meets its contract.
-use mathlib.Core.Path.{_≡_, refl, sym}
+use mathlib.Core.Path.{refl, sym}
 use mathlib.Core.Bool.{and-or-distrib-left}
 use Prim.Native.Nat.{ℕ, _*_, _≤_}
 use lib.ListN.{length}

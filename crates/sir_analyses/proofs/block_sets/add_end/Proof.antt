@@ -1,0 +1,40 @@
+-- `add_end` meets its contract.
+use Rattle.sir_analyses.proofs.BlockSets.{small, returned-below, ends-both}
+use native.Mathlib.Omega.{arith}
+use borrow.Author.Needs.{needs}
+use Rattle.sir_analyses.proofs.block_sets.add_end.Statement.{statement}
+use Rattle.sir_analyses.proofs.block_sets.add_end.Tie as tie
+
+add-condition-requires : tie.Need-add-condition-requires
+add-condition-requires c κs = search needs
+
+cast-add-run : tie.Need-cast-add-run
+cast-add-run c = search needs
+
+returned-outputs-requires : tie.Need-returned-outputs-requires
+returned-outputs-requires c κs = search needs
+
+add-run-requires : tie.Need-add-run-requires
+add-run-requires c κs = let s = c .before .before .before .before .before .before .before .before .before in
+    let b = s .args .b .0 in (
+      omega (arith, c .before .before .before .before .before .add-condition .ensures .long, s .pre .1, s .pre .0 .sized .blocks-most),
+      λ v m. small (s .pre .0) (returned-below (s .pre .0) b v (s .pre .1 .0) (rw (c .returned-outputs .ensures) at m)),
+    )
+
+same-length : tie.Need-same-length
+same-length c = search needs
+
+returns : tie.Need-returns
+returns c = let s = c .before .before .before .before .before .before .before .before .before .before .before .before in
+    ends-both (s .args .words .now) (s .args .b .0) (c .before .before .before .before .before .before .before .before .add-condition .ensures) (rw (c .before .before .before .returned-outputs .ensures) at (c .before .before .add-run .ensures))
+
+pub add-end-spec : {M : Type 1} → statement M
+add-end-spec =
+    tie.close
+    (tie.spec
+    add-condition-requires
+    cast-add-run
+    returned-outputs-requires
+    add-run-requires
+    same-length
+    returns)

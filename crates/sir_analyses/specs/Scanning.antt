@@ -1,0 +1,28 @@
+-- The intervals of one local in one block, step by step. An end of 0 is none. Assumes nothing.
+use mathlib.Core.Bool.{Bool, _&&_, cond}
+use mathlib.Core.List.{List, [], _∷_, foldr}
+use Prim.Native.Nat.{ℕ}
+use lib.Dec.{eqb}
+use Rattle.sir_data.specs.Records.{ops}
+use Rattle.sir_analyses.specs.Liveness.{blockEnd, Interval, close, scanOp}
+use Rattle.sir_analyses.specs.Answers.{intervalWords}
+
+-- the open end before an operation whose own end is `here`, by whether it gives the local and whether it reads it
+abbrev pub openBefore : Bool → Bool → ℕ → ℕ → ℕ
+openBefore given read here till = let left = cond given 0 till in cond (read && eqb left 0) here left
+
+-- the end of the interval that the operation closes
+abbrev pub closedBy : Bool → ℕ → ℕ
+closedBy given till = cond given till 0
+
+-- an interval that is closed, if one is
+abbrev pub closing : ℕ → ℕ → ℕ → List Interval
+closing b from to = cond (eqb to 0) [] (record { block = b; from = from; to = to } ∷ [])
+
+-- the end that is open behind a block's operations
+abbrev pub endOpen : Bool → ℕ
+endOpen live = cond live blockEnd 0
+
+-- the words of a block's intervals, from the end that is open behind its operations
+abbrev pub scanWords : List ℕ → ℕ → ℕ → ℕ → List ℕ
+scanWords w b v end = intervalWords (close b 0 (foldr (scanOp w b v) (record { open′ = end; closed = [] }) (ops w b)) .closed)
