@@ -1,20 +1,22 @@
 -- What the questions read off the tables: the members of exit and entry sets, and the intervals of a local. Assumes nothing.
 use mathlib.Core.Path.{_≡_, refl, sym, ap, ap₂, _∙_}
-use mathlib.Core.Bool.{Bool, false, _||_, cond}
+use mathlib.Core.Bool.{Bool, true, false, _||_, cond}
 use mathlib.Core.List.{List, [], _∷_, _++_, append-nil}
 use Prim.Native.Nat.{ℕ, zero, suc, _+_, _-_, _*_, _≤_, _<_}
 use native.Mathlib.Omega.{arith}
-use lib.ListN.{length}
+use lib.ListN.{length, take, drop, replicate}
+use lib.Seq.{take-at}
 use Rattle.plank_core.specs.Lists.{count, upto, keep}
 use Rattle.plank_core.specs.laws.Loops.{count-add, keep-append}
 use Rattle.plank_core.specs.DenseIndexSet.{contains}
 use Rattle.plank_core.specs.DenseIndexSet as Words
-use Rattle.plank_core.specs.laws.DenseIndexSet.{contains-row}
+use Rattle.plank_core.specs.laws.DenseIndexSet.{contains-row, contains-cleared, length-row}
 use Rattle.sir_data.specs.Records.{blocks}
 use Rattle.sir_data.specs.WellFormed.{WellFormed}
+use Rattle.sir_analyses.specs.Order.{isVisited}
 use Rattle.sir_analyses.specs.Liveness.{Set, has, members, entryFrom, settled, exitSet, blockIntervals}
-use Rattle.sir_analyses.specs.Answers.{exitAnswer, intervalWords}
-use Rattle.sir_analyses.specs.Tables.{Same, SameRows, BlockRows, EndRows, EntryWords}
+use Rattle.sir_analyses.specs.Answers.{exitAnswer, entryAnswer, intervalWords}
+use Rattle.sir_analyses.specs.Tables.{Same, SameRows, BlockRows, EndRows, EntryWords, LiveRows}
 use Rattle.sir_analyses.specs.Scanning.{endOpen, scanWords}
 use Rattle.sir_analyses.proofs.GenKill.{beyond, entry-length}
 use Rattle.sir_analyses.proofs.LivenessProof.{exit-size}
@@ -58,3 +60,19 @@ module _ {w : List ℕ} (good : WellFormed w) (b : ℕ) (l : b < blocks w) (exit
   pub interval-words : (v : ℕ) {ends : List ℕ} → v < 512 → EndRows w ends
       → scanWords w b v (endOpen (contains exits (512 * b + v) || contains ends (512 * b + v))) ≡ intervalWords (blockIntervals w (exitSet w b) v b)
   interval-words v {ends} h e = rw (rows b v l h, e .ended b v l h)
+
+-- ---- what the questions on sets put
+
+pub front-members : (s out : List ℕ) {out′ : List ℕ} {n : ℕ} → n ≡ length (Words.members s) → out′ ≡ Words.members s ++ drop n out → take n out′ ≡ Words.members s
+front-members s out {n = n} l e = ap (take n) e ∙ take-at (Words.members s) (drop n out) n (sym l)
+
+module _ {w : List ℕ} (good : WellFormed w) {uses defs exits : List ℕ} (t : LiveRows w uses defs exits) {b : ℕ} (l : b < blocks w) where
+  pub row-answer : {set : List ℕ} → set ≡ Words.rowOf exits b → (length set ≡ 8) × (Words.members set ≡ exitAnswer w b)
+  row-answer e = (ap length e ∙ length-row exits b (omega (arith, t .exits-long, good .sized .blocks-most)), ap Words.members e ∙ exit-members good b l exits (t .exit-rows))
+
+  pub entry-answer : isVisited w b ≡ true → (ws : List ℕ) → EntryWords uses defs exits b ws → Words.members ws ≡ entryAnswer w b
+  entry-answer v ws e = rw v (entry-members good b l exits (t .exit-rows) ws (t .block-rows) e)
+
+-- an unvisited block has an empty entry set
+pub no-entry : (w : List ℕ) (b : ℕ) → isVisited w b ≡ false → Words.members (replicate 8 0) ≡ entryAnswer w b
+no-entry w b v = rw v (same-members (replicate 8 0) [] (omega arith) (λ n h. contains-cleared 8 n))

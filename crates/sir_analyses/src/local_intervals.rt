@@ -1,4 +1,5 @@
-// The intervals of one local in one block: backwards through its operations, from a use, or the block's end, to the definition before it.
+// The intervals of one local: in each block backwards through its operations, from a use, or the block's end, to the definition before it.
+use crate::answers::put_words;
 use plank_core::index::BlockId;
 use plank_core::index::LocalId;
 use plank_core::index::OpIdx;
@@ -11,10 +12,13 @@ ghost use Prim.Native.Nat.{_+_, _*_, _≤_, _<_};
 ghost use lib.ListN.{length, take};
 ghost use lib.Dec.{eqb};
 ghost use Rattle.plank_core.specs.DenseIndexSet.{contains};
-ghost use Rattle.sir_data.specs.Records.{blocks};
+ghost use Rattle.sir_data.specs.Records.{blocks, locals};
 ghost use Rattle.sir_data.specs.WellFormed.{WellFormed};
-ghost use Rattle.sir_analyses.specs.Answers.{intervalWords};
-ghost use Rattle.sir_analyses.specs.Tables.{OperandRows};
+ghost use Rattle.sir_analyses.specs.Order.{blocksRpo};
+ghost use Rattle.sir_analyses.specs.Liveness.{settled};
+ghost use Rattle.sir_analyses.specs.Answers.{intervalWords, intervalsAnswer};
+ghost use Rattle.sir_analyses.specs.Writing.{Puts};
+ghost use Rattle.sir_analyses.specs.Tables.{OperandRows, SameRows, EndRows};
 ghost use Rattle.sir_analyses.specs.Scanning.{openBefore, closedBy, closing, endOpen, scanWords};
 
 // The end that is open before an operation, and the end of the interval that it closes; 0 where there is none.
@@ -97,7 +101,7 @@ pub fn block_intervals(
     requires { ⌜ WellFormed (now words) ⌝ }
     requires { ⌜ OperandRows (now words) (now reads) (now writes) ⌝ }
     requires { ⌜ (b .0 < blocks (now words)) × (v .0 < 512) × (length (now out) ≡ 3075) ⌝ }
-    ensures { λ r. ⌜ (r ≡ length (scanWords (now (words .entry)) (b .0) (v .0) end)) × (take r (now (out .exit)) ≡ scanWords (now (words .entry)) (b .0) (v .0) end) ⌝ }
+    ensures { λ r. ⌜ (r ≤ 3075) × (r ≡ length (scanWords (now (words .entry)) (b .0) (v .0) end)) × (take r (now (out .exit)) ≡ scanWords (now (words .entry)) (b .0) (v .0) end) ⌝ }
 {
     let span = block_operations(words, b);
     let first = span.start;
@@ -111,4 +115,35 @@ pub fn block_intervals(
         till = s.till;
     }
     put_interval(out, n, b, 0, till)
+}
+
+// The intervals of v in the blocks of the order.
+pub fn put_intervals(
+    words: &[u32],
+    rpo: &[u32],
+    reads: &[u64],
+    writes: &[u64],
+    exits: &[u64],
+    ends: &[u64],
+    v: LocalId,
+    out: &mut [u8],
+    limit: usize,
+) -> usize
+    requires { ⌜ WellFormed (now words) ⌝ }
+    requires { ⌜ (now rpo ≡ blocksRpo (now words)) × OperandRows (now words) (now reads) (now writes) ⌝ }
+    requires { ⌜ (length (now exits) ≡ 2048) × SameRows (now exits) (settled (now words) .1) (blocks (now words)) × EndRows (now words) (now ends) ⌝ }
+    requires { ⌜ (v .0 < locals (now words)) × (limit ≤ length (now out)) ⌝ }
+    ensures { λ r. ⌜ (r ≤ 787200) × Puts limit 0 (intervalsAnswer (now (words .entry)) (v .0)) (now (out .entry)) (now (out .exit)) r ⌝ }
+{
+    let mut run = [0u32; 3075];
+    let mut m: usize = 0;
+    let mut i: usize = 0;
+    while i < rpo.len() {
+        let b = BlockId(rpo[i]);
+        let end = open_end(exits, ends, b, v);
+        let n = block_intervals(words, reads, writes, b, v, end, &mut run);
+        m = put_words(out, limit, m, &run[..n]);
+        i += 1;
+    }
+    m
 }

@@ -182,7 +182,7 @@ pub fn liveness(
     requires { ⌜ now rpo ≡ blocksRpo (now words) ⌝ }
     requires { ⌜ BlockRows (now words) (now uses) (now defs) × PredecessorRows (now words) (now preds) ⌝ }
     requires { ⌜ now exits ≡ replicate 2048 0 ⌝ }
-    ensures { λ r. ⌜ (r ≡ rounds (now (words .entry))) × SameRows (now (exits .exit)) (settled (now (words .entry)) .1) (blocks (now (words .entry))) ⌝ }
+    ensures { λ r. ⌜ (r ≡ rounds (now (words .entry))) × (length (now (exits .exit)) ≡ 2048) × SameRows (now (exits .exit)) (settled (now (words .entry)) .1) (blocks (now (words .entry))) ⌝ }
 {
     let mut sent = [0u64; 2048];
     let mut done: u32 = 0;

@@ -1,16 +1,19 @@
 // The questions that can be put to an image. Each gives its number and the answer's length, and leaves the answer in `out`;
 // refused, it leaves `out` as it was.
 use crate::answers::put_words;
+use crate::block_sets::end_sets;
 use crate::block_sets::operand_sets;
 use crate::def_use::input_counts;
 use crate::def_use::put_uses;
 use crate::loading::load;
+use crate::local_intervals::put_intervals;
 use crate::local_liveness::entry;
 use crate::local_liveness::live_sets;
 use crate::predecessors::put_predecessors;
 use crate::reverse_post_order::order_words;
 use plank_core::dense_index_set::list;
 use plank_core::index::BlockId;
+use plank_core::index::LocalId;
 use plank_core::rows::row_contains;
 use plank_core::rows::row_of;
 use sir_data::records::block_count;
@@ -19,9 +22,10 @@ ghost use mathlib.Core.Path.{_≡_};
 ghost use Prim.Native.Nat.{ℕ, _<_, _^_};
 ghost use lib.ListN.{length};
 ghost use Rattle.plank_core.specs.Lists.{bind};
+ghost use Rattle.plank_core.specs.DenseIndexSet.{members};
 ghost use Rattle.sir_data.specs.Pages.{payload, bytesOf};
 ghost use Rattle.sir_data.specs.Records.{blocks, locals};
-ghost use Rattle.sir_analyses.specs.Answers.{refusal, orderAnswer, predecessorsAnswer, usesAnswer, entryAnswer, exitAnswer, roundsAnswer, made, answered, outcome};
+ghost use Rattle.sir_analyses.specs.Answers.{refusal, orderAnswer, predecessorsAnswer, usesAnswer, entryAnswer, exitAnswer, roundsAnswer, intervalsAnswer, made, answered, outcome};
 ghost use Rattle.sir_data.specs.WellFormed.{WellFormed};
 ghost use Rattle.sir_analyses.specs.Order.{blocksRpo};
 ghost use Rattle.sir_analyses.specs.Claims.{OrderRule, LivenessRule};
@@ -155,6 +159,16 @@ pub extern "C" fn sir_uses(image: &[u8], local: u32, out: &mut [u8]) -> Answer
     uses_answer(&words[..n], &rpo[..blocks], local, out)
 }
 
+// The members of a set.
+fn set_answer(set: &[u64], out: &mut [u8]) -> Answer
+    requires { ⌜ length (now set) ≡ 8 ⌝ }
+    ensures { λ r. ⌜ made (r .number) (r .length) (now (out .exit)) ≡ answered (bind (members (now (set .entry))) bytesOf) (now (out .entry)) ⌝ }
+{
+    let mut ids = [0u32; 512];
+    let n = list(set, &mut ids);
+    words_answer(&ids[..n], out)
+}
+
 fn exit_answer(words: &[u32], seen: &[u64], rpo: &[u32], block: u32, out: &mut [u8]) -> Answer
     requires { ⌜ WellFormed (now words) ⌝ }
     requires { ⌜ SeenBlocks (now words) (now seen) × (now rpo ≡ blocksRpo (now words)) ⌝ }
@@ -177,9 +191,7 @@ fn exit_answer(words: &[u32], seen: &[u64], rpo: &[u32], block: u32, out: &mut [
         &mut defs,
         &mut exits,
     );
-    let mut ids = [0u32; 512];
-    let n = list(row_of(&exits, block as usize), &mut ids);
-    words_answer(&ids[..n], out)
+    set_answer(row_of(&exits, block as usize), out)
 }
 
 #[no_mangle]
@@ -211,9 +223,8 @@ fn entry_answer(words: &[u32], seen: &[u64], rpo: &[u32], block: u32, out: &mut 
     requires { ⌜ block < blocks (now words) ⌝ }
     ensures { λ r. ⌜ made (r .number) (r .length) (now (out .exit)) ≡ answered (bind (entryAnswer (now (words .entry)) block) bytesOf) (now (out .entry)) ⌝ }
 {
-    let mut ids = [0u32; 512];
     if !row_contains(seen, 1, block) {
-        return words_answer(&ids[..0], out);
+        return set_answer(&[0u64; 8], out);
     }
     let mut reads = [0u64; 8192];
     let mut writes = [0u64; 8192];
@@ -232,8 +243,7 @@ fn entry_answer(words: &[u32], seen: &[u64], rpo: &[u32], block: u32, out: &mut 
         &mut exits,
     );
     let set = entry(&uses, &defs, &exits, BlockId(block));
-    let n = list(&set.words, &mut ids);
-    words_answer(&ids[..n], out)
+    set_answer(&set.words, out)
 }
 
 #[no_mangle]
@@ -299,4 +309,63 @@ pub extern "C" fn sir_rounds(image: &[u8], out: &mut [u8]) -> Answer
     let n = sizes.words;
     let blocks = sizes.blocks;
     rounds_answer(&words[..n], &seen, &rpo[..blocks], out)
+}
+
+// Counts, then writes.
+fn intervals_answer(words: &[u32], seen: &[u64], rpo: &[u32], local: u32, out: &mut [u8]) -> Answer
+    requires { ⌜ WellFormed (now words) ⌝ }
+    requires { ⌜ SeenBlocks (now words) (now seen) × (now rpo ≡ blocksRpo (now words)) ⌝ }
+    requires { ⌜ local < locals (now words) ⌝ }
+    ensures { λ r. ⌜ made (r .number) (r .length) (now (out .exit)) ≡ answered (bind (intervalsAnswer (now (words .entry)) local) bytesOf) (now (out .entry)) ⌝ }
+{
+    let mut reads = [0u64; 8192];
+    let mut writes = [0u64; 8192];
+    operand_sets(words, &mut reads, &mut writes);
+    let mut uses = [0u64; 2048];
+    let mut defs = [0u64; 2048];
+    let mut exits = [0u64; 2048];
+    live_sets(
+        words,
+        seen,
+        rpo,
+        &reads,
+        &writes,
+        &mut uses,
+        &mut defs,
+        &mut exits,
+    );
+    let mut ends = [0u64; 2048];
+    end_sets(words, &mut ends);
+    let v = LocalId(local);
+    let n = put_intervals(words, rpo, &reads, &writes, &exits, &ends, v, out, 0);
+    if out.len() < 4 * n {
+        return refuse(14);
+    }
+    let room = out.len();
+    put_intervals(words, rpo, &reads, &writes, &exits, &ends, v, out, room);
+    Answer {
+        number: 0,
+        length: (4 * n) as u64,
+    }
+}
+
+#[no_mangle]
+pub extern "C" fn sir_intervals(image: &[u8], local: u32, out: &mut [u8]) -> Answer
+    ensures { λ r. ⌜ made (r .number) (r .length) (now (out .exit)) ≡ outcome locals intervalsAnswer (now (image .entry)) local (now (out .entry)) ⌝ }
+{
+    let mut words = [0u32; 14742];
+    let mut seen = [0u64; 16];
+    let mut post = [0u32; 320];
+    let mut rpo = [0u32; 256];
+    let sizes = load(image, &mut words, &mut seen, &mut post, &mut rpo);
+    let number = sizes.number;
+    if number != 0 {
+        return refuse(number);
+    }
+    let n = sizes.words;
+    if local >= local_count(&words[..n]) {
+        return refuse(13);
+    }
+    let blocks = sizes.blocks;
+    intervals_answer(&words[..n], &seen, &rpo[..blocks], local, out)
 }

@@ -76,7 +76,8 @@ returns c = let s = c .before .before .before .before .before .before .before .b
     let first : l .o ≡ blockWord w b 4 = omega (arith, span .ensures) in
     let os : range (l .o) (span .result .end) ≡ ops w b = ap₂ range first (span .ensures .1) in
     let p = c .before .before .put-interval2 in
-    scanning-ends (l .inv .4) os (p .last .0) (p .ensures .0) (p .ensures .1)
+    let e = scanning-ends (l .inv .4) os (p .last .0) (p .ensures .0) (p .ensures .1) in
+    (omega (arith, p .ensures .0, closing-few b 0 (l .till), s .pre .0 .sized .operations-most, s .pre .0 .in-range .ops-range b (s .pre .1 .1 .0), span .ensures), e .0, e .1)
 
 pub block-intervals-spec : {M : Type 1} → statement M
 block-intervals-spec =

@@ -33,7 +33,7 @@ same-length : tie.Need-same-length Inv-loop μ-loop
 same-length c = omega (arith, c .before .before .before .before .pass-back .ensures .exits-long, cleared-long (c .before .before .before .before .before .before .before .before .before .before .before .before .before .before .args .exits .now) 2048 (c .before .before .before .before .before .before .before .before .before .before .before .before .before .before .pre .1 .1 .1))
 
 returns : tie.Need-returns Inv-loop μ-loop
-returns c = settling-ends (c .before .before .before .before .before .before .before .before .before .before .before .before .before .before .pre .0) (c .before .before .before .before .before .before .before .loop .inv) (c .before .before .before .before .pass-back .ensures) (not-true _ (c .if1 .taken))
+returns c = let e = settling-ends (c .before .before .before .before .before .before .before .before .before .before .before .before .before .before .pre .0) (c .before .before .before .before .before .before .before .loop .inv) (c .before .before .before .before .pass-back .ensures) (not-true _ (c .if1 .taken)) in (e .0, c .before .before .before .before .pass-back .ensures .exits-long, e .1)
 
 loop-less : tie.Need-loop-less Inv-loop μ-loop
 loop-less c = omega (arith, settling-few (c .before .before .before .before .before .before .before .before .before .before .before .before .before .before .pre .0) (c .before .before .before .before .before .before .before .loop .inv))
