@@ -1,6 +1,7 @@
 //! Links the proved library where it has been built: `libsir_analyses.a` in the folder `SIR_ANALYSES_LIB`, absolute or
 //! from the root of the repository, or in `target/staticlib`, where `rt staticlib sir_analyses` puts it. The cfg
-//! `sir_linked` says that it is there and exports every question, `sir_partial` that it exports the first ones only.
+//! `sir_linked` says that it is there and exports every question, `sir_partial` that it exports all but the two on
+//! allocations.
 
 use std::env;
 use std::fs;

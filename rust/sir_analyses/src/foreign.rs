@@ -44,9 +44,6 @@ functions! { any(sir_linked, sir_partial);
     predecessors = sir_predecessors(block);
     /// The uses of a local. For each: block, kind, place.
     uses = sir_uses(local);
-}
-
-functions! { sir_linked;
     /// The rounds of liveness: one word.
     rounds = sir_rounds();
     /// The entry set of a block, ids ascending.
@@ -55,6 +52,9 @@ functions! { sir_linked;
     exit_set = sir_exit_set(block);
     /// The intervals of a local. For each: block, start, end.
     intervals = sir_intervals(local);
+}
+
+functions! { sir_linked;
     /// The owner of a local: allocation + 1, or 0.
     owner = sir_owner(local);
     /// An allocation: defining block, operation, base local, kind, size or size local, static id, mark, interval count,

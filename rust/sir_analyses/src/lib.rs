@@ -10,8 +10,7 @@
 //! for function in sir_analyses::order(&image)? {
 //!     println!("function {}: blocks {:?}", function.function, function.blocks);
 //! }
-//! let allocation = sir_analyses::allocation(&image, 0)?;
-//! println!("allocation 0 is {}", if allocation.marked { "marked" } else { "unmarked" });
+//! println!("live at the end of block 0: {:?}", sir_analyses::exit_set(&image, 0)?);
 //! # Ok(())
 //! # }
 //! ```
@@ -26,7 +25,10 @@ use std::error::Error;
 use std::fmt::{self, Display, Formatter};
 
 /// Whether the library was there when this was built.
-pub const LINKED: bool = cfg!(sir_linked);
+pub const LINKED: bool = cfg!(any(sir_linked, sir_partial));
+
+/// Whether it answers [`allocation`] and [`owner`] too.
+pub const ALLOCATIONS: bool = cfg!(sir_linked);
 
 /// The questions as the library takes them: image, id, result slice.
 ///

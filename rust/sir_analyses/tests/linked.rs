@@ -2,16 +2,16 @@
 #![cfg(any(sir_linked, sir_partial))]
 
 use paper_reference::Question;
-use sir_analyses::{Answer, FunctionBlocks, Place, Refusal, Use, calls};
+use sir_analyses::{Answer, End, FunctionBlocks, Interval, Start, Place, Refusal, Use, calls};
 #[cfg(sir_linked)]
-use sir_analyses::{End, Interval, Size, Start};
+use sir_analyses::Size;
 use sir_image::{Block, Control, Image, MAX_BLOCKS, MAX_OPERANDS, MAX_OPERATIONS, Operation, Span, samples};
 use std::{fs, path::Path};
 
 /// The questions that the library answers.
 fn questions() -> Vec<Question> {
-    let first = [Question::Order, Question::Predecessors, Question::Uses];
-    Question::ALL.into_iter().filter(|question| cfg!(sir_linked) || first.contains(question)).collect()
+    let later = [Question::Allocation, Question::Owner];
+    Question::ALL.into_iter().filter(|question| sir_analyses::ALLOCATIONS || !later.contains(question)).collect()
 }
 
 fn ask(question: Question, image: &[u8], id: u32, result: &mut [u8]) -> Answer {
@@ -48,15 +48,21 @@ fn report_decoded() {
 }
 
 #[test]
-#[cfg(sir_linked)]
-fn report_lifetimes_decoded() {
+fn report_liveness_decoded() {
     let image = samples::report().pages();
     assert_eq!(sir_analyses::rounds(&image), Ok(2));
     assert_eq!(sir_analyses::entry_set(&image, 1), Ok(vec![2]));
     assert_eq!(sir_analyses::exit_set(&image, 0), Ok(vec![1]));
     let first = Interval { block: 0, start: Start::Operation(1), end: End::Block };
-    let second = Interval { block: 1, start: Start::Block, end: End::Operation(3) };
     assert_eq!(sir_analyses::intervals(&image, 1), Ok(vec![first]));
+}
+
+#[test]
+#[cfg(sir_linked)]
+fn report_allocations_decoded() {
+    let image = samples::report().pages();
+    let first = Interval { block: 0, start: Start::Operation(1), end: End::Block };
+    let second = Interval { block: 1, start: Start::Block, end: End::Operation(3) };
     assert_eq!((sir_analyses::owner(&image, 2), sir_analyses::owner(&image, 0)), (Ok(Some(0)), Ok(None)));
     let all = sir_analyses::allocations(&image).unwrap();
     assert_eq!(all.len(), 1);
@@ -110,7 +116,6 @@ fn long_answers() {
     let blocks: usize = order.iter().map(|function| function.blocks.len()).sum();
     assert_eq!(blocks, sir_image::MAX_BLOCKS);
     assert_as_the_paper(Question::Uses, &image, 511, 1 << 20);
-    #[cfg(sir_linked)]
     assert_as_the_paper(Question::EntrySet, &image, 0, 4096);
 }
 
