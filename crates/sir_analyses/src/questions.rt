@@ -48,15 +48,15 @@ fn words_answer(words: &[u32], out: &mut [u8]) -> Answer
     requires { ⌜ length (now words) < 2 ^ 60 ⌝ }
     ensures { λ r. ⌜ made (r .number) (r .length) (now (out .exit)) ≡ answered (bind (now (words .entry)) bytesOf) (now (out .entry)) ⌝ }
 {
-    let n = words.len();
-    if out.len() < 4 * n {
+    let count = words.len();
+    if out.len() < 4 * count {
         return refuse(14);
     }
     let room = out.len();
     put_words(out, room, 0, words);
     Answer {
         number: 0,
-        length: (4 * n) as u64,
+        length: (4 * count) as u64,
     }
 }
 
