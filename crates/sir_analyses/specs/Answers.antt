@@ -72,11 +72,11 @@ pub record Outcome : Type 0 where
   pub len : ℕ
   pub result : List ℕ
 
--- a refusal gives its number and answer length 0, and the result slice keeps its bytes
 -- what a call gave and left
 abbrev pub made : ℕ → ℕ → List ℕ → Outcome
 made n l out = record { number = n; len = l; result = out }
 
+-- a refusal gives its number and answer length 0, and the result slice keeps its bytes
 abbrev pub refused : ℕ → List ℕ → Outcome
 refused n out = record { number = n; len = 0; result = out }
 

@@ -2,9 +2,9 @@
 #![cfg(any(sir_linked, sir_partial))]
 
 use paper_reference::Question;
-use sir_analyses::{Answer, End, FunctionBlocks, Interval, Start, Place, Refusal, Use, calls};
 #[cfg(sir_linked)]
 use sir_analyses::Size;
+use sir_analyses::{Answer, End, FunctionBlocks, Interval, Place, Refusal, Start, Use, calls};
 use sir_image::{Block, Control, Image, MAX_BLOCKS, MAX_OPERANDS, MAX_OPERATIONS, Operation, Span, samples};
 use std::{fs, path::Path};
 
