@@ -18,7 +18,7 @@ row-of-requires : tie.Need-row-of-requires
 row-of-requires c κs = search needs
 
 row-union-with-requires : tie.Need-row-union-with-requires
-row-union-with-requires c κs = (omega arith, ap length (c .row-of .ensures) ∙ length-row (c .before .before .before .before .before .before .args .exits .now) (c .before .before .before .before .before .before .args .b .0) (c .before .before .before .before .before .before .pre .2))
+row-union-with-requires c κs = (omega arith, ap length (c .row-of .ensures) ∙ length-row _ _ (omega (arith, c .before .before .before .before .before .before .pre)))
 
 slice-aggregate-row-difference-with : tie.Need-slice-aggregate-row-difference-with
 slice-aggregate-row-difference-with c = search needs
@@ -27,7 +27,7 @@ row-of-requires-2 : tie.Need-row-of-requires-2
 row-of-requires-2 c κs = search needs
 
 row-difference-with-requires : tie.Need-row-difference-with-requires
-row-difference-with-requires c κs = (omega arith, ap length (c .row-of2 .ensures) ∙ length-row (c .before .before .before .before .before .before .before .before .before .before .args .defs .now) (c .before .before .before .before .before .before .before .before .before .before .args .b .0) (c .before .before .before .before .before .before .before .before .before .before .pre .1))
+row-difference-with-requires c κs = (omega arith, ap length (c .row-of2 .ensures) ∙ length-row _ _ (omega (arith, c .before .before .before .before .before .before .before .before .before .before .pre)))
 
 slice-aggregate-row-union-with-2 : tie.Need-slice-aggregate-row-union-with-2
 slice-aggregate-row-union-with-2 c = search needs
@@ -36,7 +36,7 @@ row-of-requires-3 : tie.Need-row-of-requires-3
 row-of-requires-3 c κs = search needs
 
 row-union-with-requires-2 : tie.Need-row-union-with-requires-2
-row-union-with-requires-2 c κs = (omega arith, ap length (c .row-of3 .ensures) ∙ length-row (c .before .before .before .before .before .before .before .before .before .before .before .before .before .before .args .uses .now) (c .before .before .before .before .before .before .before .before .before .before .before .before .before .before .args .b .0) (c .before .before .before .before .before .before .before .before .before .before .before .before .before .before .pre .0))
+row-union-with-requires-2 c κs = (omega arith, ap length (c .row-of3 .ensures) ∙ length-row _ _ (omega (arith, c .before .before .before .before .before .before .before .before .before .before .before .before .before .before .pre)))
 
 returns : tie.Need-returns
 returns c = let a = c .before .before .before .before .before .before .before .before .before .before .before .before .before .before .before .before .args in (
