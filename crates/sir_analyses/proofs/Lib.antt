@@ -25,6 +25,7 @@ pub mod Accepted
 pub mod Bases
 pub mod Positions
 pub mod Marks
+pub mod PointerLinks
 pub mod Merging
 pub mod Scans
 pub mod Lifetime
@@ -32,7 +33,12 @@ pub mod Source
 pub mod SourceSteps
 pub mod SourceMarks
 pub mod SourceOwners
-pub mod Sweep
+pub mod Propagation
+pub mod Linking
+pub mod Following
+pub mod Discovery
+pub mod Turns
 pub mod SweepSteps
 pub mod SweepProof
+pub mod MergedIntervals
 pub mod Proved

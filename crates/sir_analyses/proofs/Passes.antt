@@ -56,7 +56,7 @@ stepped-none {w} {exits} a b on = record {
   tells = sym (same-grew (blocks w) exits exits (λ k l. refl));
 }
 
-foldl-snoc : {A B : Type 0} (f : B → A → B) (b : B) (xs : List A) (x : A) → foldl f b (xs ++ (x ∷ [])) ≡ f (foldl f b xs) x
+pub foldl-snoc : {A B : Type 0} (f : B → A → B) (b : B) (xs : List A) (x : A) → foldl f b (xs ++ (x ∷ [])) ≡ f (foldl f b xs) x
 foldl-snoc f b [] x = refl
 foldl-snoc f b (y ∷ xs) x = foldl-snoc f (f b y) xs x
 

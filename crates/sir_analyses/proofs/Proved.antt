@@ -20,7 +20,7 @@ use Rattle.sir_analyses.proofs.Lifetime.{lifetimes}
 use Rattle.sir_analyses.proofs.Source.{sourceState, sourceMarked}
 use Rattle.sir_analyses.proofs.SourceMarks.{source-marks}
 use Rattle.sir_analyses.proofs.SourceOwners.{source-owners}
-use Rattle.sir_analyses.proofs.Sweep.{sweep}
+use Rattle.sir_analyses.specs.Sweep.{sweep}
 use Rattle.sir_analyses.proofs.SweepProof.{sweep-merged}
 
 alone : (k : ℕ) (t : Bool) → 0 < k → first ((k, t) ∷ []) ≡ 0 → t ≡ false

@@ -1,43 +1,31 @@
 -- The marks as the source makes them (`discover_allocations` of allocation_liveness.rs): allocations in turn, each going on from
--- its base and from the locals that nobody had, with a work list. Assumes nothing.
-use mathlib.Core.Bool.{Bool, false, _&&_, _||_, cond}
-use Prim.Native.Nat.{ℕ, zero, suc, _-_}
+-- its base and from the locals that nobody had, with a work list, and of each local one use after the other. Assumes nothing.
+use mathlib.Core.Bool.{Bool, _&&_, _||_}
+use Prim.Native.Nat.{ℕ, zero, suc}
 use mathlib.Core.List.{List, [], _∷_}
-use lib.ListN.{length, getD, set, replicate}
+use lib.ListN.{length}
 use lib.Dec.{eqb}
 use Rattle.plank_core.specs.Lists.{foldl, upto, any}
 use Rattle.sir_data.specs.Records.{locals, control, code, ins}
 use Rattle.sir_data.specs.Codes.{escaping}
-use Rattle.sir_analyses.specs.Liveness.{Use, uses, positions, Set, has, addAll}
-use Rattle.sir_analyses.specs.Allocation.{allocs, allocAt, base, carried, bases}
+use Rattle.sir_analyses.specs.Liveness.{Use, uses, positions, has}
+use Rattle.sir_analyses.specs.Allocation.{allocs, allocAt, base, carried}
+use Rattle.sir_analyses.specs.Propagation.{State, follow, start}
 
--- owner of each local (allocation + 1, or 0), marks of the allocations, locals still to be followed
-pub record State : Type 0 where
-  pub owner : List ℕ
-  pub marks : Set
-  pub work : List ℕ
+-- is v in an escaping operand of this use?
+abbrev pub escapesAt : List ℕ → ℕ → Use → Bool
+escapesAt w v u = eqb (u .kind) 0 && any (escaping (code w (u .place))) (positions v (ins w (u .place)) 0)
 
--- `link_local_to_alloc`
-abbrev pub linkLocal : ℕ → State → ℕ → State
-linkLocal a s v =
-    let old = getD (s .owner) v 0 in
-    cond (eqb old 0)
-    (record { owner = set (s .owner) v (suc a); marks = s .marks; work = v ∷ s .work })
-    (record { owner = set (s .owner) v (suc a); marks = cond (eqb old (suc a)) (s .marks) (addAll (s .marks) (a ∷ (old - 1) ∷ [])); work = s .work })
+-- is this use an `InternalReturn` output?
+abbrev pub returnedAt : List ℕ → Use → Bool
+returnedAt w u = eqb (u .kind) 2 && eqb (control w (u .block)) 1
 
 -- does this use of v mark?
 abbrev pub hurts : List ℕ → ℕ → Use → Bool
-hurts w v u =
-    (eqb (u .kind) 0 && any (escaping (code w (u .place))) (positions v (ins w (u .place)) 0))
-    || (eqb (u .kind) 2 && eqb (control w (u .block)) 1)
-
-abbrev pub mark : ℕ → State → State
-mark a s = record { owner = s .owner; marks = addAll (s .marks) (a ∷ []); work = s .work }
+hurts w v u = escapesAt w v u || returnedAt w u
 
 abbrev pub followUse : List ℕ → ℕ → ℕ → State → Use → State
-followUse w a v s u =
-    let t = foldl (linkLocal a) s (carried w u) in
-    cond (hurts w v u) (mark a t) t
+followUse w a v s u = follow (carried w u) (hurts w v u) a s
 
 -- the latest local of the work list, and the state without it
 abbrev pub pop : (ℕ → State → State) → List ℕ → State → State
@@ -52,11 +40,8 @@ drain (suc n) w a s = pop (λ v t. drain n w a (foldl (followUse w a v) t (uses 
 abbrev pub propagate : List ℕ → State → ℕ → State
 propagate w s a = drain (suc (locals w)) w a (record { owner = s .owner; marks = s .marks; work = base w (allocAt w a) ∷ [] })
 
-abbrev pub sourceStart : List ℕ → State
-sourceStart w = record { owner = bases w; marks = replicate (length (allocs w)) false; work = [] }
-
 abbrev pub sourceState : List ℕ → State
-sourceState w = foldl (propagate w) (sourceStart w) (upto (length (allocs w)))
+sourceState w = foldl (propagate w) (start w) (upto (length (allocs w)))
 
 abbrev pub sourceMarked : List ℕ → ℕ → Bool
 sourceMarked w a = has (sourceState w .marks) a

@@ -1,4 +1,5 @@
--- The owners as the source gives them are those of the definition. Assumes nothing.
+-- The owners as the source gives them are those of the definition. What is said of a step, of the start and of the end of a turn
+-- holds for every machine that follows locals with a work list; only `drain` and `propagate` are the source's own. Assumes nothing.
 use mathlib.Core.Path.{_≡_, refl, sym, _∙_, ap}
 use mathlib.Core.Logic.{_⊎_, inl, inr, ⊎-elim}
 use mathlib.Core.Bool.{Bool, true, false, not, _&&_, cond}
@@ -6,48 +7,50 @@ use Prim.Native.Nat.{ℕ, zero, suc, _+_, _-_, _≤_, _<_}
 use native.Mathlib.Omega.{arith}
 use native.Mathlib.Decide.{ℕ-discrete}
 use mathlib.Core.List.{List, [], _∷_, _++_, List·Memᴰ·head, List·Memᴰ·tail, List·Memᴰ·not-nil, Memᴰ·append-left, Memᴰ·append-right, List·Memᴰ·append-cases, List·Memᴰ·eq-of-singleton}
-use lib.ListN.{length, getD, set, replicate, length-set, length-replicate}
+use lib.ListN.{length, getD, set, length-set}
 use lib.Seq.{getD-set-same, getD-set-other, ext-getD}
 use lib.Dec.{eqb}
 use borrow.Author.Tests.{eqb-true, eqb-false, eq-eqb}
-use Rattle.plank_core.specs.Lists.{foldl, bind, mem, upto, count, _∈_}
+use Rattle.plank_core.specs.Lists.{foldl, bind, mem, count, _∈_}
 use Rattle.plank_core.specs.laws.Lists.{and-true-left, both-true, bool-or, none, keep-mem, keep-out, bind-mem, bind-out, mem-in, in-mem, length-none}
 use Rattle.sir_data.specs.Records.{locals}
 use Rattle.sir_data.specs.WellFormed.{WellFormed}
 use Rattle.sir_analyses.specs.Liveness.{Use, uses, Set, has, addAll, members}
 use Rattle.sir_analyses.specs.Allocation.{allocs, allocAt, base, carried, next, nextOf, spread, unowned, give, link, owners}
+use Rattle.sir_analyses.specs.Discovery.{zeros}
+use Rattle.sir_analyses.specs.Propagation.{State, linkLocal, follow, start}
 use Rattle.sir_analyses.proofs.SetLaws.{members-in, members-out}
-use Rattle.sir_analyses.proofs.Source.{State, linkLocal, hurts, mark, followUse, pop, drain, propagate, sourceStart, sourceState}
+use Rattle.sir_analyses.proofs.Source.{hurts, followUse, pop, drain, propagate, sourceState}
 use Rattle.sir_analyses.proofs.Marks.{spread-sound, spread-base, spread-step, next-link, link-less, base-less}
-use Rattle.sir_analyses.proofs.SourceSteps.{zeros, zeros-most, zeros-fewer, zeros-no-more, bases-length}
+use Rattle.sir_analyses.proofs.SourceSteps.{zeros-most, zeros-fewer, zeros-no-more, start-length}
 
--- what the work list follows from v, where o has the owners before: v itself, and what nobody had
-pub data Followed (w o : List ℕ) (v : ℕ) : ℕ → Type 0 where
-  itself : {x : ℕ} → x ≡ v → Followed w o v x
-  onwards : {u x : ℕ} → Followed w o v u → x ∈ next w u → getD o x 0 ≡ 0 → Followed w o v x
+-- what the work list comes to from v, where o has the owners before: v itself, and what nobody had
+pub data Onward (w o : List ℕ) (v : ℕ) : ℕ → Type 0 where
+  itself : {x : ℕ} → x ≡ v → Onward w o v x
+  onwards : {u x : ℕ} → Onward w o v u → x ∈ next w u → getD o x 0 ≡ 0 → Onward w o v x
 
 -- what it gives an owner
 pub record Taken (w o : List ℕ) (v x : ℕ) : Type 0 where
   pub by : ℕ
-  pub followed : Followed w o v by
+  pub onward : Onward w o v by
   pub carries : x ∈ next w by
 
 module _ (w o : List ℕ) (v a : ℕ) where
   -- owner is o with some of what is to be taken; `more` are the locals that are being followed
-  record Inv (owner work more : List ℕ) : Type 0 where
-    size : length owner ≡ locals w
-    from : (x : ℕ) → (getD owner x 0 ≡ getD o x 0) ⊎ ((getD owner x 0 ≡ suc a) × Taken w o v x)
-    works : (x : ℕ) → x ∈ work → Followed w o v x
-    done : (x : ℕ) → (x ≡ v) ⊎ ((getD o x 0 ≡ 0) × (getD owner x 0 ≡ suc a)) → (x ∈ work) ⊎ ((x ∈ more) ⊎ ((y : ℕ) → y ∈ next w x → getD owner y 0 ≡ suc a))
+  pub record Taking (owner work more : List ℕ) : Type 0 where
+    pub size : length owner ≡ locals w
+    pub from : (x : ℕ) → (getD owner x 0 ≡ getD o x 0) ⊎ ((getD owner x 0 ≡ suc a) × Taken w o v x)
+    pub works : (x : ℕ) → x ∈ work → Onward w o v x
+    pub done : (x : ℕ) → (x ≡ v) ⊎ ((getD o x 0 ≡ 0) × (getD owner x 0 ≡ suc a)) → (x ∈ work) ⊎ ((x ∈ more) ⊎ ((y : ℕ) → y ∈ next w x → getD owner y 0 ≡ suc a))
 
   -- from s to s′ the locals vs were linked
-  record Out (s s′ : State) (more vs : List ℕ) : Type 0 where
-    inv : Inv (s′ .owner) (s′ .work) more
-    still : (x : ℕ) → getD (s .owner) x 0 ≡ suc a → getD (s′ .owner) x 0 ≡ suc a
-    got : (x : ℕ) → x ∈ vs → getD (s′ .owner) x 0 ≡ suc a
-    cost : zeros (s′ .owner) + length (s′ .work) ≤ zeros (s .owner) + length (s .work)
+  pub record Out (s s′ : State) (more vs : List ℕ) : Type 0 where
+    pub inv : Taking (s′ .owner) (s′ .work) more
+    pub still : (x : ℕ) → getD (s .owner) x 0 ≡ suc a → getD (s′ .owner) x 0 ≡ suc a
+    pub got : (x : ℕ) → x ∈ vs → getD (s′ .owner) x 0 ≡ suc a
+    pub cost : zeros (s′ .owner) + length (s′ .work) ≤ zeros (s .owner) + length (s .work)
 
-  out-nil : {s : State} {more : List ℕ} → Inv (s .owner) (s .work) more → Out s s more []
+  out-nil : {s : State} {more : List ℕ} → Taking (s .owner) (s .work) more → Out s s more []
   out-nil I = record { inv = I; still = λ x e. e; got = λ x m. absurd (List·Memᴰ·not-nil m); cost = omega arith }
 
   out-trans : {s s′ s″ : State} {more ws : List ℕ} (vs : List ℕ) → Out s s′ more vs → Out s′ s″ more ws → Out s s″ more (vs ++ ws)
@@ -57,8 +60,8 @@ module _ (w o : List ℕ) (v a : ℕ) where
       go x (inl m) = Q .still x (P .got x m)
       go x (inr m) = Q .got x m
 
-  module _ {u : ℕ} (f : Followed w o v u) where
-    link-step : {s : State} {more : List ℕ} (x : ℕ) → Inv (s .owner) (s .work) more → x ∈ next w u → x < locals w → Out s (linkLocal a s x) more (x ∷ [])
+  module _ {u : ℕ} (f : Onward w o v u) where
+    link-step : {s : State} {more : List ℕ} (x : ℕ) → Taking (s .owner) (s .work) more → x ∈ next w u → x < locals w → Out s (linkLocal a s x) more (x ∷ [])
     link-step {s} {more} x I m less = go (eqb (getD (s .owner) x 0) 0) refl
       where
         now : List ℕ
@@ -78,7 +81,7 @@ module _ (w o : List ℕ) (v a : ℕ) where
             by-cases (no q) = there y q ∙ e
 
         from′ : (y : ℕ) → Dec (y ≡ x) → (getD now y 0 ≡ getD o y 0) ⊎ ((getD now y 0 ≡ suc a) × Taken w o v y)
-        from′ y (yes q) = inr (here y q, record { by = u; followed = f; carries = rw q m })
+        from′ y (yes q) = inr (here y q, record { by = u; onward = f; carries = rw q m })
         from′ y (no q) = old (I .from y)
           where
             old : (getD (s .owner) y 0 ≡ getD o y 0) ⊎ ((getD (s .owner) y 0 ≡ suc a) × Taken w o v y) → (getD now y 0 ≡ getD o y 0) ⊎ ((getD now y 0 ≡ suc a) × Taken w o v y)
@@ -101,14 +104,14 @@ module _ (w o : List ℕ) (v a : ℕ) where
             old (inl e) = let k : x ∈ work = h (rw d at (e ∙ q .0)) in inl (rw d k)
             old (inr e) = later work (g y) (I .done y (inr (q .0, e .0)))
 
-        fresh : getD (s .owner) x 0 ≡ 0 → Followed w o v x
+        fresh : getD (s .owner) x 0 ≡ 0 → Onward w o v x
         fresh z = onwards f m (old (I .from x))
           where
             old : (getD (s .owner) x 0 ≡ getD o x 0) ⊎ ((getD (s .owner) x 0 ≡ suc a) × Taken w o v x) → getD o x 0 ≡ 0
             old (inl e) = sym e ∙ z
             old (inr e) = absurd (omega (arith, e .0))
 
-        pushed : getD (s .owner) x 0 ≡ 0 → (y : ℕ) → y ∈ (x ∷ s .work) → Followed w o v y
+        pushed : getD (s .owner) x 0 ≡ 0 → (y : ℕ) → y ∈ (x ∷ s .work) → Onward w o v y
         pushed z y (List·Memᴰ·head q) = rw q (fresh z)
         pushed z y (List·Memᴰ·tail k) = I .works y k
 
@@ -141,26 +144,28 @@ module _ (w o : List ℕ) (v a : ℕ) where
           cost = omega (arith, zeros-no-more (s .owner) x a);
         }
 
-    links : {more : List ℕ} (xs : List ℕ) (s : State) → Inv (s .owner) (s .work) more → ((x : ℕ) → x ∈ xs → (x ∈ next w u) × (x < locals w)) → Out s (foldl (linkLocal a) s xs) more xs
+    links : {more : List ℕ} (xs : List ℕ) (s : State) → Taking (s .owner) (s .work) more → ((x : ℕ) → x ∈ xs → (x ∈ next w u) × (x < locals w)) → Out s (foldl (linkLocal a) s xs) more xs
     links [] s I h = out-nil I
     links (x ∷ xs) s I h =
         let k = h x (List·Memᴰ·head refl) in
         let P = link-step x I (k .0) (k .1) in
         out-trans (x ∷ []) P (links xs (linkLocal a s x) (P .inv) (λ y m. h y (List·Memᴰ·tail m)))
 
-    follow : {more : List ℕ} (us : List Use) (s : State) → Inv (s .owner) (s .work) more → ((x : ℕ) → x ∈ bind us (carried w) → (x ∈ next w u) × (x < locals w)) → Out s (foldl (followUse w a u) s us) more (bind us (carried w))
-    follow [] s I h = out-nil I
-    follow {more} (x ∷ us) s I h =
-        let P = marks (hurts w u x) (links (carried w x) s I (λ y m. h y (Memᴰ·append-left (bind us (carried w)) m))) in
-        out-trans (carried w x) P (follow us (followUse w a u s x) (P .inv) (λ y m. h y (Memᴰ·append-right (carried w x) m)))
-      where
-        marks : {s s′ : State} {vs : List ℕ} (t : Bool) → Out s s′ more vs → Out s (cond t (mark a s′) s′) more vs
-        marks true P = record { inv = record { size = P .inv .size; from = P .inv .from; works = P .inv .works; done = P .inv .done }; still = P .still; got = P .got; cost = P .cost }
-        marks false P = P
+    -- xs are linked; a mark changes no owner
+    pub follow-step : {more : List ℕ} (xs : List ℕ) (harm : Bool) (s : State) → Taking (s .owner) (s .work) more → ((x : ℕ) → x ∈ xs → (x ∈ next w u) × (x < locals w)) → Out s (follow xs harm a s) more xs
+    follow-step xs true s I h = let P = links xs s I h in record { inv = P .inv; still = P .still; got = P .got; cost = P .cost }
+    follow-step xs false s I h = links xs s I h
+
+    uses-step : {more : List ℕ} (us : List Use) (s : State) → Taking (s .owner) (s .work) more → ((x : ℕ) → x ∈ bind us (carried w) → (x ∈ next w u) × (x < locals w)) → Out s (foldl (followUse w a u) s us) more (bind us (carried w))
+    uses-step [] s I h = out-nil I
+    uses-step (x ∷ us) s I h =
+        let P = follow-step (carried w x) (hurts w u x) s I (λ y m. h y (Memᴰ·append-left (bind us (carried w)) m)) in
+        out-trans (carried w x) P (uses-step us (followUse w a u s x) (P .inv) (λ y m. h y (Memᴰ·append-right (carried w x) m)))
 
   -- ---- the work list
 
-  popped : {u : ℕ} {owner work more vs : List ℕ} → Inv owner work more → work ≡ u ∷ vs → Inv owner vs (u ∷ more)
+  -- the latest local is taken from it
+  pub popped : {u : ℕ} {owner work more vs : List ℕ} → Taking owner work more → work ≡ u ∷ vs → Taking owner vs (u ∷ more)
   popped {u} {owner} {work} {more} {vs} I e = record { size = I .size; from = I .from; works = λ x m. I .works x (rw e (List·Memᴰ·tail m)); done = λ x k. pending x (I .done x k) }
     where
       at-work : (x : ℕ) → x ∈ (u ∷ vs) → (x ∈ vs) ⊎ ((x ∈ (u ∷ more)) ⊎ ((y : ℕ) → y ∈ next w x → getD owner y 0 ≡ suc a))
@@ -172,7 +177,7 @@ module _ (w o : List ℕ) (v a : ℕ) where
       pending x (inr (inl h)) = inr (inl (List·Memᴰ·tail h))
       pending x (inr (inr h)) = inr (inr h)
 
-  finish : {u : ℕ} {owner work more : List ℕ} → Inv owner work (u ∷ more) → ((y : ℕ) → y ∈ next w u → getD owner y 0 ≡ suc a) → Inv owner work more
+  finish : {u : ℕ} {owner work more : List ℕ} → Taking owner work (u ∷ more) → ((y : ℕ) → y ∈ next w u → getD owner y 0 ≡ suc a) → Taking owner work more
   finish {u} {owner} {work} {more} I D = record { size = I .size; from = I .from; works = I .works; done = λ x k. pending x (I .done x k) }
     where
       pending : (x : ℕ) → (x ∈ work) ⊎ ((x ∈ (u ∷ more)) ⊎ ((y : ℕ) → y ∈ next w x → getD owner y 0 ≡ suc a)) → (x ∈ work) ⊎ ((x ∈ more) ⊎ ((y : ℕ) → y ∈ next w x → getD owner y 0 ≡ suc a))
@@ -181,31 +186,37 @@ module _ (w o : List ℕ) (v a : ℕ) where
       pending x (inr (inl (List·Memᴰ·tail h))) = inr (inl h)
       pending x (inr (inr h)) = inr (inr h)
 
+  -- a local that is followed to its end is done
+  pub followed : {u : ℕ} {s s′ : State} {more xs : List ℕ} → Out s s′ (u ∷ more) xs → ((y : ℕ) → y ∈ next w u → y ∈ xs) → Taking (s′ .owner) (s′ .work) more
+  followed P f = finish (P .inv) (λ y m. P .got y (f y m))
+
+  -- at the end exactly what is to be taken is taken
+  ended-done : {owner : List ℕ} → Taking owner [] [] → {x : ℕ} → Onward w o v x → (y : ℕ) → y ∈ next w x → getD owner y 0 ≡ suc a
+  ended-done {owner} I {x} f = go f
+    where
+      out : {x : ℕ} → (x ∈ []) ⊎ ((x ∈ []) ⊎ ((y : ℕ) → y ∈ next w x → getD owner y 0 ≡ suc a)) → (y : ℕ) → y ∈ next w x → getD owner y 0 ≡ suc a
+      out (inl h) = absurd (List·Memᴰ·not-nil h)
+      out (inr (inl h)) = absurd (List·Memᴰ·not-nil h)
+      out (inr (inr h)) = h
+
+      go : {x : ℕ} → Onward w o v x → (y : ℕ) → y ∈ next w x → getD owner y 0 ≡ suc a
+      go {x} (itself q) = out (I .done x (inl q))
+      go {x} (onwards f m z) = out (I .done x (inr (z, go f x m)))
+
+  -- ---- the source's work list
+
   module _ (small : (u x : ℕ) → x ∈ next w u → x < locals w) where
-    drained : (m : ℕ) (s : State) → Inv (s .owner) (s .work) [] → zeros (s .owner) + length (s .work) ≤ m → Inv (drain m w a s .owner) [] []
+    drained : (m : ℕ) (s : State) → Taking (s .owner) (s .work) [] → zeros (s .owner) + length (s .work) ≤ m → Taking (drain m w a s .owner) [] []
     drained zero s I h = let e : s .work ≡ [] = length-none (s .work) (omega arith) in rw e at I
     drained (suc m) s I h = go (s .work) refl (drained m)
       where
-        go : (vs : List ℕ) → s .work ≡ vs → ((t : State) → Inv (t .owner) (t .work) [] → zeros (t .owner) + length (t .work) ≤ m → Inv (drain m w a t .owner) [] [])
-            → Inv (pop (λ v t. drain m w a (foldl (followUse w a v) t (uses w v))) vs s .owner) [] []
+        go : (vs : List ℕ) → s .work ≡ vs → ((t : State) → Taking (t .owner) (t .work) [] → zeros (t .owner) + length (t .work) ≤ m → Taking (drain m w a t .owner) [] [])
+            → Taking (pop (λ v t. drain m w a (foldl (followUse w a v) t (uses w v))) vs s .owner) [] []
         go [] e f = rw e at I
         go (u ∷ vs) e f =
             let t : State = record { owner = s .owner; marks = s .marks; work = vs } in
-            let P = follow (I .works u (rw e (List·Memᴰ·head refl))) (uses w u) t (popped I e) (λ x k. (k, small u x k)) in
-            f (foldl (followUse w a u) t (uses w u)) (finish (P .inv) (P .got)) (omega (arith, P .cost, ap length e))
-
-    -- at the end exactly what is to be taken is taken
-    ended-done : {owner : List ℕ} → Inv owner [] [] → {x : ℕ} → Followed w o v x → (y : ℕ) → y ∈ next w x → getD owner y 0 ≡ suc a
-    ended-done {owner} I {x} f = go f
-      where
-        out : {x : ℕ} → (x ∈ []) ⊎ ((x ∈ []) ⊎ ((y : ℕ) → y ∈ next w x → getD owner y 0 ≡ suc a)) → (y : ℕ) → y ∈ next w x → getD owner y 0 ≡ suc a
-        out (inl h) = absurd (List·Memᴰ·not-nil h)
-        out (inr (inl h)) = absurd (List·Memᴰ·not-nil h)
-        out (inr (inr h)) = h
-
-        go : {x : ℕ} → Followed w o v x → (y : ℕ) → y ∈ next w x → getD owner y 0 ≡ suc a
-        go {x} (itself q) = out (I .done x (inl q))
-        go {x} (onwards f m z) = out (I .done x (inr (z, go f x m)))
+            let P = uses-step (I .works u (rw e (List·Memᴰ·head refl))) (uses w u) t (popped I e) (λ x k. (k, small u x k)) in
+            f (foldl (followUse w a u) t (uses w u)) (followed P (λ y k. k)) (omega (arith, P .cost, ap length e))
 
 -- ---- the definition's side
 
@@ -232,32 +243,32 @@ give-out o (v ∷ vs) a x n = give-out (set o v (suc a)) vs a x (λ m. n (List·
 -- ---- both
 
 module _ (w : List ℕ) (good : WellFormed w) where
-  small : (u x : ℕ) → x ∈ next w u → x < locals w
+  pub small : (u x : ℕ) → x ∈ next w u → x < locals w
   small u x m = link-less w good (next-link w m)
 
   module _ (a : ℕ) (less : a < length (allocs w)) (o : List ℕ) (size : length o ≡ locals w) where
-    v : ℕ
+    abbrev v : ℕ
     v = base w (allocAt w a)
 
     reached : Set
     reached = spread w (unowned w o) v
 
-    reached-followed : (x : ℕ) → has reached x ≡ true → Followed w o v x
+    reached-onward : (x : ℕ) → has reached x ≡ true → Onward w o v x
     unfolding reached
-    reached-followed = spread-sound (unowned w o) w v (Followed w o v) (itself refl) (λ s h x m.
+    reached-onward = spread-sound (unowned w o) w v (Onward w o v) (itself refl) (λ s h x m.
         let p = keep-out (λ (x : ℕ). eqb (getD o x 0) 0 && not (has s x)) (nextOf w s) m in
         let q = bind-out (next w) (members s) (p .0) in
         onwards (h (q .0) (members-out s (q .1))) (q .2) (eqb-true (getD o x 0) 0 (and-true-left (eqb (getD o x 0) 0) (not (has s x)) (p .1))))
 
-    followed-reached : {x : ℕ} → Followed w o v x → has reached x ≡ true
-    unfolding reached v
-    followed-reached {x} (itself q) = spread-base (unowned w o) w v q (base-less w good a less)
-    followed-reached {x} (onwards {u} f m z) =
+    onward-reached : {x : ℕ} → Onward w o v x → has reached x ≡ true
+    unfolding reached
+    onward-reached {x} (itself q) = spread-base (unowned w o) w v q (base-less w good a less)
+    onward-reached {x} (onwards {u} f m z) =
         ⊎-elim
         (λ (t : has reached x ≡ true). t)
         (λ (t : has reached x ≡ false).
         spread-step (unowned w o) w v
-        (keep-mem (λ (x : ℕ). eqb (getD o x 0) 0 && not (has reached x)) (bind-mem (next w) (members-in reached u (followed-reached f)) m)
+        (keep-mem (λ (x : ℕ). eqb (getD o x 0) 0 && not (has reached x)) (bind-mem (next w) (members-in reached u (onward-reached f)) m)
         (both-true (eqb (getD o x 0) 0) (not (has reached x)) (eq-eqb (getD o x 0) 0 z) (ap not t)))
         (small u x m))
         (bool-or (has reached x))
@@ -265,32 +276,24 @@ module _ (w : List ℕ) (good : WellFormed w) where
     taken : List ℕ
     taken = nextOf w reached
 
-    -- one turn of the source gives the owners that one turn of the definition gives
-    turn : (marks : Set) (work : List ℕ) → propagate w (record { owner = o; marks = marks; work = work }) a .owner ≡ link w o a
-    unfolding reached v taken
-    turn marks work = ext-getD 0 after (link w o a) (I .size ∙ sym (length-give o taken a ∙ size)) (λ x h. each x (omega (arith, I .size)) (bool-or (mem x taken)))
+    -- a turn begins with the base
+    pub first : Taking w o v a o (v ∷ []) []
+    first = record { size = size; from = λ x. inl refl; works = λ x m. itself (List·Memᴰ·eq-of-singleton m); done = λ x k. begin x k }
       where
-        s : State
-        s = record { owner = o; marks = marks; work = v ∷ [] }
+        begin : (x : ℕ) → (x ≡ v) ⊎ ((getD o x 0 ≡ 0) × (getD o x 0 ≡ suc a)) → (x ∈ (v ∷ [])) ⊎ ((x ∈ []) ⊎ ((y : ℕ) → y ∈ next w x → getD o y 0 ≡ suc a))
+        begin x (inl q) = inl (List·Memᴰ·head q)
+        begin x (inr q) = absurd (omega arith)
 
-        after : List ℕ
-        after = drain (suc (locals w)) w a s .owner
-
-        I₀ : Inv w o v a o (v ∷ []) []
-        I₀ = record { size = size; from = λ x. inl refl; works = λ x m. itself (List·Memᴰ·eq-of-singleton m); done = λ x k. start x k }
-          where
-            start : (x : ℕ) → (x ≡ v) ⊎ ((getD o x 0 ≡ 0) × (getD o x 0 ≡ suc a)) → (x ∈ (v ∷ [])) ⊎ ((x ∈ []) ⊎ ((y : ℕ) → y ∈ next w x → getD o y 0 ≡ suc a))
-            start x (inl q) = inl (List·Memᴰ·head q)
-            start x (inr q) = absurd (omega arith)
-
-        I : Inv w o v a after [] []
-        I = drained w o v a small (suc (locals w)) s I₀ (omega (arith, zeros-most o))
-
+    -- once nothing is left, the owners are those that one turn of the definition gives
+    pub turned : {after : List ℕ} → Taking w o v a after [] [] → after ≡ link w o a
+    unfolding reached taken
+    turned {after} I = ext-getD 0 after (link w o a) (I .size ∙ sym (length-give o taken a ∙ size)) (λ x h. each x (omega (arith, I .size)) (bool-or (mem x taken)))
+      where
         each : (x : ℕ) → x < locals w → (mem x taken ≡ true) ⊎ (mem x taken ≡ false) → getD after x 0 ≡ getD (give o taken a) x 0
         each x h (inl t) =
             let m = mem-in x taken t in
             let q = bind-out (next w) (members reached) m in
-            ended-done w o v a small I (reached-followed (q .0) (members-out reached (q .1))) x (q .2) ∙ sym (give-in o a (omega arith) m)
+            ended-done w o v a I (reached-onward (q .0) (members-out reached (q .1))) x (q .2) ∙ sym (give-in o a (omega arith) m)
         each x h (inr t) = go (I .from x)
           where
             not-in : ¬ (x ∈ taken)
@@ -298,9 +301,13 @@ module _ (w : List ℕ) (good : WellFormed w) where
 
             go : (getD after x 0 ≡ getD o x 0) ⊎ ((getD after x 0 ≡ suc a) × Taken w o v x) → getD after x 0 ≡ getD (give o taken a) x 0
             go (inl e) = e ∙ sym (give-out o taken a x not-in)
-            go (inr e) = absurd (not-in (bind-mem (next w) (members-in reached (e .1 .by) (followed-reached (e .1 .followed))) (e .1 .carries)))
+            go (inr e) = absurd (not-in (bind-mem (next w) (members-in reached (e .1 .by) (onward-reached (e .1 .onward))) (e .1 .carries)))
 
-  link-length : (a : ℕ) (o : List ℕ) → length (link w o a) ≡ length o
+    -- one turn of the source
+    turn : (marks : Set) (work : List ℕ) → propagate w (record { owner = o; marks = marks; work = work }) a .owner ≡ link w o a
+    turn marks work = turned (drained w o v a small (suc (locals w)) (record { owner = o; marks = marks; work = v ∷ [] }) first (omega (arith, zeros-most o)))
+
+  pub link-length : (a : ℕ) (o : List ℕ) → length (link w o a) ≡ length o
   link-length a o = length-give o (nextOf w (spread w (unowned w o) (base w (allocAt w a)))) a
 
   turns : (k m : ℕ) (s : State) → length (s .owner) ≡ locals w → k + m ≡ length (allocs w) → foldl (propagate w) s (count k m) .owner ≡ foldl (link w) (s .owner) (count k m)
@@ -312,4 +319,4 @@ module _ (w : List ℕ) (good : WellFormed w) where
 
   -- the source's owners are the owners
   pub source-owners : sourceState w .owner ≡ owners w
-  source-owners = turns 0 (length (allocs w)) (sourceStart w) (bases-length (λ (a : ℕ). base w (allocAt w a)) (replicate (locals w) 0) (upto (length (allocs w))) ∙ length-replicate (locals w) 0) (omega arith)
+  source-owners = turns 0 (length (allocs w)) (start w) (start-length w) (omega arith)

@@ -1,29 +1,25 @@
--- What linking one local does in the source's marking: each step keeps an invariant on owners and marks. Assumes nothing.
+-- What linking one local does to owners and marks: each step keeps an invariant. Assumes nothing.
 use mathlib.Core.Path.{_≡_, refl, sym, _∙_, ap}
 use mathlib.Core.Logic.{_⊎_, inl, inr}
-use mathlib.Core.Bool.{Bool, true, false, cond}
+use mathlib.Core.Bool.{Bool, true, false, _||_, cond}
 use Prim.Native.Nat.{ℕ, zero, suc, _+_, _-_, _≤_, _<_}
 use native.Mathlib.Omega.{arith}
 use native.Mathlib.Decide.{ℕ-discrete, decLt}
 use mathlib.Core.List.{List, [], _∷_, List·Memᴰ·head, List·Memᴰ·tail, List·Memᴰ·not-nil}
-use lib.ListN.{length, getD, set, replicate, length-set, List·getD-eq-default}
+use lib.ListN.{length, getD, set, replicate, length-set, length-replicate, List·getD-eq-default}
 use lib.Seq.{getD-set-same, getD-set-other}
 use lib.Dec.{eqb}
 use borrow.Author.Tests.{eqb-true, eqb-false, eq-eqb, ne-eqb}
-use Rattle.plank_core.specs.Lists.{foldl, any, _∈_}
+use Rattle.plank_core.specs.Lists.{foldl, upto, _∈_}
 use Rattle.sir_data.specs.Records.{locals}
-use Rattle.sir_analyses.specs.Liveness.{uses, Set, has, addAll}
-use Rattle.sir_analyses.specs.Allocation.{allocs, allocAt, base, next}
+use Rattle.sir_analyses.specs.Liveness.{Set, has, addAll}
+use Rattle.sir_analyses.specs.Allocation.{allocs, allocAt, base, bases, next, escapes, isReturned}
+use Rattle.sir_analyses.specs.Discovery.{zeros}
+use Rattle.sir_analyses.specs.Propagation.{State, linkLocal}
 use Rattle.sir_analyses.specs.Claims.{Reached, Marked, met}
 use Rattle.sir_analyses.proofs.SetLaws.{length-addAll, add-keeps, add-in, add-out}
-use Rattle.sir_analyses.proofs.Source.{State, linkLocal, hurts}
 
 -- ---- owners that are not yet given
-
-unfoldable pub zeros : List ℕ → ℕ
-zeros [] = 0
-zeros (zero ∷ xs) = suc (zeros xs)
-zeros (suc x ∷ xs) = zeros xs
 
 pub zeros-most : (xs : List ℕ) → zeros xs ≤ length xs
 unfolding zeros
@@ -52,7 +48,7 @@ module _ (f : ℕ → ℕ) where
   abbrev giveBase : List ℕ → ℕ → List ℕ
   giveBase owner a = set owner (f a) (suc a)
 
-  pub bases-length : (owner ks : List ℕ) → length (foldl giveBase owner ks) ≡ length owner
+  bases-length : (owner ks : List ℕ) → length (foldl giveBase owner ks) ≡ length owner
   bases-length owner [] = refl
   bases-length owner (k ∷ ks) = bases-length (giveBase owner k) ks ∙ length-set owner (f k) (suc k)
 
@@ -126,10 +122,13 @@ module _ (w : List ℕ) where
   abbrev pub baseOf : ℕ → ℕ
   baseOf a = base w (allocAt w a)
 
-  -- all that x carries is joined to d, and what marks in the uses of x marked d
+  pub start-length : length (bases w) ≡ locals w
+  start-length = bases-length baseOf (replicate (locals w) 0) (upto n) ∙ length-replicate (locals w) 0
+
+  -- all that x carries is joined to d, and where x harms d is marked
   pub record Done (root : ℕ → ℕ) (marks : Set) (x d : ℕ) : Type 0 where
     pub links : (y : ℕ) → y ∈ next w x → Joined root marks d y
-    pub hurt : any (hurts w x) (uses w x) ≡ true → has marks d ≡ true
+    pub hurt : (escapes w x || isReturned w x) ≡ true → has marks d ≡ true
 
   -- allocation a is being followed; `root` is the first owner of each local; `more` are the locals whose turn comes later
   pub record Inv (a : ℕ) (s : State) (more : List ℕ) : Type 0 where
@@ -328,7 +327,7 @@ module _ (w : List ℕ) where
       go zero e false f false g = absurd (eqb-false 0 0 f refl)
       go (suc c) e false f false g = other (suc c) c refl e (λ q. eqb-false (suc c) (suc a) g (ap suc q))
 
-  -- all links of one use
+  -- all links of a list
   pub fold-step : {a : ℕ} {more : List ℕ} (vs : List ℕ) (s : State) (I : Inv a s more) → a < n → ((v : ℕ) → v ∈ vs → (v < locals w) × Reached w a v)
       → (G : Grown I (foldl (linkLocal a) s vs)) × ((v : ℕ) → v ∈ vs → Joined (G .inv .root) (foldl (linkLocal a) s vs .marks) a v)
   fold-step [] s I less f = (grown-refl I, λ v m. absurd (List·Memᴰ·not-nil m))

@@ -24,12 +24,12 @@ use Rattle.sir_analyses.proofs.Marks.{reach-length}
 use Rattle.sir_analyses.proofs.Merging.{Spans, nothing-spans, Normal, Apart, spans-in, put}
 use Rattle.sir_analyses.proofs.Scans.{piece, scan, liveIn}
 use Rattle.sir_analyses.proofs.Lifetime.{pieces, merged-unique}
-use Rattle.sir_analyses.proofs.Sweep.{meet, nonempty, liveAtEnd, liveBefore, shut, note, Sweep, sweepEnd, sweepOp, sweepBlock, sweepFrom, sweep}
+use Rattle.sir_analyses.specs.Sweep.{meet, nonempty, liveAtEnd, liveBefore, shut, note, Sweep, sweepEnd, sweepOp, sweepBlock, sweepFrom, sweep}
 use Rattle.sir_analyses.proofs.SweepSteps.{Ahead, end-ahead, Covers, inside, onwards, Step, Cell, step-ahead, step-out, step-old, step-new, start-out, start-old, start-new, close-covers, shut-covers, scan-step, note-step, note-open}
 
 -- ---- the sets
 
-has-meet : (r s : Set) (v : ℕ) → has (meet r s) v ≡ (has r v && has s v)
+pub has-meet : (r s : Set) (v : ℕ) → has (meet r s) v ≡ (has r v && has s v)
 has-meet [] s v = refl
 has-meet (x ∷ r) [] v = go (has (x ∷ r) v)
   where
@@ -73,12 +73,12 @@ meet-remove r s vs e = ext-getD false (meet r (removeAll s vs)) (removeAll (meet
         let l : v < length (meet r s) = omega (arith, length-meet r s e) in
         rw (has-meet, has-removeAll s vs v (omega arith), has-removeAll (meet r s) vs v l, has-meet) (tests (has r v) (has s v) (not (mem v vs)))
 
-nonempty-has : (s : Set) → nonempty s ≡ true → (v : ℕ) × (has s v ≡ true)
+pub nonempty-has : (s : Set) → nonempty s ≡ true → (v : ℕ) × (has s v ≡ true)
 nonempty-has [] t = none false t refl
 nonempty-has (true ∷ s) t = (0, refl)
 nonempty-has (false ∷ s) t = let r = nonempty-has s t in (suc (r .0), r .1)
 
-has-nonempty : (s : Set) (v : ℕ) → has s v ≡ true → nonempty s ≡ true
+pub has-nonempty : (s : Set) (v : ℕ) → has s v ≡ true → nonempty s ≡ true
 has-nonempty [] v t = none false t refl
 has-nonempty (true ∷ s) v t = refl
 has-nonempty (false ∷ s) zero t = none false t refl

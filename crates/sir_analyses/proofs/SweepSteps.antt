@@ -11,7 +11,7 @@ use borrow.Author.Tests.{eqb-true, eqb-false}
 use Rattle.sir_analyses.specs.Liveness.{blockEnd, Interval, Scan, close}
 use Rattle.sir_analyses.proofs.Merging.{Spans, nothing-spans}
 use Rattle.sir_analyses.proofs.Scans.{piece}
-use Rattle.sir_analyses.proofs.Sweep.{shut, note}
+use Rattle.sir_analyses.specs.Sweep.{shut, note}
 
 -- ---- what a scan covers
 

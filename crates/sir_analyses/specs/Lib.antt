@@ -6,9 +6,13 @@ pub mod Uses
 pub mod Tables
 pub mod Allocation
 pub mod Bases
+pub mod Pointers
+pub mod Propagation
+pub mod Discovery
 pub mod Answers
 pub mod Loading
 pub mod Scanning
+pub mod Sweep
 pub mod Claims
 pub mod Walk
 pub mod Examples

@@ -1,19 +1,32 @@
-// Allocations: the allocation operations met in visited blocks, in the order's sequence.
+// Allocations: the allocation operations met in visited blocks, in the order's sequence; their owners and marks.
+use plank_core::dense_index_set::list;
+use plank_core::index::AllocId;
 use plank_core::index::BlockId;
+use plank_core::index::LocalId;
 use plank_core::index::OpIdx;
 use plank_core::rows::row_add;
+use plank_core::rows::row_contains;
+use plank_core::rows::row_of;
 use sir_data::codes::is_alloc;
 use sir_data::records::block_operations;
 use sir_data::records::op_outputs;
 use sir_data::records::op_word;
 ghost use mathlib.Core.Path.{_≡_};
-ghost use Prim.Native.Nat.{_<_};
-ghost use lib.ListN.{length};
-ghost use Rattle.sir_data.specs.Records.{blocks};
+ghost use mathlib.Core.Bool.{true, false};
+ghost use mathlib.Core.List.{_∷_, []};
+ghost use Prim.Native.Nat.{ℕ, _+_, _*_, _<_, _≤_, suc};
+ghost use lib.ListN.{length, getD, replicate};
+ghost use Rattle.plank_core.specs.DenseIndexSet.{contains};
+ghost use Rattle.sir_data.specs.Records.{blocks, operations, locals, code, outs};
+ghost use Rattle.sir_data.specs.Codes.{isAlloc};
 ghost use Rattle.sir_data.specs.WellFormed.{WellFormed};
 ghost use Rattle.sir_analyses.specs.Order.{blocksRpo};
-ghost use Rattle.sir_analyses.specs.Allocation.{rule12};
+ghost use Rattle.sir_analyses.specs.Allocation.{rule12, allocs, bases};
 ghost use Rattle.sir_analyses.specs.Bases.{basesIn, Added};
+ghost use Rattle.sir_analyses.specs.Visiting.{Listed};
+ghost use Rattle.sir_analyses.specs.Pointers.{PointerRows};
+ghost use Rattle.sir_analyses.specs.Propagation.{linkLocal, follow};
+ghost use Rattle.sir_analyses.specs.Discovery.{allocKeys, blockKeys, Room, StepTaken, linksIn, Propagated, Discovered};
 
 // Adds the base locals of a block's allocations to a set: whether none was there before, nor came twice.
 fn add_bases(words: &[u32], b: BlockId, bases: &mut [u64]) -> bool
@@ -52,4 +65,178 @@ pub fn rule_12(words: &[u32], rpo: &[u32]) -> bool
         i += 1;
     }
     false
+}
+
+// The allocations of a block behind the first `at` of `out`, each as one number: 1024 times the block, plus the operation.
+fn block_allocations(words: &[u32], b: BlockId, out: &mut [u32], at: usize) -> usize
+    requires { ⌜ WellFormed (now words) ⌝ }
+    requires { ⌜ (b .0 < blocks (now words)) × (at + length (blockKeys (now words) (b .0)) ≤ length (now out)) ⌝ }
+    ensures { λ r. ⌜ Listed (blockKeys (now (words .entry)) (b .0)) at (now (out .entry)) (now (out .exit)) r ⌝ }
+{
+    let span = block_operations(words, b);
+    let last = span.end;
+    let mut m = at;
+    let mut o = span.start;
+    while o < last {
+        let id = o;
+        o += 1;
+        if is_alloc(op_word(words, OpIdx(id), 0)) {
+            out[m] = 1024 * b.0 + id;
+            m += 1;
+        }
+    }
+    m
+}
+
+// The allocations of all visited blocks, in the order's sequence.
+pub fn find_allocations(words: &[u32], rpo: &[u32], out: &mut [u32]) -> usize
+    requires { ⌜ WellFormed (now words) ⌝ }
+    requires { ⌜ (now rpo ≡ blocksRpo (now words)) × (length (allocKeys (now words)) ≤ length (now out)) ⌝ }
+    ensures { λ r. ⌜ Listed (allocKeys (now (words .entry))) 0 (now (out .entry)) (now (out .exit)) r ⌝ }
+{
+    let mut m: usize = 0;
+    let mut i: usize = 0;
+    while i < rpo.len() {
+        m = block_allocations(words, BlockId(rpo[i]), out, m);
+        i += 1;
+    }
+    m
+}
+
+// The base local of an allocation operation.
+pub fn base_ptr(words: &[u32], o: OpIdx) -> LocalId
+    requires { ⌜ WellFormed (now words) ⌝ }
+    requires { ⌜ (o .0 < operations (now words)) × (isAlloc (code (now words) (o .0)) ≡ true) ⌝ }
+    ensures { λ r. ⌜ (r .0 ≡ getD (outs (now (words .entry)) (o .0)) 0 0) × (r .0 < locals (now (words .entry))) ⌝ }
+{
+    let outputs = op_outputs(words, o);
+    LocalId(outputs[0])
+}
+
+// Every base first for its own.
+fn own_bases(words: &[u32], keys: &[u32], owner: &mut [u32])
+    requires { ⌜ WellFormed (now words) ⌝ }
+    requires { ⌜ (now keys ≡ allocKeys (now words)) × (length (now keys) ≤ 512) × (now owner ≡ replicate 512 0) ⌝ }
+    ensures { λ _. ⌜ ((v : ℕ) → v < locals (now (words .entry)) → getD (now (owner .exit)) v 0 ≡ getD (bases (now (words .entry))) v 0) × ((v : ℕ) → getD (now (owner .exit)) v 0 ≤ length (allocs (now (words .entry)))) × (length (now (owner .exit)) ≡ 512) ⌝ }
+{
+    let mut a: usize = 0;
+    while a < keys.len() {
+        let base = base_ptr(words, OpIdx(keys[a] % 1024));
+        a += 1;
+        owner[base.0 as usize] = a as u32;
+    }
+}
+
+// A local comes to allocation a: its new owner replaces the old one, and a local that nobody had goes on the work list. Where
+// another had it, both are marked.
+fn link_local_to_alloc(
+    owner: &mut [u32],
+    marks: &mut [u64],
+    work: &mut [u32],
+    n: usize,
+    local: LocalId,
+    a: AllocId,
+) -> usize
+    requires { ⌜ Room (now owner) (now marks) (now work) n ⌝ }
+    requires { ⌜ (local .0 < 512) × (a .0 < 512) ⌝ }
+    ensures { λ r. ⌜ StepTaken (local .0 ∷ []) (a .0) (λ s. linkLocal (a .0) s (local .0)) (now (owner .entry)) (now (marks .entry)) (now (work .entry)) n (now (owner .exit)) (now (marks .exit)) (now (work .exit)) r ⌝ }
+{
+    let at = local.0 as usize;
+    let old = owner[at];
+    owner[at] = a.0 + 1;
+    if old == 0 {
+        work[n] = local.0;
+        return n + 1;
+    }
+    if old != a.0 + 1 {
+        row_add(marks, 0, a.0);
+        row_add(marks, 0, old - 1);
+    }
+    n
+}
+
+// Links all that a local carries on, and marks allocation a where the local harms.
+fn follow_local(
+    links: &[u64],
+    harms: &[u64],
+    owner: &mut [u32],
+    marks: &mut [u64],
+    work: &mut [u32],
+    n: usize,
+    local: LocalId,
+    a: AllocId,
+) -> usize
+    requires { ⌜ (length (now links) ≡ 4096) × (length (now harms) ≡ 8) ⌝ }
+    requires { ⌜ Room (now owner) (now marks) (now work) n ⌝ }
+    requires { ⌜ (local .0 < 512) × (a .0 < 512) ⌝ }
+    ensures { λ r. ⌜ StepTaken (linksIn (now (links .entry)) (local .0)) (a .0) (follow (linksIn (now (links .entry)) (local .0)) (contains (now (harms .entry)) (local .0)) (a .0)) (now (owner .entry)) (now (marks .entry)) (now (work .entry)) n (now (owner .exit)) (now (marks .exit)) (now (work .exit)) r ⌝ }
+{
+    let mut found = [0u32; 512];
+    let count = list(row_of(links, local.0 as usize), &mut found);
+    let mut m = n;
+    let mut i: usize = 0;
+    while i < count {
+        m = link_local_to_alloc(owner, marks, work, m, LocalId(found[i]), a);
+        i += 1;
+    }
+    if row_contains(harms, 0, local.0) {
+        row_add(marks, 0, a.0);
+    }
+    m
+}
+
+// Follows allocation a from its base, and from every local that nobody had.
+fn propagate_pointers_and_mark_escapes(
+    links: &[u64],
+    harms: &[u64],
+    owner: &mut [u32],
+    marks: &mut [u64],
+    work: &mut [u32],
+    base: LocalId,
+    a: AllocId,
+)
+    requires { ⌜ (length (now links) ≡ 4096) × (length (now harms) ≡ 8) ⌝ }
+    requires { ⌜ Room (now owner) (now marks) (now work) 0 ⌝ }
+    requires { ⌜ (base .0 < 512) × (a .0 < 512) ⌝ }
+    ensures { λ _. ⌜ Propagated (now (links .entry)) (now (harms .entry)) (a .0) (base .0) (now (owner .entry)) (now (marks .entry)) (now (work .entry)) (now (owner .exit)) (now (marks .exit)) (now (work .exit)) ⌝ }
+{
+    work[0] = base.0;
+    let mut n: usize = 1;
+    while 0 < n {
+        n -= 1;
+        let local = LocalId(work[n]);
+        n = follow_local(links, harms, owner, marks, work, n, local, a);
+    }
+}
+
+// Owners and marks: every base first for its own, then allocations in turn.
+pub fn discover_allocations(
+    words: &[u32],
+    keys: &[u32],
+    links: &[u64],
+    harms: &[u64],
+    owner: &mut [u32],
+    marks: &mut [u64],
+)
+    requires { ⌜ WellFormed (now words) ⌝ }
+    requires { ⌜ (rule12 (now words) ≡ false) × (now keys ≡ allocKeys (now words)) × PointerRows (now words) (now links) (now harms) ⌝ }
+    requires { ⌜ (now owner ≡ replicate 512 0) × (now marks ≡ replicate 8 0) ⌝ }
+    ensures { λ _. ⌜ Discovered (now (words .entry)) (now (owner .exit)) (now (marks .exit)) ⌝ }
+{
+    own_bases(words, keys, owner);
+    let mut work = [0u32; 513];
+    let mut i: usize = 0;
+    while i < keys.len() {
+        let base = base_ptr(words, OpIdx(keys[i] % 1024));
+        propagate_pointers_and_mark_escapes(
+            links,
+            harms,
+            owner,
+            marks,
+            &mut work,
+            base,
+            AllocId(i as u32),
+        );
+        i += 1;
+    }
 }

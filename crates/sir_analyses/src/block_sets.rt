@@ -30,7 +30,7 @@ ghost use Rattle.sir_analyses.specs.Liveness.{has, useSet, defSet};
 ghost use Rattle.sir_analyses.specs.Tables.{Adds, endReads, EndRows, OperandRows, BlockRows, BlocksSeen, PredecessorRows};
 
 // Adds the locals of a run to a row.
-fn add_run(table: &mut [u64], row: usize, run: &[u32])
+pub fn add_run(table: &mut [u64], row: usize, run: &[u32])
     requires { ⌜ 8 * row + 8 ≤ length (now table) ⌝ }
     requires { ⌜ ((v : ℕ) → v ∈ now run → v < 512) ⌝ }
     ensures { λ _. ⌜ Adds (now (table .entry)) (λ r i. eqb r row && mem i (now (run .entry))) (now (table .exit)) ⌝ }

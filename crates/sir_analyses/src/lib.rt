@@ -6,6 +6,8 @@ pub mod def_use;
 pub mod loading;
 pub mod local_intervals;
 pub mod local_liveness;
+pub mod merged_intervals;
+pub mod pointer_links;
 pub mod predecessors;
 pub mod questions;
 pub mod reverse_post_order;

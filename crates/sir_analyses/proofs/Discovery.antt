@@ -1,0 +1,176 @@
+-- Allocations as numbers, block by block and read back, and their bases. Assumes nothing.
+use mathlib.Core.Path.{_≡_, refl, sym, ap, ap₂, subst, _∙_}
+use mathlib.Core.Logic.{_⊎_, inl, inr}
+use mathlib.Core.Bool.{Bool, true, false, not, Bool·not-not}
+use mathlib.Core.List.{List, [], _∷_, _++_, map}
+use Prim.Native.Nat.{ℕ, zero, suc, _+_, _*_, _/_, _%_, _≤_, _<_}
+use native.Mathlib.Omega.{arith}
+use native.Mathlib.Numerals.{add-one}
+use lib.ListN.{length, getD, drop, set, replicate, length-set, length-replicate, drop-of-length-le}
+use lib.Seq.{drop-cons}
+use lib.Dec.{eqb}
+use borrow.Author.Tests.{eqb-true, not-true}
+use Rattle.plank_core.specs.Lists.{foldl, range, bind, keep, upto, mem, distinct, oneIf, _∈_}
+use Rattle.plank_core.specs.laws.Lists.{and-true-left, and-true-right, none, map-each, foldl-keeps, mem-place, times, times-mem, in-mem, split}
+use Rattle.plank_core.specs.laws.Loops.{upto-suc, range-next, range-none, map-append, once-most}
+use Rattle.sir_data.specs.Records.{operations, locals, blockWord, ops, code}
+use Rattle.sir_data.specs.Codes.{isAlloc}
+use Rattle.sir_data.specs.WellFormed.{WellFormed}
+use Rattle.sir_analyses.specs.Order.{blocksRpo}
+use Rattle.sir_analyses.specs.Allocation.{Alloc, allocs, noAlloc, allocAt, base, bases, rule12}
+use Rattle.sir_analyses.specs.Discovery.{allocKey, allocKeys, blockKeys}
+use Rattle.sir_analyses.proofs.Accepted.{listed-op}
+use Rattle.sir_analyses.proofs.Marks.{allocOf, alloc-known, alloc-in, base-less}
+use Rattle.sir_analyses.proofs.Passes.{foldl-snoc}
+use Rattle.sir_analyses.proofs.Linking.{set-both, set-most}
+
+-- ---- operation by operation
+
+abbrev pub keysOf : List ℕ → ℕ → List ℕ → List ℕ
+keysOf w b os = map (λ o. 1024 * b + o) (keep (λ o. isAlloc (code w o)) os)
+
+module _ (w : List ℕ) (b o last : ℕ) where
+  pub key-next : o < last → isAlloc (code w o) ≡ true → keysOf w b (range o last) ≡ (1024 * b + o) ∷ keysOf w b (range (o + 1) last)
+  key-next h t = ap (keysOf w b) (range-next o last h) ∙ rw t
+
+  pub key-skip : o < last → isAlloc (code w o) ≡ false → keysOf w b (range o last) ≡ keysOf w b (range (o + 1) last)
+  key-skip h t = ap (keysOf w b) (range-next o last h) ∙ rw t
+
+  pub key-end : last ≤ o → keysOf w b (range o last) ≡ []
+  key-end h = rw (range-none o last h)
+
+pub block-keys : (w : List ℕ) (b s e : ℕ) → s ≡ blockWord w b 4 → e ≡ blockWord w b 5 → blockKeys w b ≡ keysOf w b (range s e)
+unfolding blockKeys
+block-keys w b s e p q = rw (p, q)
+
+-- ---- block by block
+
+listed-keys : (w bs : List ℕ) → map allocKey (bind bs (λ b. map (allocOf b) (keep (λ o. isAlloc (code w o)) (ops w b)))) ≡ bind bs (blockKeys w)
+unfolding blockKeys
+listed-keys w [] = refl
+listed-keys w (b ∷ bs) =
+    map-append allocKey (map (allocOf b) (keep (λ o. isAlloc (code w o)) (ops w b))) _
+    ∙ ap₂ (λ x y. x ++ y) (here (keep (λ o. isAlloc (code w o)) (ops w b))) (listed-keys w bs)
+  where
+    here : (os : List ℕ) → map allocKey (map (allocOf b) os) ≡ map (λ o. 1024 * b + o) os
+    here [] = refl
+    here (o ∷ os) = ap (λ (l : List ℕ). (1024 * b + o) ∷ l) (here os)
+
+pub all-keys : (w : List ℕ) → allocKeys w ≡ bind (blocksRpo w) (blockKeys w)
+unfolding allocKeys
+all-keys w = listed-keys w (blocksRpo w)
+
+-- of an array that holds the order's sequence
+module _ (w rpo : List ℕ) (i : ℕ) where
+  pub keys-start : rpo ≡ blocksRpo w → allocKeys w ≡ bind (drop 0 rpo) (blockKeys w)
+  keys-start e = all-keys w ∙ ap (λ (l : List ℕ). bind l (blockKeys w)) (sym e)
+
+  pub keys-next : i < length rpo → bind (drop i rpo) (blockKeys w) ≡ blockKeys w (getD rpo i 0) ++ bind (drop (i + 1) rpo) (blockKeys w)
+  keys-next h = rw (add-one, drop-cons rpo i 0 h)
+
+  pub keys-end : length rpo ≤ i → bind (drop i rpo) (blockKeys w) ≡ []
+  keys-end h = rw (drop-of-length-le rpo {i = i} h)
+
+-- ---- read back
+
+map-long : {A : Type 0} (f : A → ℕ) (xs : List A) → length (map f xs) ≡ length xs
+map-long f [] = refl
+map-long f (x ∷ xs) = ap suc (map-long f xs)
+
+map-at : {A : Type 0} (f : A → ℕ) (xs : List A) (i : ℕ) (d : A) → i < length xs → getD (map f xs) i 0 ≡ f (getD xs i d)
+map-at f [] i d h = absurd (omega arith)
+map-at f (x ∷ xs) zero d h = refl
+map-at f (x ∷ xs) (suc i) d h = map-at f xs i d (omega arith)
+
+pub keys-long : (w : List ℕ) → length (allocKeys w) ≡ length (allocs w)
+unfolding allocKeys
+keys-long w = map-long allocKey (allocs w)
+
+pub key-at : (w : List ℕ) (a : ℕ) → a < length (allocs w) → getD (allocKeys w) a 0 ≡ 1024 * allocAt w a .block + allocAt w a .op
+unfolding allocKeys
+key-at w a h = map-at allocKey (allocs w) a noAlloc h
+
+module _ (w : List ℕ) (good : WellFormed w) (a : ℕ) (h : a < length (allocs w)) where
+  pub alloc-op : (allocAt w a .op < operations w) × (isAlloc (code w (allocAt w a .op)) ≡ true)
+  alloc-op = let k = alloc-known w (alloc-in w good a h) in (listed-op w good (k .0) (k .1), k .2)
+
+  op-most : allocAt w a .op < 1024
+  op-most = omega (arith, alloc-op .0, good .sized .operations-most)
+
+  pub key-op : getD (allocKeys w) a 0 % 1024 ≡ allocAt w a .op
+  key-op = let e : getD (allocKeys w) a 0 ≡ 1024 * allocAt w a .block + allocAt w a .op = key-at w a h in omega (arith, op-most)
+
+  pub key-block : getD (allocKeys w) a 0 / 1024 ≡ allocAt w a .block
+  key-block = let e : getD (allocKeys w) a 0 ≡ 1024 * allocAt w a .block + allocAt w a .op = key-at w a h in omega (arith, op-most)
+
+-- ---- how many they are
+
+distinct-times : (x : ℕ) (ys : List ℕ) → distinct ys ≡ true → times x ys ≤ 1
+distinct-times x [] d = omega arith
+distinct-times x (y ∷ ys) d = go (eqb x y) refl (split 0 (times x ys)) (distinct-times x ys (and-true-right (not (mem y ys)) (distinct ys) d))
+  where
+    go : (t : Bool) → eqb x y ≡ t → (0 < times x ys) ⊎ (times x ys ≤ 0) → times x ys ≤ 1 → oneIf (eqb x y) + times x ys ≤ 1
+    go false e l r = rw e (omega arith)
+    go true e (inr l) r = rw e (omega arith)
+    go true e (inl l) r =
+        let q : x ≡ y = eqb-true x y e in
+        none (mem y ys) (in-mem y (subst (λ (z : ℕ). z ∈ ys) q (times-mem x ys l))) (not-true (mem y ys) (and-true-left (not (mem y ys)) (distinct ys) d))
+
+module _ (w : List ℕ) (good : WellFormed w) where
+  base-listed : (v : ℕ) → v ∈ map (base w) (allocs w) → v < locals w
+  base-listed = map-each (λ (v : ℕ). v < locals w) (base w) (allocs w) (λ x m.
+      let p = mem-place noAlloc m in
+      subst (λ (y : Alloc). base w y < locals w) (p .2) (base-less w good (p .0) (p .1)))
+
+  pub keys-most : rule12 w ≡ false → length (allocs w) ≤ 512
+  keys-most r =
+      let d : distinct (map (base w) (allocs w)) ≡ true = sym (Bool·not-not (distinct (map (base w) (allocs w)))) ∙ ap not r in
+      omega (arith, map-long (base w) (allocs w), once-most (map (base w) (allocs w)) (locals w) (λ x. distinct-times x (map (base w) (allocs w)) d) base-listed, good .sized .locals-most)
+
+-- ---- every base for its own
+
+-- the first a allocations have their bases
+abbrev pub basesTo : List ℕ → ℕ → List ℕ
+basesTo w a = foldl (λ owner k. set owner (base w (allocAt w k)) (suc k)) (replicate (locals w) 0) (upto a)
+
+pub record OwnedTo (w owner : List ℕ) (a : ℕ) : Type 0 where
+  pub same : (v : ℕ) → v < locals w → getD owner v 0 ≡ getD (basesTo w a) v 0
+  pub most : (v : ℕ) → getD owner v 0 ≤ a
+  pub long : length owner ≡ 512
+
+bases-long : (w : List ℕ) (a : ℕ) → length (basesTo w a) ≡ locals w
+bases-long w a =
+    foldl-keeps (λ (l : List ℕ). length l ≡ locals w) (λ owner k. set owner (base w (allocAt w k)) (suc k)) (upto a)
+    (λ owner k m e. length-set owner (base w (allocAt w k)) (suc k) ∙ e)
+    (replicate (locals w) 0) (length-replicate (locals w) 0)
+
+zeros-at : (n v : ℕ) → _≡_ {A = ℕ} (getD (replicate n 0) v 0) 0
+zeros-at zero v = refl
+zeros-at (suc n) zero = refl
+zeros-at (suc n) (suc v) = zeros-at n v
+
+module _ (w : List ℕ) where
+  pub owned-none : {owner : List ℕ} → owner ≡ replicate 512 0 → OwnedTo w owner 0
+  owned-none {owner} e = record {
+    same = λ v h. ap (λ (l : List ℕ). getD l v 0) e ∙ zeros-at 512 v ∙ sym (zeros-at (locals w) v);
+    most = λ v. omega (arith, ap (λ (l : List ℕ). getD l v 0) e ∙ zeros-at 512 v);
+    long = ap length e ∙ length-replicate {A = ℕ} 512 0;
+  }
+
+  pub owned-more : WellFormed w → {owner : List ℕ} {a v : ℕ} → a < length (allocs w) → v ≡ base w (allocAt w a) → OwnedTo w owner a → OwnedTo w (set owner v (a + 1)) (a + 1)
+  owned-more good {owner} {a} {v} h e k =
+      let l : base w (allocAt w a) < locals w = base-less w good a h in
+      let z : length (basesTo w a) ≡ locals w = bases-long w a in
+      let s : basesTo w (suc a) ≡ set (basesTo w a) v (suc a) =
+      ap (foldl (λ owner k. set owner (base w (allocAt w k)) (suc k)) (replicate (locals w) 0)) (upto-suc a)
+      ∙ foldl-snoc (λ owner k. set owner (base w (allocAt w k)) (suc k)) (replicate (locals w) 0) (upto a) a
+      ∙ ap (λ (x : ℕ). set (basesTo w a) x (suc a)) (sym e) in
+      record {
+        same = λ x q. rw (add-one a, s) (set-both owner (basesTo w a) v (suc a) (omega (arith, k .long, good .sized .locals-most)) (omega arith) (λ y p. k .same y (omega arith)) x (omega (arith, length-set (basesTo w a) v (suc a))));
+        most = set-most owner v (a + 1) (a + 1) (omega arith) (λ y. omega (arith, k .most y));
+        long = length-set owner v (a + 1) ∙ k .long;
+      }
+
+  pub owned-all : {owner : List ℕ} {a : ℕ} → a ≡ length (allocs w) → OwnedTo w owner a
+      → ((v : ℕ) → v < locals w → getD owner v 0 ≡ getD (bases w) v 0) × ((v : ℕ) → getD owner v 0 ≤ length (allocs w)) × (length owner ≡ 512)
+  owned-all {owner} {a} e k = let t : OwnedTo w owner (length (allocs w)) = rw e at k in (t .same, t .most, t .long)

@@ -1,0 +1,100 @@
+-- `link_operations` meets its contract. The invariant: the operations met below o are linked, and what they harm is added.
+use mathlib.Core.Path.{_≡_, refl, sym, ap, _∙_}
+use mathlib.Core.Logic.{⊎-elim}
+use mathlib.Core.Bool.{_&&_}
+use Prim.Native.Nat.{_+_, _-_, _*_, _/_, _%_, _≤_, _<_}
+use lib.Dec.{eqb}
+use Rattle.plank_core.specs.Lists.{upto, any}
+use Rattle.plank_core.specs.DenseIndexSet.{contains}
+use Rattle.sir_data.specs.Records.{operations}
+use Rattle.sir_analyses.specs.Tables.{Adds}
+use Rattle.sir_analyses.specs.Pointers.{isMet, derivesBy, escapesBy}
+use Rattle.sir_analyses.proofs.Tables.{adds-as, adds-none}
+use Rattle.sir_analyses.proofs.PointerLinks.{adds-counted}
+use borrow.Author.Needs.{needs}
+use native.Mathlib.Omega.{arith}
+use Rattle.sir_analyses.proofs.pointer_links.link_operations.Statement.{statement}
+use Rattle.sir_analyses.proofs.pointer_links.link_operations.Tie as tie
+
+abbrev Inv-loop : tie.InvT-loop
+Inv-loop words met links₀ harms₀ count o₀ links harms o = (o ≤ count) × Adds links₀ (λ v u. any (λ p. isMet words p && derivesBy words p v u) (upto o)) links × Adds harms₀ (λ r v. any (λ p. isMet words p && (eqb r 0 && escapesBy words p v)) (upto o)) harms
+
+abbrev μ-loop : tie.MeasureT-loop
+μ-loop words met links₀ harms₀ count o₀ links harms o = count - o
+
+operation-count-requires : tie.Need-operation-count-requires Inv-loop μ-loop
+operation-count-requires c κs = search needs
+
+loop-holds : tie.Need-loop-holds Inv-loop μ-loop
+loop-holds c = (omega arith, adds-none (λ v u h. refl), adds-none (λ r v h. refl))
+
+cast-row-contains : tie.Need-cast-row-contains Inv-loop μ-loop
+cast-row-contains c = omega arith
+
+row-contains-requires : tie.Need-row-contains-requires Inv-loop μ-loop
+row-contains-requires c κs = let s = c .before .before .before .before .before .before .before in
+    (omega (arith, s .pre .1 .0 .0, s .pre .0 .sized .operations-most, c .before .before .operation-count .ensures), omega arith)
+
+link-operation-requires : tie.Need-link-operation-requires Inv-loop μ-loop
+link-operation-requires c κs = let s = c .before .before .before .before .before .before .before .before .before .before in
+    (s .pre .0, (omega (arith, c .before .before .before .before .before .operation-count .ensures), c .before .before .before .before .loop .inv .1 .long ∙ s .pre .1 .1 .0))
+
+harm-operation-requires : tie.Need-harm-operation-requires Inv-loop μ-loop
+harm-operation-requires c κs = let s = c .before .before .before .before .before .before .before .before .before .before .before .before .before .before in
+    (s .pre .0, (omega (arith, c .before .before .before .before .before .before .before .before .before .operation-count .ensures), c .before .before .before .before .before .before .before .before .loop .inv .2 .long ∙ s .pre .1 .1 .1))
+
+add-o : tie.Need-add-o Inv-loop μ-loop
+add-o c = omega arith
+
+loop-less : tie.Need-loop-less Inv-loop μ-loop
+loop-less c = omega arith
+
+loop-again : tie.Need-loop-again Inv-loop μ-loop
+loop-again c = let s = c .before .before .before .before .before .before .before .before .before in
+    let l = c .before .before .before .loop in
+    let w = s .args .words .now in
+    let n : 512 * (l .o / 512) + l .o % 512 ≡ l .o = omega arith in
+    let h : l .o < 1024 = omega (arith, s .pre .0 .sized .operations-most, c .before .before .before .before .operation-count .ensures) in
+    let seen : c .before .row-contains .result ≡ isMet w (l .o) = c .before .row-contains .ensures ∙ ap (contains (s .args .met .now)) n ∙ s .pre .1 .0 .1 (l .o) h in
+    let a : Adds (l .links) (λ v u. isMet w (l .o) && derivesBy w (l .o) v u) (c .if1 .links) =
+    ⊎-elim
+    (λ x. rw (x .9) (adds-as (λ v u i. rw (sym seen ∙ x .0 .taken)) (x .2 .ensures)))
+    (λ x. rw (x .1) (adds-none (λ v u i. rw (sym seen ∙ x .0 .left))))
+    (c .if1 .came) in
+    let b : Adds (l .harms) (λ r v. isMet w (l .o) && (eqb r 0 && escapesBy w (l .o) v)) (c .if1 .harms) =
+    ⊎-elim
+    (λ x. rw (x .10) (adds-as (λ r v i. rw (sym seen ∙ x .0 .taken)) (x .6 .ensures)))
+    (λ x. rw (x .2) (adds-none (λ r v i. rw (sym seen ∙ x .0 .left))))
+    (c .if1 .came) in
+    (omega arith, adds-counted (λ p v u. isMet w p && derivesBy w p v u) (l .o) (l .inv .1) a, adds-counted (λ p r v. isMet w p && (eqb r 0 && escapesBy w p v)) (l .o) (l .inv .2) b)
+
+same-length : tie.Need-same-length Inv-loop μ-loop
+same-length c = c .before .loop .inv .1 .long
+
+same-length-2 : tie.Need-same-length-2 Inv-loop μ-loop
+same-length-2 c = c .before .loop .inv .2 .long
+
+returns : tie.Need-returns Inv-loop μ-loop
+returns c = let s = c .before .before .before .before .before .before .before in
+    let l = c .before .loop in
+    let e : l .o ≡ operations (s .args .words .now) = omega (arith, c .before .before .operation-count .ensures) in
+    (rw e at (l .inv .1), rw e at (l .inv .2))
+
+pub link-operations-spec : {M : Type 1} → statement M
+link-operations-spec =
+    tie.close
+    (tie.spec
+    Inv-loop
+    μ-loop
+    operation-count-requires
+    loop-holds
+    cast-row-contains
+    row-contains-requires
+    link-operation-requires
+    harm-operation-requires
+    add-o
+    loop-less
+    loop-again
+    same-length
+    same-length-2
+    returns)

@@ -1,0 +1,50 @@
+-- `pointer_links` meets its contract: what the operations met and the visited blocks add is what the definitions say.
+use mathlib.Core.Path.{_∙_}
+use Rattle.sir_analyses.proofs.Tables.{cleared-long}
+use Rattle.sir_analyses.proofs.PointerLinks.{pointer-rows}
+use borrow.Author.Needs.{needs}
+use Rattle.sir_analyses.proofs.pointer_links.pointer_links.Statement.{statement}
+use Rattle.sir_analyses.proofs.pointer_links.pointer_links.Tie as tie
+
+slice-aggregate-met-operations : tie.Need-slice-aggregate-met-operations
+slice-aggregate-met-operations c = search needs
+
+met-operations-requires : tie.Need-met-operations-requires
+met-operations-requires c κs = search needs
+
+slice-aggregate-link-operations : tie.Need-slice-aggregate-link-operations
+slice-aggregate-link-operations c = search needs
+
+link-operations-requires : tie.Need-link-operations-requires
+link-operations-requires c κs = let s = c .before .before .before .before .before .before .before .before .before .before in
+    (s .pre .0, (c .before .before .before .before .met-operations .ensures, (cleared-long (s .args .links .now) 4096 (s .pre .1 .1 .0), cleared-long (s .args .harms .now) 8 (s .pre .1 .1 .1))))
+
+link-blocks-requires : tie.Need-link-blocks-requires
+link-blocks-requires c κs = let s = c .before .before .before .before .before .before .before .before .before .before .before .before .before .before .before .before .before in
+    let r = c .before .before .before .before .before .before .link-operations .ensures in
+    (s .pre .0, (s .pre .1 .0, (r .0 .long ∙ cleared-long (s .args .links .now) 4096 (s .pre .1 .1 .0), r .1 .long ∙ cleared-long (s .args .harms .now) 8 (s .pre .1 .1 .1))))
+
+same-length : tie.Need-same-length
+same-length c = search needs
+
+same-length-2 : tie.Need-same-length-2
+same-length-2 c = search needs
+
+returns : tie.Need-returns
+returns c = let s = c .before .before .before .before .before .before .before .before .before .before .before .before .before .before .before .before .before .before .before .before .before .before in
+    let r = c .before .before .before .before .before .before .before .before .before .before .before .link-operations .ensures in
+    let b = c .before .before .before .before .link-blocks .ensures in
+    pointer-rows (s .args .words .now) (s .pre .0) (s .pre .1 .1 .0) (s .pre .1 .1 .1) (r .0) (r .1) (b .0) (b .1)
+
+pub pointer-links-spec : {M : Type 1} → statement M
+pointer-links-spec =
+    tie.close
+    (tie.spec
+    slice-aggregate-met-operations
+    met-operations-requires
+    slice-aggregate-link-operations
+    link-operations-requires
+    link-blocks-requires
+    same-length
+    same-length-2
+    returns)

@@ -1,0 +1,82 @@
+-- The arrays in which allocations are listed and their pointers are followed. Assumes nothing.
+use mathlib.Core.Path.{_≡_}
+use mathlib.Core.Bool.{false}
+use mathlib.Core.List.{List, [], _∷_, map, reverse}
+use Prim.Native.Nat.{ℕ, zero, suc, _+_, _*_, _≤_, _<_}
+use lib.ListN.{length, getD, take}
+use lib.Dec.{eqb}
+use Rattle.plank_core.specs.Lists.{keep, _∈_}
+use Rattle.plank_core.specs.DenseIndexSet.{contains, members, rowOf}
+use Rattle.sir_data.specs.Records.{locals, ops, code}
+use Rattle.sir_data.specs.Codes.{isAlloc}
+use Rattle.sir_analyses.specs.Liveness.{Set, has}
+use Rattle.sir_analyses.specs.Allocation.{Alloc, allocs, allocAt, reach, marked, owners}
+use Rattle.sir_analyses.specs.Tables.{Same}
+use Rattle.sir_analyses.specs.Propagation.{State, Propagates}
+
+-- an allocation as one number
+abbrev pub allocKey : Alloc → ℕ
+allocKey x = 1024 * x .block + x .op
+
+unfoldable pub allocKeys : List ℕ → List ℕ
+allocKeys w = map allocKey (allocs w)
+
+-- the allocations among a block's operations
+unfoldable pub blockKeys : List ℕ → ℕ → List ℕ
+blockKeys w b = map (λ o. 1024 * b + o) (keep (λ o. isAlloc (code w o)) (ops w b))
+
+-- how many locals nobody has
+unfoldable pub zeros : List ℕ → ℕ
+zeros [] = 0
+zeros (zero ∷ xs) = suc (zeros xs)
+zeros (suc x ∷ xs) = zeros xs
+
+-- the arrays have their lengths, and each local that nobody has finds room on the work list
+pub record Room (owner marks work : List ℕ) (n : ℕ) : Type 0 where
+  pub owner-long : length owner ≡ 512
+  pub marks-long : length marks ≡ 8
+  pub work-long : length work ≡ 513
+  pub owner-small : (v : ℕ) → getD owner v 0 ≤ 512
+  pub work-small : (k : ℕ) → k < n → getD work k 0 < 512
+  pub room : zeros owner + n ≤ 513
+
+-- the arrays, with n locals on the work list, show a state
+pub record ShowsState (owner marks work : List ℕ) (n : ℕ) (s : State) : Type 0 where
+  pub owner-is : (v : ℕ) → v < length (s .owner) → getD owner v 0 ≡ getD (s .owner) v 0
+  pub owner-known : (v : ℕ) → getD owner v 0 ≤ length (s .marks)
+  pub marks-are : Same marks (s .marks)
+  pub work-is : s .work ≡ reverse (take n work)
+
+-- the arrays went on by one step, whatever state they showed, if it has these locals and this allocation
+pub record StepTaken (vs : List ℕ) (a : ℕ) (step : State → State) (owner marks work : List ℕ) (n : ℕ) (owner′ marks′ work′ : List ℕ) (r : ℕ) : Type 0 where
+  pub room : Room owner′ marks′ work′ r
+  pub same : (s : State) → ((v : ℕ) → v ∈ vs → v < length (s .owner)) → a < length (s .marks) → ShowsState owner marks work n s → ShowsState owner′ marks′ work′ r (step s)
+  pub cost : zeros owner′ + r ≤ zeros owner + n
+
+-- what a local carries on, and whether it harms, by the tables
+abbrev pub linksIn : List ℕ → ℕ → List ℕ
+linksIn links u = members (rowOf links u)
+
+-- states that are as wide as each other
+pub record SameWidth (s s′ : State) : Type 0 where
+  pub owner-wide : length (s′ .owner) ≡ length (s .owner)
+  pub marks-wide : length (s′ .marks) ≡ length (s .marks)
+
+-- a state that the arrays show
+pub record Reaches (links harms : List ℕ) (a v : ℕ) (s : State) (owner marks work : List ℕ) : Type 0 where
+  pub state : State
+  pub propagates : Propagates (linksIn links) (contains harms) a v s state
+  pub shown : ShowsState owner marks work 0 state
+  pub width : SameWidth s state
+
+-- one allocation was followed from its base v to the end
+pub record Propagated (links harms : List ℕ) (a v : ℕ) (owner marks work owner′ marks′ work′ : List ℕ) : Type 0 where
+  pub room : Room owner′ marks′ work′ 0
+  pub same : (s : State) → ((u x : ℕ) → u < 512 → x ∈ linksIn links u → x < length (s .owner)) → a < length (s .marks) → ShowsState owner marks work 0 s
+      → Reaches links harms a v s owner′ marks′ work′
+
+-- owners, marks, and with them the reach of each unmarked allocation
+pub record Discovered (w owner marks : List ℕ) : Type 0 where
+  pub owner-is : (v : ℕ) → v < locals w → getD owner v 0 ≡ getD (owners w) v 0
+  pub mark-is : (a : ℕ) → a < length (allocs w) → contains marks a ≡ marked w a
+  pub reach-is : (a v : ℕ) → a < length (allocs w) → marked w a ≡ false → v < locals w → has (reach w (allocAt w a)) v ≡ eqb (getD owner v 0) (suc a)

@@ -1,0 +1,38 @@
+-- Where a pointer goes from a local in one step, and which locals mark what reaches them, as tables. Assumes nothing.
+use mathlib.Core.Path.{_≡_}
+use mathlib.Core.Bool.{Bool, _&&_, _||_}
+use mathlib.Core.List.{List}
+use Prim.Native.Nat.{ℕ, _<_}
+use lib.ListN.{length, getD}
+use lib.Dec.{eqb}
+use Rattle.plank_core.specs.Lists.{upto, any, mem}
+use Rattle.plank_core.specs.DenseIndexSet.{contains}
+use Rattle.sir_data.specs.Records.{ops, code, ins, outs, inputs, outputs, successors, returned}
+use Rattle.sir_data.specs.Codes.{derives, escaping}
+use Rattle.sir_analyses.specs.Order.{blocksRpo}
+use Rattle.sir_analyses.specs.Liveness.{positions}
+use Rattle.sir_analyses.specs.Allocation.{next, escapes, isReturned}
+use Rattle.sir_analyses.specs.Tables.{Rows}
+
+-- is operation o met in a visited block?
+abbrev pub isMet : List ℕ → ℕ → Bool
+isMet w o = any (λ b. mem o (ops w b)) (blocksRpo w)
+
+-- does operation o derive local u from local v?
+abbrev pub derivesBy : List ℕ → ℕ → ℕ → ℕ → Bool
+derivesBy w o v u = derives (code w o) && (mem v (ins w o) && mem u (outs w o))
+
+-- is local v in an escaping operand of operation o?
+abbrev pub escapesBy : List ℕ → ℕ → ℕ → Bool
+escapesBy w o v = any (escaping (code w o)) (positions v (ins w o) 0)
+
+-- does the edge from block b to block s pass local v on as local u?
+abbrev pub passesBy : List ℕ → ℕ → ℕ → ℕ → ℕ → Bool
+passesBy w b s v u = any (λ k. eqb v (getD (outputs w b) k 0) && eqb u (getD (inputs w s) k 0)) (upto (length (outputs w b)))
+
+-- a row for each local: what its uses carry on; and the locals that are used in an escaping operand or returned
+pub record PointerRows (w links harms : List ℕ) : Type 0 where
+  pub links-long : length links ≡ 4096
+  pub harms-long : length harms ≡ 8
+  pub linked : Rows links 512 (λ v u. mem u (next w v))
+  pub harmed : (v : ℕ) → v < 512 → contains harms v ≡ (escapes w v || isReturned w v)

@@ -1,0 +1,52 @@
+-- How the source follows pointers from each allocation's base, step by step: `link_local_to_alloc` and
+-- `propagate_pointers_and_mark_escapes` of allocation_liveness.rs. Assumes nothing.
+use mathlib.Core.Path.{_≡_}
+use mathlib.Core.Bool.{Bool, false, cond}
+use Prim.Native.Nat.{ℕ, zero, suc, _-_}
+use mathlib.Core.List.{List, [], _∷_}
+use lib.ListN.{length, getD, set, replicate}
+use lib.Dec.{eqb}
+use Rattle.plank_core.specs.Lists.{foldl}
+use Rattle.sir_analyses.specs.Liveness.{Set, addAll}
+use Rattle.sir_analyses.specs.Allocation.{allocs, allocAt, base, bases}
+
+-- owner of each local (allocation + 1, or 0), marks of the allocations, locals still to be followed
+pub record State : Type 0 where
+  pub owner : List ℕ
+  pub marks : Set
+  pub work : List ℕ
+
+-- `link_local_to_alloc`: a new owner replaces the old one; another's is a meeting, and marks both
+abbrev pub linkLocal : ℕ → State → ℕ → State
+linkLocal a s v =
+    let old = getD (s .owner) v 0 in
+    cond (eqb old 0)
+    (record { owner = set (s .owner) v (suc a); marks = s .marks; work = v ∷ s .work })
+    (record { owner = set (s .owner) v (suc a); marks = cond (eqb old (suc a)) (s .marks) (addAll (s .marks) (a ∷ (old - 1) ∷ [])); work = s .work })
+
+abbrev pub mark : ℕ → State → State
+mark a s = record { owner = s .owner; marks = addAll (s .marks) (a ∷ []); work = s .work }
+
+-- a local is followed: xs are linked, and where it harms the allocation is marked
+abbrev pub follow : List ℕ → Bool → ℕ → State → State
+follow xs harms a s = let t = foldl (linkLocal a) s xs in cond harms (mark a t) t
+
+-- the latest local of the work list is followed, some times over; `links` and `harms` tell what of each local
+pub data Runs (links : ℕ → List ℕ) (harms : ℕ → Bool) (a : ℕ) (s : State) : State → Type 0 where
+  begun : Runs links harms a s s
+  more : {t : State} {v : ℕ} {vs : List ℕ} → Runs links harms a s t → t .work ≡ v ∷ vs
+      → Runs links harms a s (follow (links v) (harms v) a (record { owner = t .owner; marks = t .marks; work = vs }))
+
+-- `propagate_pointers_and_mark_escapes`: from the base until the work list is empty
+pub record Propagates (links : ℕ → List ℕ) (harms : ℕ → Bool) (a v : ℕ) (s s′ : State) : Type 0 where
+  pub runs : Runs links harms a (record { owner = s .owner; marks = s .marks; work = v ∷ [] }) s′
+  pub ended : s′ .work ≡ []
+
+-- every base first for its own, and no marks
+abbrev pub start : List ℕ → State
+start w = record { owner = bases w; marks = replicate (length (allocs w)) false; work = [] }
+
+-- the first n allocations were followed in turn
+pub data Followed (w : List ℕ) (links : ℕ → List ℕ) (harms : ℕ → Bool) : ℕ → State → Type 0 where
+  none : Followed w links harms 0 (start w)
+  next : {a : ℕ} {s s′ : State} → Followed w links harms a s → Propagates links harms a (base w (allocAt w a)) s s′ → Followed w links harms (suc a) s′

@@ -1,0 +1,177 @@
+// The merged intervals of an allocation's locals: in each block backwards through its operations, from where one of them is live to
+// where none is.
+use crate::answers::put_words;
+use plank_core::dense_index_set::intersects;
+use plank_core::index::BlockId;
+use plank_core::index::OpIdx;
+use plank_core::rows::row_contains;
+use plank_core::rows::row_difference_with;
+use plank_core::rows::row_of;
+use plank_core::rows::row_union_with;
+use sir_data::records::block_count;
+use sir_data::records::block_operations;
+ghost use mathlib.Core.Path.{_≡_};
+ghost use mathlib.Core.Bool.{not, _&&_, _||_, cond};
+ghost use mathlib.Core.List.{[], _++_};
+ghost use Prim.Native.Nat.{ℕ, _+_, _*_, _≤_, _<_};
+ghost use lib.ListN.{length, drop, replicate};
+ghost use lib.Dec.{eqb};
+ghost use Rattle.plank_core.specs.Lists.{upto};
+ghost use Rattle.plank_core.specs.DenseIndexSet.{contains, meets};
+ghost use Rattle.sir_data.specs.Records.{blocks, locals};
+ghost use Rattle.sir_data.specs.WellFormed.{WellFormed};
+ghost use Rattle.sir_analyses.specs.Liveness.{Set, settled};
+ghost use Rattle.sir_analyses.specs.Answers.{intervalWords};
+ghost use Rattle.sir_analyses.specs.Visiting.{SeenBlocks};
+ghost use Rattle.sir_analyses.specs.Writing.{Puts};
+ghost use Rattle.sir_analyses.specs.Tables.{Same, OperandRows, SameRows, EndRows};
+ghost use Rattle.sir_analyses.specs.Scanning.{closing, endOpen};
+ghost use Rattle.sir_analyses.specs.Sweep.{sweepBlock, sweepFrom};
+
+// The end that is open before an operation, and the end of the interval that it closes; 0 where there is none.
+pub struct Passed {
+    pub till: u32,
+    pub closed: u32,
+}
+
+// One operation is passed: where a local is live before it an end is open, and where none is the open one is closed.
+fn pass_op(live: bool, o: OpIdx, till: u32) -> Passed
+    requires { ⌜ o .0 < 1024 ⌝ }
+    ensures { λ r. ⌜ r .till ≡ cond live (cond (eqb till 0) (o .0 + 1) till) 0 ⌝ }
+    ensures { λ r. ⌜ r .closed ≡ cond live 0 till ⌝ }
+{
+    if live {
+        if till == 0 {
+            return Passed {
+                till: o.0 + 1,
+                closed: 0,
+            };
+        }
+        return Passed { till, closed: 0 };
+    }
+    Passed {
+        till: 0,
+        closed: till,
+    }
+}
+
+// Writes an interval in front of word n, if there is one: where the words begin now.
+fn put_interval_before(run: &mut [u32], n: usize, b: BlockId, from: u32, to: u32) -> usize
+    requires { ⌜ (3 ≤ n) × (n ≤ length (now run)) ⌝ }
+    ensures { λ r. ⌜ (r + length (intervalWords (closing (b .0) from to)) ≡ n) × (drop r (now (run .exit)) ≡ intervalWords (closing (b .0) from to) ++ drop n (now (run .entry))) ⌝ }
+{
+    if to == 0 {
+        return n;
+    }
+    run[n - 3] = b.0;
+    run[n - 2] = from;
+    run[n - 1] = to;
+    n - 3
+}
+
+// The locals that are live behind the operations of block b, to an empty set: those live at its exit, and those read there.
+fn live_behind(exits: &[u64], ends: &[u64], b: BlockId, live: &mut [u64])
+    requires { ⌜ (8 * b .0 + 8 ≤ length (now exits)) × (8 * b .0 + 8 ≤ length (now ends)) × (now live ≡ replicate 8 0) ⌝ }
+    ensures { λ _. ⌜ ((v : ℕ) → v < 512 → contains (now (live .exit)) v ≡ (contains (now (exits .entry)) (512 * b .0 + v) || contains (now (ends .entry)) (512 * b .0 + v))) ⌝ }
+{
+    let row = b.0 as usize;
+    row_union_with(live, 0, row_of(exits, row));
+    row_union_with(live, 0, row_of(ends, row));
+}
+
+// The locals that are live before operation o, from those live behind it.
+fn live_before(reads: &[u64], writes: &[u64], o: OpIdx, live: &mut [u64])
+    requires { ⌜ (8 * o .0 + 8 ≤ length (now reads)) × (8 * o .0 + 8 ≤ length (now writes)) × (length (now live) ≡ 8) ⌝ }
+    ensures { λ _. ⌜ ((v : ℕ) → v < 512 → contains (now (live .exit)) v ≡ ((contains (now (live .entry)) v && not (contains (now (writes .entry)) (512 * o .0 + v))) || contains (now (reads .entry)) (512 * o .0 + v))) ⌝ }
+{
+    let row = o.0 as usize;
+    row_difference_with(live, 0, row_of(writes, row));
+    row_union_with(live, 0, row_of(reads, row));
+}
+
+// The end that is open behind a block's operations: the block's, where one of the locals is live there.
+fn end_behind<'a>(reach: &'a [u64], live: &'a [u64]) -> u32
+    requires { ⌜ (length (now reach) ≡ 8) × (length (now live) ≡ 8) ⌝ }
+    ensures { λ r. ⌜ r ≡ endOpen (meets (now (reach .entry)) (now (live .entry))) ⌝ }
+{
+    if intersects(reach, live) {
+        return 4294967295;
+    }
+    0
+}
+
+// The intervals of one block, three words each, to the end of `run`: where they begin.
+fn merge_intervals(
+    words: &[u32],
+    reads: &[u64],
+    writes: &[u64],
+    exits: &[u64],
+    ends: &[u64],
+    reach: &[u64],
+    b: BlockId,
+    run: &mut [u32],
+) -> usize
+    requires { ⌜ WellFormed (now words) ⌝ }
+    requires { ⌜ OperandRows (now words) (now reads) (now writes) ⌝ }
+    requires { ⌜ (length (now exits) ≡ 2048) × SameRows (now exits) (settled (now words) .1) (blocks (now words)) × EndRows (now words) (now ends) ⌝ }
+    requires { ⌜ (b .0 < blocks (now words)) × (length (now reach) ≡ 8) × (length (now run) ≡ 3075) ⌝ }
+    ensures { λ r. ⌜ (r ≤ 3075) × ((s : Set) → length s ≡ locals (now (words .entry)) → Same (now (reach .entry)) s → drop r (now (run .exit)) ≡ intervalWords (sweepBlock (now (words .entry)) s (b .0) [])) ⌝ }
+{
+    let mut live = [0u64; 8];
+    live_behind(exits, ends, b, &mut live);
+    let span = block_operations(words, b);
+    let first = span.start;
+    let mut o = span.end;
+    let mut till = end_behind(reach, &live);
+    let mut n: usize = 3075;
+    while first < o {
+        o -= 1;
+        live_before(reads, writes, OpIdx(o), &mut live);
+        let p = pass_op(intersects(reach, &live), OpIdx(o), till);
+        n = put_interval_before(run, n, b, o + 1, p.closed);
+        till = p.till;
+    }
+    put_interval_before(run, n, b, 0, till)
+}
+
+// The intervals of the visited blocks, by id, behind the first n words of an answer: the next number.
+pub fn populate_intervals_from_local_liveness(
+    words: &[u32],
+    seen: &[u64],
+    reads: &[u64],
+    writes: &[u64],
+    exits: &[u64],
+    ends: &[u64],
+    reach: &[u64],
+    out: &mut [u8],
+    limit: usize,
+    n: usize,
+) -> usize
+    requires { ⌜ WellFormed (now words) ⌝ }
+    requires { ⌜ SeenBlocks (now words) (now seen) × OperandRows (now words) (now reads) (now writes) ⌝ }
+    requires { ⌜ (length (now exits) ≡ 2048) × SameRows (now exits) (settled (now words) .1) (blocks (now words)) × EndRows (now words) (now ends) ⌝ }
+    requires { ⌜ (length (now reach) ≡ 8) × (limit ≤ length (now out)) × (n ≤ 8) ⌝ }
+    ensures { λ r. ⌜ (r ≤ n + 787200) × ((s : Set) → length s ≡ locals (now (words .entry)) → Same (now (reach .entry)) s → Puts limit n (intervalWords (sweepFrom (now (words .entry)) s (upto (blocks (now (words .entry)))))) (now (out .entry)) (now (out .exit)) r) ⌝ }
+{
+    let count = block_count(words);
+    let mut run = [0u32; 3075];
+    let mut m = n;
+    let mut b: u32 = 0;
+    while b < count {
+        if row_contains(seen, 1, b) {
+            let at = merge_intervals(
+                words,
+                reads,
+                writes,
+                exits,
+                ends,
+                reach,
+                BlockId(b),
+                &mut run,
+            );
+            m = put_words(out, limit, m, &run[at..]);
+        }
+        b += 1;
+    }
+    m
+}
