@@ -8,7 +8,7 @@ use lib.ListN.{length}
 use lib.Dec.{eqb}
 use borrow.Author.Tests.{eqb-true}
 use Rattle.plank_core.specs.Lists.{_∈_}
-use Rattle.plank_core.specs.laws.Lists.{and-true-right, or-cases, refuted}
+use Rattle.plank_core.specs.laws.Lists.{and-true-left, and-true-right, or-cases, refuted}
 use Rattle.sir_data.specs.Records.{blocks, operations, locals, outputs, ops, control, successors, returned, code, ins, outs}
 use Rattle.sir_data.specs.Codes.{arityOk, isStaticAlloc, isDynamicAlloc, isAlloc}
 use Rattle.sir_data.specs.WellFormed.{WellFormed}
@@ -28,7 +28,18 @@ alloc-out c i o h k =
     fixed : (n : ℕ) → (eqb i n && eqb o 1) ≡ true → o ≡ 1
     fixed n t = eqb-true o 1 (and-true-right (eqb i n) (eqb o 1) t)
 
+-- a dynamic one has one input, its size
+dynamic-in : (c i o : ℕ) → isDynamicAlloc c ≡ true → arityOk c i o ≡ true → i ≡ 1
+dynamic-in c i o h k =
+    ⊎-elim (λ (e : eqb c 21 ≡ true). fixed (rw (eqb-true c 21 e) at k)) (λ (e : eqb c 22 ≡ true). fixed (rw (eqb-true c 22 e) at k)) (or-cases (eqb c 21) (eqb c 22) h)
+  where
+    fixed : (eqb i 1 && eqb o 1) ≡ true → i ≡ 1
+    fixed t = eqb-true i 1 (and-true-left (eqb i 1) (eqb o 1) t)
+
 module _ (w : List ℕ) (good : WellFormed w) where
+  pub one-in : {o : ℕ} → o < operations w → isDynamicAlloc (code w o) ≡ true → length (ins w o) ≡ 1
+  one-in {o} l h = dynamic-in (code w o) (length (ins w o)) (length (outs w o)) h (good .arity-ok o l)
+
   pub one-out : {o : ℕ} → o < operations w → isAlloc (code w o) ≡ true → length (outs w o) ≡ 1
   one-out {o} l h = alloc-out (code w o) (length (ins w o)) (length (outs w o)) h (good .arity-ok o l)
 

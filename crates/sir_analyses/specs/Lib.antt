@@ -12,6 +12,7 @@ pub mod Discovery
 pub mod Answers
 pub mod Loading
 pub mod Scanning
+pub mod Kinds
 pub mod Sweep
 pub mod Claims
 pub mod Walk

@@ -3,7 +3,9 @@ ghost use mathlib.Core.Path.{_≡_};
 ghost use mathlib.Core.List.{_++_, _∷_, []};
 ghost use Prim.Native.Nat.{_+_, _<_, _≤_, _^_};
 ghost use lib.ListN.{length, take, drop};
+ghost use Rattle.plank_core.specs.Lists.{bind};
 ghost use Rattle.sir_data.specs.Pages.{bytesOf};
+ghost use Rattle.sir_analyses.specs.Answers.{made, answered};
 ghost use Rattle.sir_analyses.specs.Writing.{Puts};
 
 // Stores the bytes of a word.
@@ -51,4 +53,33 @@ pub fn put_triple(out: &mut [u8], limit: usize, n: usize, a: u32, b: u32, c: u32
     let m = put_word(out, limit, n, a);
     let k = put_word(out, limit, m, b);
     put_word(out, limit, k, c)
+}
+
+#[repr(C)]
+pub struct Answer {
+    pub number: u32,
+    pub length: u64,
+}
+
+pub fn refuse(number: u32) -> Answer
+    ensures { λ r. ⌜ (r .number ≡ number) × (r .length ≡ 0) ⌝ }
+{
+    Answer { number, length: 0 }
+}
+
+// An answer whose words are at hand.
+pub fn words_answer(words: &[u32], out: &mut [u8]) -> Answer
+    requires { ⌜ length (now words) < 2 ^ 60 ⌝ }
+    ensures { λ r. ⌜ made (r .number) (r .length) (now (out .exit)) ≡ answered (bind (now (words .entry)) bytesOf) (now (out .entry)) ⌝ }
+{
+    let count = words.len();
+    if out.len() < 4 * count {
+        return refuse(14);
+    }
+    let room = out.len();
+    put_words(out, room, 0, words);
+    Answer {
+        number: 0,
+        length: (4 * count) as u64,
+    }
 }

@@ -1,6 +1,11 @@
 // The questions that can be put to an image. Each gives its number and the answer's length, and leaves the answer in `out`;
 // refused, it leaves `out` as it was.
-use crate::answers::put_words;
+use crate::allocation_answers::allocation_answer;
+use crate::allocation_answers::owner_answer;
+use crate::allocation_liveness::find_allocations;
+use crate::answers::Answer;
+use crate::answers::refuse;
+use crate::answers::words_answer;
 use crate::block_sets::end_sets;
 use crate::block_sets::operand_sets;
 use crate::def_use::input_counts;
@@ -19,46 +24,19 @@ use plank_core::rows::row_of;
 use sir_data::records::block_count;
 use sir_data::records::local_count;
 ghost use mathlib.Core.Path.{_≡_};
-ghost use Prim.Native.Nat.{ℕ, _<_, _^_};
+ghost use Prim.Native.Nat.{ℕ, _<_};
 ghost use lib.ListN.{length};
 ghost use Rattle.plank_core.specs.Lists.{bind};
 ghost use Rattle.plank_core.specs.DenseIndexSet.{members};
 ghost use Rattle.sir_data.specs.Pages.{payload, bytesOf};
 ghost use Rattle.sir_data.specs.Records.{blocks, locals};
-ghost use Rattle.sir_analyses.specs.Answers.{refusal, orderAnswer, predecessorsAnswer, usesAnswer, entryAnswer, exitAnswer, roundsAnswer, intervalsAnswer, made, answered, outcome};
+ghost use Rattle.sir_analyses.specs.Answers.{refusal, orderAnswer, predecessorsAnswer, usesAnswer, entryAnswer, exitAnswer, roundsAnswer, intervalsAnswer, allocationAnswer, ownerAnswer, made, answered, outcome};
 ghost use Rattle.sir_data.specs.WellFormed.{WellFormed};
 ghost use Rattle.sir_analyses.specs.Order.{blocksRpo};
-ghost use Rattle.sir_analyses.specs.Claims.{OrderRule, LivenessRule};
+ghost use Rattle.sir_analyses.specs.Claims.{OrderRule, LivenessRule, MarkRule};
+ghost use Rattle.sir_analyses.specs.Walk.{Lifetimes};
+ghost use Rattle.sir_analyses.specs.Allocation.{allocs};
 ghost use Rattle.sir_analyses.specs.Visiting.{SeenBlocks};
-
-#[repr(C)]
-pub struct Answer {
-    pub number: u32,
-    pub length: u64,
-}
-
-fn refuse(number: u32) -> Answer
-    ensures { λ r. ⌜ (r .number ≡ number) × (r .length ≡ 0) ⌝ }
-{
-    Answer { number, length: 0 }
-}
-
-// An answer whose words are at hand.
-fn words_answer(words: &[u32], out: &mut [u8]) -> Answer
-    requires { ⌜ length (now words) < 2 ^ 60 ⌝ }
-    ensures { λ r. ⌜ made (r .number) (r .length) (now (out .exit)) ≡ answered (bind (now (words .entry)) bytesOf) (now (out .entry)) ⌝ }
-{
-    let count = words.len();
-    if out.len() < 4 * count {
-        return refuse(14);
-    }
-    let room = out.len();
-    put_words(out, room, 0, words);
-    Answer {
-        number: 0,
-        length: (4 * count) as u64,
-    }
-}
 
 #[no_mangle]
 pub extern "C" fn sir_order(image: &[u8], out: &mut [u8]) -> Answer
@@ -368,4 +346,59 @@ pub extern "C" fn sir_intervals(image: &[u8], local: u32, out: &mut [u8]) -> Ans
     }
     let blocks = sizes.blocks;
     intervals_answer(&words[..n], &seen, &rpo[..blocks], local, out)
+}
+
+#[no_mangle]
+pub extern "C" fn sir_allocation(image: &[u8], allocation: u32, out: &mut [u8]) -> Answer
+    ensures { λ r. ⌜ made (r .number) (r .length) (now (out .exit)) ≡ outcome (λ w. length (allocs w)) allocationAnswer (now (image .entry)) allocation (now (out .entry)) ⌝ }
+    ensures { λ r. ⌜ (refusal (now (image .entry)) ≡ 0 → MarkRule (payload (now (image .entry)))) ⌝ }
+    ensures { λ r. ⌜ (refusal (now (image .entry)) ≡ 0 → Lifetimes (payload (now (image .entry)))) ⌝ }
+{
+    let mut words = [0u32; 14742];
+    let mut seen = [0u64; 16];
+    let mut post = [0u32; 320];
+    let mut rpo = [0u32; 256];
+    let sizes = load(image, &mut words, &mut seen, &mut post, &mut rpo);
+    let number = sizes.number;
+    if number != 0 {
+        return refuse(number);
+    }
+    let n = sizes.words;
+    let blocks = sizes.blocks;
+    let mut keys = [0u32; 512];
+    let count = find_allocations(&words[..n], &rpo[..blocks], &mut keys);
+    if allocation as usize >= count {
+        return refuse(13);
+    }
+    allocation_answer(
+        &words[..n],
+        &seen,
+        &rpo[..blocks],
+        &keys[..count],
+        allocation,
+        out,
+    )
+}
+
+#[no_mangle]
+pub extern "C" fn sir_owner(image: &[u8], local: u32, out: &mut [u8]) -> Answer
+    ensures { λ r. ⌜ made (r .number) (r .length) (now (out .exit)) ≡ outcome locals ownerAnswer (now (image .entry)) local (now (out .entry)) ⌝ }
+{
+    let mut words = [0u32; 14742];
+    let mut seen = [0u64; 16];
+    let mut post = [0u32; 320];
+    let mut rpo = [0u32; 256];
+    let sizes = load(image, &mut words, &mut seen, &mut post, &mut rpo);
+    let number = sizes.number;
+    if number != 0 {
+        return refuse(number);
+    }
+    let n = sizes.words;
+    if local >= local_count(&words[..n]) {
+        return refuse(13);
+    }
+    let blocks = sizes.blocks;
+    let mut keys = [0u32; 512];
+    let count = find_allocations(&words[..n], &rpo[..blocks], &mut keys);
+    owner_answer(&words[..n], &rpo[..blocks], &keys[..count], local, out)
 }

@@ -2,8 +2,8 @@
 use mathlib.Core.Path.{refl}
 use Rattle.sir_analyses.proofs.Outcomes.{too-short, written}
 use borrow.Author.Needs.{needs}
-use Rattle.sir_analyses.proofs.questions.words_answer.Statement.{statement}
-use Rattle.sir_analyses.proofs.questions.words_answer.Tie as tie
+use Rattle.sir_analyses.proofs.answers.words_answer.Statement.{statement}
+use Rattle.sir_analyses.proofs.answers.words_answer.Tie as tie
 
 mul-if1 : tie.Need-mul-if1
 mul-if1 c = search needs
