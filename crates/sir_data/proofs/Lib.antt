@@ -1,1 +1,3 @@
+pub mod AfterCall
+pub mod Apart
 pub mod PageCheck

@@ -3,14 +3,13 @@ use crate::bounds::optional_below;
 use crate::bounds::range_ok;
 use crate::records::block_count;
 use crate::records::block_inputs;
-use crate::records::block_outputs;
 use crate::records::block_word;
 use crate::records::local_count;
 use crate::records::operand_count;
 use crate::records::operation_count;
-use crate::records::successor;
 use crate::records::successor_count;
 use crate::records::target_count;
+use crate::view::edge_ok;
 use plank_core::index::BlockId;
 use plank_core::rows::row_add;
 ghost use mathlib.Core.Path.{_≡_};
@@ -179,13 +178,10 @@ fn edges_ok(words: &[u32], b: BlockId) -> bool
     requires { ⌜ b .0 < blocks (now words) ⌝ }
     ensures { λ r. ⌜ r ≡ all (λ s. eqb (length (outputs (now (words .entry)) (b .0))) (length (inputs (now (words .entry)) s))) (successors (now (words .entry)) (b .0)) ⌝ }
 {
-    let outputs = block_outputs(words, b);
-    let passed = outputs.len();
     let n = successor_count(words, b);
     let mut i: usize = 0;
     while i < n {
-        let inputs = block_inputs(words, successor(words, b, i));
-        if passed != inputs.len() {
+        if !edge_ok(words, b, i) {
             return false;
         }
         i += 1;

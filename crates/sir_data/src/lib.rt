@@ -7,5 +7,6 @@ mod operation_rules;
 pub mod pages;
 pub mod records;
 pub mod rules;
+pub mod view;
 
 pub use image::refusal;

@@ -10,7 +10,7 @@ ghost use Prim.Native.Nat.{_<_, _≤_};
 ghost use mathlib.Core.Bool.{_||_};
 ghost use lib.Dec.{eqb};
 ghost use lib.ListN.{length, getD};
-ghost use Rattle.sir_data.specs.Records.{functions, blocks, operations, operandWords, caseTargets, locals, initFunction, mainPlusOne, blocksAt, operationsAt, operandsAt, targetsAt, entryBlock, blockWord, opWord, operand, target, run, inputs, outputs, successors, condition, returned, ins, outs, callees};
+ghost use Rattle.sir_data.specs.Records.{functions, blocks, operations, operandWords, caseTargets, locals, initFunction, mainPlusOne, blocksAt, operationsAt, operandsAt, targetsAt, entryBlock, blockWord, opWord, operand, target, run, inputs, outputs, control, successors, condition, returned, ins, outs, callees};
 ghost use Rattle.sir_data.specs.Cases.{testedLocals, calledFunctions};
 ghost use Rattle.sir_data.specs.WellFormed.{Sized, InRange};
 
@@ -232,6 +232,15 @@ pub fn block_operations(words: &[u32], b: BlockId) -> Span
         start: block_word(words, b, 4),
         end: block_word(words, b, 5),
     }
+}
+
+// The kind of a block's control.
+pub fn block_control(words: &[u32], b: BlockId) -> u32
+    requires { ⌜ Sized (now words) ⌝ }
+    requires { ⌜ b .0 < blocks (now words) ⌝ }
+    ensures { λ r. ⌜ r ≡ control (now (words .entry)) (b .0) ⌝ }
+{
+    block_word(words, b, 6)
 }
 
 // How many successors a block has, a target named twice counted twice.

@@ -5,11 +5,10 @@ use mathlib.Core.List.{List}
 use Prim.Native.Nat.{ℕ, _-_, _≤_}
 use native.Mathlib.Omega.{arith}
 use borrow.Author.Needs.{needs}
-use lib.ListN.{length, getD, drop}
+use lib.ListN.{length, drop}
 use lib.Dec.{eqb}
-use borrow.Author.Tests.{eq-eqb, ne-eqb}
+use borrow.Author.Tests.{not-true, not-false}
 use Rattle.plank_core.specs.Lists.{all}
-use Rattle.plank_core.specs.laws.Lists.{getD-mem}
 use Rattle.plank_core.specs.laws.Loops.{all-drop-step, all-drop-stop, all-drop-end}
 use Rattle.sir_data.specs.Records.{inputs, outputs, successors}
 use Rattle.sir_data.proofs.block_rules.edges_ok.Statement.{statement}
@@ -20,13 +19,10 @@ abbrev same : List ℕ → ℕ → ℕ → Bool
 same w b s = eqb (length (outputs w b)) (length (inputs w s))
 
 abbrev Inv-loop : tie.InvT-loop
-Inv-loop words b passed n i₀ i = (i ≤ length (successors words (b .0))) × (all (same words (b .0)) (drop i (successors words (b .0))) ≡ all (same words (b .0)) (successors words (b .0)))
+Inv-loop words b n i₀ i = (i ≤ length (successors words (b .0))) × (all (same words (b .0)) (drop i (successors words (b .0))) ≡ all (same words (b .0)) (successors words (b .0)))
 
 abbrev μ-loop : tie.MeasureT-loop
-μ-loop words b passed n i₀ i = n - i
-
-block-outputs-requires : tie.Need-block-outputs-requires Inv-loop μ-loop
-block-outputs-requires c κs = search needs
+μ-loop words b n i₀ i = n - i
 
 successor-count-requires : tie.Need-successor-count-requires Inv-loop μ-loop
 successor-count-requires c κs = search needs
@@ -34,31 +30,15 @@ successor-count-requires c κs = search needs
 loop-holds : tie.Need-loop-holds Inv-loop μ-loop
 loop-holds c = (omega arith, refl)
 
-successor-requires : tie.Need-successor-requires Inv-loop μ-loop
-successor-requires c κs =
-    let start = c .before .before .before .before .before in
+edge-ok-requires : tie.Need-edge-ok-requires Inv-loop μ-loop
+edge-ok-requires c κs =
+    let start = c .before .before .before .before in
     (start .pre .0, (start .pre .1 .0, (start .pre .1 .1, omega arith)))
-
-block-inputs-requires : tie.Need-block-inputs-requires Inv-loop μ-loop
-block-inputs-requires c κs =
-    let start = c .before .before .before .before .before .before in
-    let w = start .args .words .now in
-    let b = start .args .b .0 in
-    let inside = start .pre .1 .0 .successor b _ (start .pre .1 .1) (getD-mem (successors w b) (c .before .before .loop .i) 0 (omega arith)) in
-    (start .pre .0, (start .pre .1 .0, rw (c .successor .ensures) inside))
-
--- the test of a turn is that of the next edge
-edge : (c : tie.After-block-inputs Inv-loop μ-loop)
-    → let start = c .before .before .before .before .before .before .before in
-    let w = start .args .words .now in
-    let b = start .args .b .0 in
-    same w b (getD (successors w b) (c .before .before .before .loop .i) 0) ≡ eqb (length (c .before .before .before .before .before .block-outputs .result .now)) (length (c .block-inputs .result .now))
-edge c = rw (c .before .before .before .before .before .block-outputs .ensures, c .block-inputs .ensures, c .before .successor .ensures)
 
 returns : tie.Need-returns Inv-loop μ-loop
 returns c =
-    let l = c .before .before .before .before .loop in
-    sym (all-drop-stop _ (l .i) _ (omega arith) (edge (c .before) ∙ ne-eqb _ _ (c .if1 .taken))) ∙ l .inv .1
+    let l = c .before .before .before .loop in
+    sym (all-drop-stop _ (l .i) _ (omega arith) (sym (c .before .edge-ok .ensures) ∙ not-true _ (c .if1 .taken))) ∙ l .inv .1
 
 add-i : tie.Need-add-i Inv-loop μ-loop
 add-i c = omega arith
@@ -68,8 +48,8 @@ loop-less c = omega arith
 
 loop-again : tie.Need-loop-again Inv-loop μ-loop
 loop-again c =
-    let l = c .before .before .before .before .loop in
-    (omega arith, all-drop-step _ (l .i) _ (omega arith) (edge (c .before) ∙ eq-eqb _ _ (c .if1 .left)) ∙ l .inv .1)
+    let l = c .before .before .before .loop in
+    (omega arith, all-drop-step _ (l .i) _ (omega arith) (sym (c .before .edge-ok .ensures) ∙ not-false _ (c .if1 .left)) ∙ l .inv .1)
 
 returns-2 : tie.Need-returns-2 Inv-loop μ-loop
 returns-2 c =
@@ -82,11 +62,9 @@ edges-ok-spec =
     (tie.spec
     Inv-loop
     μ-loop
-    block-outputs-requires
     successor-count-requires
     loop-holds
-    successor-requires
-    block-inputs-requires
+    edge-ok-requires
     returns
     add-i
     loop-less
