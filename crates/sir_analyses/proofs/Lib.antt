@@ -41,4 +41,5 @@ pub mod Turns
 pub mod SweepSteps
 pub mod SweepProof
 pub mod MergedIntervals
+pub mod AllocationAnswer
 pub mod Proved

@@ -1,4 +1,5 @@
 // Layer 3: the analyses, one file for each of the source's, and the questions that can be put to an image.
+pub mod allocation_answer;
 pub mod allocation_liveness;
 pub mod answers;
 pub mod block_sets;
