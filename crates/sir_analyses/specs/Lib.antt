@@ -16,3 +16,4 @@ pub mod Sweep
 pub mod Claims
 pub mod Walk
 pub mod Examples
+pub mod laws
