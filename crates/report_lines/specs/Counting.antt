@@ -6,9 +6,9 @@ use lib.ListN.{length}
 use lib.Dec.{eqb, ltb}
 use Rattle.plank_core.specs.Lists.{upto, any}
 use Rattle.sir_data.specs.Pages.{payload}
-use Rattle.sir_data.specs.Records.{blocks, locals}
+use Rattle.sir_data.specs.Records.{locals}
 use Rattle.sir_analyses.specs.Allocation.{allocs}
-use Rattle.sir_analyses.specs.Answers.{refusal, orderAnswer, roundsAnswer, entryAnswer, exitAnswer, intervalsAnswer, allocationAnswer}
+use Rattle.sir_analyses.specs.Answers.{refusal, intervalsAnswer, allocationAnswer}
 
 -- an answer of so many words needs more than 65,536 bytes
 abbrev pub tooLong : List ℕ → Bool
@@ -20,12 +20,9 @@ localTooLong w = any (λ v. tooLong (intervalsAnswer w v)) (upto (locals w))
 unfoldable pub allocationTooLong : List ℕ → Bool
 allocationTooLong w = any (λ a. tooLong (allocationAnswer w a)) (upto (length (allocs w)))
 
-unfoldable pub setTooLong : List ℕ → Bool
-setTooLong w = any (λ b. tooLong (entryAnswer w b) || tooLong (exitAnswer w b)) (upto (blocks w))
-
--- some answer that the report prints
+-- some answer that the report prints: Order has at most 384 words, Rounds one, and a set at most 512, so none of them is too long
 unfoldable pub someTooLong : List ℕ → Bool
-someTooLong w = tooLong (orderAnswer w) || tooLong (roundsAnswer w) || setTooLong w || localTooLong w || allocationTooLong w
+someTooLong w = localTooLong w || allocationTooLong w
 
 -- 0, or the number that is printed behind `refused`
 unfoldable pub reported : List ℕ → ℕ

@@ -19,7 +19,7 @@ pub record Put (text : List ℕ) (at : ℕ) (old new : List ℕ) (r : ℕ) : Typ
 -- decimal digits; one more step than the number suffices
 abbrev pub digits : ℕ → ℕ → List ℕ
 digits zero n = []
-digits (suc k) n = cond (ltb n 10) (48 + n ∷ []) (digits k (n / 10) ++ (48 + n % 10 ∷ []))
+digits (suc k) n = cond (ltb n 10) ((48 + n) ∷ []) (digits k (n / 10) ++ ((48 + n % 10) ∷ []))
 
 unfoldable pub number : ℕ → List ℕ
 number n = digits (suc n) n

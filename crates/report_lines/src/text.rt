@@ -18,18 +18,14 @@ pub fn put_text(line: &mut [u8], at: usize, text: &[u8]) -> usize
     at + k
 }
 
-// A number's decimal digits: all but the last, then the last.
+// A number's decimal digits.
 pub fn put_number(line: &mut [u8], at: usize, n: u32) -> usize
-    requires { ⌜ at + length (number n) ≤ length (now line) ⌝ }
+    requires { ⌜ at + 10 ≤ length (now line) ⌝ }
     ensures { λ r. ⌜ Put (number n) at (now (line .entry)) (now (line .exit)) r ⌝ }
 {
-    if n < 10 {
-        line[at] = 48 + n as u8;
-        return at + 1;
-    }
-    let m = put_number(line, at, n / 10);
-    line[m] = 48 + (n % 10) as u8;
-    m + 1
+    let mut text = [0u8; 20];
+    let k = io::decimal(n as u64, &mut text);
+    put_text(line, at, &text[..k])
 }
 
 // A name of at most three bytes and a number.
@@ -80,14 +76,23 @@ pub fn put_members(line: &mut [u8], at: usize, ids: &[u32]) -> usize
     put_locals(line, at, ids)
 }
 
+fn wide(x: u8) -> u32
+    ensures { λ r. ⌜ (r ≡ x) × (r < 256) ⌝ }
+{
+    x as u32
+}
+
 // Word i of an answer.
 pub fn word_of(answer: &[u8], i: usize) -> u32
     requires { ⌜ 4 * i + 4 ≤ length (now answer) ⌝ }
     ensures { λ r. ⌜ r ≡ wordAt (now (answer .entry)) i ⌝ }
 {
     let at = 4 * i;
-    let low = answer[at] as u32 + 256 * answer[at + 1] as u32;
-    low + 65536 * answer[at + 2] as u32 + 16777216 * answer[at + 3] as u32
+    let a = wide(answer[at]);
+    let b = wide(answer[at + 1]);
+    let c = wide(answer[at + 2]);
+    let d = wide(answer[at + 3]);
+    a + 256 * b + 65536 * c + 16777216 * d
 }
 
 // The operation at which an interval starts, or the block's start.
