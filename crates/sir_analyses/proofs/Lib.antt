@@ -41,5 +41,5 @@ pub mod Turns
 pub mod SweepSteps
 pub mod SweepProof
 pub mod MergedIntervals
-pub mod AllocationAnswers
+pub mod AllocationWords
 pub mod Proved

@@ -17,6 +17,8 @@ use Rattle.sir_analyses.specs.Allocation.{rule12}
 use Rattle.sir_analyses.specs.Answers.{refusal, orderAnswer}
 use Rattle.sir_analyses.specs.Visiting.{VisitedAll, SeenBlocks, blocksIn, orderIn, Listed}
 use Rattle.sir_analyses.specs.Loading.{Prepared, Loaded}
+use Rattle.sir_analyses.specs.Discovery.{allocKeys}
+use Rattle.sir_analyses.proofs.Discovery.{keys-long, keys-most}
 use Rattle.sir_analyses.proofs.Keys.{blocks-rpo, order-answer, blocks-most, order-most}
 
 -- an earlier rule decides
@@ -71,15 +73,26 @@ module _ {w seen post : List ℕ} {n : ℕ} (good : WellFormed w) (v : VisitedAl
 pub front-length : {A : Type 0} (n : ℕ) (xs : List A) → n ≤ length xs → n ≡ length (take n xs)
 front-length n xs h = sym (length-take-le n xs h)
 
+-- the table of what was seen holds the visited blocks
+visited-seen : {w seen post : List ℕ} {n : ℕ} → WellFormed w → VisitedAll w seen post n → SeenBlocks w seen
+visited-seen good v = record {
+  wide = v .held .wide;
+  visited-is = λ b l. sym (v .shows .blocks-seen b (omega (arith, good .sized .blocks-most)));
+}
+
 -- all is at hand
 pub prepared : {w words seen post old rpo : List ℕ} {n k m : ℕ} → n ≤ length words → take n words ≡ w → WellFormed (take n words) → VisitedAll (take n words) seen post k
-    → Listed (blocksIn (take k post)) 0 old rpo m → length old ≡ 256 → Prepared w words seen post rpo n k m
-prepared {w} {words} {seen} {post} {old} {rpo} {n} {k} {m} fit is good v l long = record {
+    → Listed (blocksIn (take k post)) 0 old rpo m → length old ≡ 256 → rule12 (take n words) ≡ false → Prepared w words seen post rpo n k m
+prepared {w} {words} {seen} {post} {old} {rpo} {n} {k} {m} fit is good v l long differ = record {
   words-fit = fit;
   words-are = is;
   visited = subst (λ (w : List ℕ). VisitedAll w seen post k) is v;
   rpo-fit = omega (arith, l .next, l .long, blocks-fit good v);
   rpo-is = rpo-is good v l ∙ ap blocksRpo is;
+  well-formed = subst WellFormed is good;
+  seen-are = subst (λ (w : List ℕ). SeenBlocks w seen) is (visited-seen good v);
+  bases-differ = ap rule12 (sym is) ∙ differ;
+  keys-few = omega (arith, ap (λ (w : List ℕ). length (allocKeys w)) is, keys-long (take n words), keys-most (take n words) good differ);
 }
 
 -- what an accepted image's arrays give a question
@@ -94,10 +107,7 @@ module _ {w words seen post rpo : List ℕ} {n k m : ℕ} (good : WellFormed w) 
   words-good = subst WellFormed (sym (p .words-are)) good
 
   pub seen-blocks : SeenBlocks (take n words) seen
-  seen-blocks = subst (λ (v : List ℕ). SeenBlocks v seen) (sym (p .words-are)) (record {
-    wide = p .visited .held .wide;
-    visited-is = λ b l. sym (p .visited .shows .blocks-seen b (omega (arith, good .sized .blocks-most)));
-  })
+  seen-blocks = subst (λ (v : List ℕ). SeenBlocks v seen) (sym (p .words-are)) (p .seen-are)
 
   pub nine-words : 9 ≤ length (take n words)
   nine-words = omega (arith, words-good .sized .size)

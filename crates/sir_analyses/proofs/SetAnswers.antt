@@ -68,10 +68,10 @@ front-members s out {n = n} l e = ap (take n) e ∙ take-at (Words.members s) (d
 
 module _ {w : List ℕ} (good : WellFormed w) {uses defs exits : List ℕ} (t : LiveRows w uses defs exits) {b : ℕ} (l : b < blocks w) where
   pub row-answer : {set : List ℕ} → set ≡ Words.rowOf exits b → (length set ≡ 8) × (Words.members set ≡ exitAnswer w b)
-  row-answer e = (ap length e ∙ length-row exits b (omega (arith, t .exits-long, good .sized .blocks-most)), ap Words.members e ∙ exit-members good b l exits (t .exit-rows))
+  row-answer e = (ap length e ∙ length-row exits b (omega (arith, t .exits-long, good .sized .blocks-most)), ap Words.members e ∙ t .exit-is b l)
 
   pub entry-answer : isVisited w b ≡ true → (ws : List ℕ) → EntryWords uses defs exits b ws → Words.members ws ≡ entryAnswer w b
-  entry-answer v ws e = rw v (entry-members good b l exits (t .exit-rows) ws (t .block-rows) e)
+  entry-answer v ws e = t .entry-is b l v ws e
 
 -- an unvisited block has an empty entry set
 pub no-entry : (w : List ℕ) (b : ℕ) → isVisited w b ≡ false → Words.members (replicate 8 0) ≡ entryAnswer w b

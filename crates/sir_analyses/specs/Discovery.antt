@@ -80,8 +80,3 @@ pub record Discovered (w owner marks : List ℕ) : Type 0 where
   pub owner-is : (v : ℕ) → v < locals w → getD owner v 0 ≡ getD (owners w) v 0
   pub mark-is : (a : ℕ) → a < length (allocs w) → contains marks a ≡ marked w a
   pub reach-is : (a v : ℕ) → a < length (allocs w) → marked w a ≡ false → v < locals w → has (reach w (allocAt w a)) v ≡ eqb (getD owner v 0) (suc a)
-
--- allocation a is not marked, and owns what it reaches
-pub record Owns (w owner : List ℕ) (a : ℕ) : Type 0 where
-  pub unmarked : marked w a ≡ false
-  pub reach-is : (v : ℕ) → v < locals w → has (reach w (allocAt w a)) v ≡ eqb (getD owner v 0) (suc a)

@@ -17,3 +17,4 @@ pub mod Sweep
 pub mod Claims
 pub mod Walk
 pub mod Examples
+pub mod laws

@@ -4,9 +4,13 @@ use mathlib.Core.Path.{_≡_}
 use mathlib.Core.List.{List}
 use Prim.Native.Nat.{ℕ, _≤_}
 use lib.ListN.{length, take}
+use mathlib.Core.Bool.{false}
 use Rattle.sir_data.specs.Pages.{payload}
+use Rattle.sir_data.specs.WellFormed.{WellFormed}
 use Rattle.sir_analyses.specs.Order.{blocksRpo}
-use Rattle.sir_analyses.specs.Visiting.{VisitedAll}
+use Rattle.sir_analyses.specs.Allocation.{rule12}
+use Rattle.sir_analyses.specs.Discovery.{allocKeys}
+use Rattle.sir_analyses.specs.Visiting.{VisitedAll, SeenBlocks}
 use Rattle.sir_analyses.specs.Answers.{refusal}
 
 -- n words, k keys of the visit and m blocks stand at the front of their arrays
@@ -16,6 +20,10 @@ pub record Prepared (w words seen post rpo : List ℕ) (n k m : ℕ) : Type 0 wh
   pub visited : VisitedAll w seen post k
   pub rpo-fit : m ≤ length rpo
   pub rpo-is : take m rpo ≡ blocksRpo w
+  pub well-formed : WellFormed w
+  pub seen-are : SeenBlocks w seen
+  pub bases-differ : rule12 w ≡ false
+  pub keys-few : length (allocKeys w) ≤ 512
 
 pub record Loaded (s words seen post rpo : List ℕ) (number n k m : ℕ) : Type 0 where
   pub number-is : number ≡ refusal s

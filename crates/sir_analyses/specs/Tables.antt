@@ -7,9 +7,11 @@ use Prim.Native.Nat.{ℕ, _+_, _*_, _≤_, _<_}
 use lib.ListN.{length, getD}
 use Rattle.plank_core.specs.Lists.{upto, any, keep, mem, _∈_}
 use Rattle.plank_core.specs.DenseIndexSet.{contains}
+use Rattle.plank_core.specs.DenseIndexSet as Words
 use Rattle.sir_data.specs.Records.{blocks, operations, locals, inputs, outputs, condition, returned, ins, outs}
 use Rattle.sir_analyses.specs.Order.{isVisited, predecessors}
 use Rattle.sir_analyses.specs.Liveness.{Set, has, rowOf, useSet, defSet, renamed, settled}
+use Rattle.sir_analyses.specs.Answers.{entryAnswer, exitAnswer}
 
 -- words that show a set
 abbrev pub Same : List ℕ → Set → Type 0
@@ -115,3 +117,6 @@ pub record LiveRows (w uses defs exits : List ℕ) : Type 0 where
   pub block-rows : BlockRows w uses defs
   pub exits-long : length exits ≡ 2048
   pub exit-rows : SameRows exits (settled w .1) (blocks w)
+  -- and their members
+  pub exit-is : (b : ℕ) → b < blocks w → Words.members (Words.rowOf exits b) ≡ exitAnswer w b
+  pub entry-is : (b : ℕ) → b < blocks w → isVisited w b ≡ true → (ws : List ℕ) → EntryWords uses defs exits b ws → Words.members ws ≡ entryAnswer w b

@@ -1,6 +1,7 @@
 // Layer 3: the analyses, one file for each of the source's, and the questions that can be put to an image.
 pub mod allocation_answers;
 pub mod allocation_liveness;
+pub mod allocation_words;
 pub mod answers;
 pub mod block_sets;
 pub mod def_use;

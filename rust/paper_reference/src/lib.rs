@@ -9,6 +9,9 @@ mod codes;
 mod flow;
 mod pages;
 mod records;
+mod report;
+
+pub use report::report;
 
 use allocations::Allocation;
 use flow::{Interval, Liveness, Operands, Order};

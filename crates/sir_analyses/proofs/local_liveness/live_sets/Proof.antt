@@ -1,5 +1,6 @@
 -- `live_sets` meets its contract.
 use mathlib.Core.Path.{_≡_, refl, sym, ap, _∙_}
+use Rattle.sir_analyses.proofs.SetAnswers.{exit-members, entry-members}
 use borrow.Author.Needs.{needs}
 use Rattle.sir_analyses.proofs.local_liveness.live_sets.Statement.{statement}
 use Rattle.sir_analyses.proofs.local_liveness.live_sets.Tie as tie
@@ -29,7 +30,18 @@ same-length-3 : tie.Need-same-length-3
 same-length-3 c = search needs
 
 returns : tie.Need-returns
-returns c = let e = c .before .before .liveness .ensures in (e .0, record { block-rows = c .before .before .before .before .before .before .before .before .before .before .before .before .before .before .block-sets .ensures; exits-long = e .1; exit-rows = e .2 })
+returns c = let e = c .before .before .liveness .ensures in
+    let good = c .before .before .before .before .before .before .before .before .before .before .before .before .before .before .before .before .before .before .before .before .before .before .before .before .before .pre .0 in
+    let rows = c .before .before .before .before .before .before .before .before .before .before .before .before .before .before .block-sets .ensures in (
+      e .0,
+      record {
+        block-rows = rows;
+        exits-long = e .1;
+        exit-rows = e .2;
+        exit-is = λ b l. exit-members good b l _ (e .2);
+        entry-is = λ b l v ws h. rw v (entry-members good b l _ (e .2) ws rows h);
+      },
+    )
 
 pub live-sets-spec : {M : Type 1} → statement M
 live-sets-spec =

@@ -1,0 +1,4 @@
+pub mod Putting
+pub mod Numbers
+pub mod Intervals
+pub mod TooLong

@@ -1,0 +1,82 @@
+-- `allocation_too_long` meets its contract.
+use mathlib.Core.Path.{_≡_, refl, sym, ap, _∙_, subst}
+use mathlib.Core.Logic.{⊎-elim}
+use mathlib.Core.Bool.{Bool, true, false}
+use mathlib.Core.List.{List, [], _∷_, _++_}
+use Prim.Native.Nat.{ℕ, _+_, _-_, _*_, _/_, _≤_, _<_}
+use native.Mathlib.Omega.{arith}
+use lib.ListN.{length, getD, take, length-replicate}
+use lib.Seq.{length-take-le}
+use borrow.Author.Tests.{eq-eqb, ne-eqb}
+use Rattle.plank_core.specs.Lists.{any, range}
+use Rattle.plank_core.specs.laws.Loops.{any-step, any-stop, any-end}
+use Rattle.sir_data.specs.Records.{blocks, locals}
+use Rattle.sir_analyses.specs.Allocation.{allocs}
+use Rattle.sir_analyses.specs.Answers.{intervalsAnswer, allocationAnswer}
+use Rattle.report_lines.specs.Lines.{Put, blockLine, localLine, allocationLine, blockText, localText, allocationText}
+use Rattle.report_lines.specs.Counting.{localTooLong, allocationTooLong, someTooLong, reported}
+use Rattle.report_lines.proofs.Putting.{put-as, put-nothing, put-then}
+use Rattle.report_lines.proofs.TooLong.{is-long, not-long, short, stands, keys-long, longLocal, longAllocation, locals-start, local-short, allocations-start, allocation-short, front}
+use borrow.Author.Needs.{needs}
+use Rattle.report_lines.proofs.counting.allocation_too_long.Statement.{statement}
+use Rattle.report_lines.proofs.counting.allocation_too_long.Tie as tie
+
+abbrev Inv-loop : tie.InvT-loop
+Inv-loop words seen reads writes exits ends keys owner marks out₀ a₀ out a = (a ≤ length keys) × (length out ≡ length out₀) × (any (longAllocation words) (range a (length (allocs words))) ≡ allocationTooLong words)
+
+abbrev μ-loop : tie.MeasureT-loop
+μ-loop words seen reads writes exits ends keys owner marks out₀ a₀ out a = length keys - a
+
+loop-holds : tie.Need-loop-holds Inv-loop μ-loop
+loop-holds c = (omega arith, refl, allocations-start (c .before .before .before .before .before .before .before .before .before .before .args .words .now))
+
+cast-t15 : tie.Need-cast-t15 Inv-loop μ-loop
+cast-t15 c = omega (arith, c .loop-test .taken, c .before .before .before .before .before .before .before .before .before .before .before .before .pre .1 .1 .1 .0 .1)
+
+put-allocation-requires : tie.Need-put-allocation-requires Inv-loop μ-loop
+put-allocation-requires c κs = let P = c .before .before .before .before .before .before .before .before .before .before .before .before .before .pre in (P .0, (P .1 .0, (P .1 .1 .0, ((P .1 .1 .1 .0 .0, P .1 .1 .1 .0 .1, c .before .loop-test .taken), (P .1 .1 .1 .1, omega arith)))))
+
+same-length : tie.Need-same-length Inv-loop μ-loop
+same-length c = omega (arith, c .before .before .before .put-allocation .kept, c .before .before .before .before .before .before .loop .inv .1)
+
+returns : tie.Need-returns Inv-loop μ-loop
+returns c = let w = c .before .before .before .before .before .before .before .before .before .before .before .before .before .before .before .before .before .args .words .now in
+    let a = c .before .before .before .before .before .before .loop .a in
+    let l : a < length (allocs w) = omega (arith, c .before .before .before .before .before .loop-test .taken, keys-long w, ap length (c .before .before .before .before .before .before .before .before .before .before .before .before .before .before .before .before .before .pre .1 .1 .1 .0 .0)) in
+    sym (any-stop (longAllocation w) a (length (allocs w)) l (is-long (allocationAnswer w a) (c .before .before .before .put-allocation .ensures .1) (c .if1 .taken))) ∙ c .before .before .before .before .before .before .loop .inv .2
+
+add-a : tie.Need-add-a Inv-loop μ-loop
+add-a c = omega arith
+
+loop-less : tie.Need-loop-less Inv-loop μ-loop
+loop-less c = omega arith
+
+loop-again : tie.Need-loop-again Inv-loop μ-loop
+loop-again c = let w = c .before .before .before .before .before .before .before .before .before .before .before .before .before .before .before .before .before .args .words .now in
+    let a = c .before .before .before .before .before .before .loop .a in
+    let l : a < length (allocs w) = omega (arith, c .before .before .before .before .before .loop-test .taken, keys-long w, ap length (c .before .before .before .before .before .before .before .before .before .before .before .before .before .before .before .before .before .pre .1 .1 .1 .0 .0)) in
+    (omega arith, omega (arith, c .before .before .before .put-allocation .kept, c .before .before .before .before .before .before .loop .inv .1), any-step (longAllocation w) a (length (allocs w)) l (not-long (allocationAnswer w a) (c .before .before .before .put-allocation .ensures .1) (c .if1 .left)) ∙ c .before .before .before .before .before .before .loop .inv .2)
+
+same-length-2 : tie.Need-same-length-2 Inv-loop μ-loop
+same-length-2 c = c .before .loop .inv .1
+
+returns-2 : tie.Need-returns-2 Inv-loop μ-loop
+returns-2 c = let w = c .before .before .before .before .before .before .before .before .before .before .before .before .args .words .now in
+    sym (any-end (longAllocation w) (c .before .loop .a) (length (allocs w)) (omega (arith, c .loop-test .left, keys-long w, ap length (c .before .before .before .before .before .before .before .before .before .before .before .before .pre .1 .1 .1 .0 .0)))) ∙ c .before .loop .inv .2
+
+pub allocation-too-long-spec : {M : Type 1} → statement M
+allocation-too-long-spec =
+    tie.close
+    (tie.spec
+    Inv-loop
+    μ-loop
+    loop-holds
+    cast-t15
+    put-allocation-requires
+    same-length
+    returns
+    add-a
+    loop-less
+    loop-again
+    same-length-2
+    returns-2)

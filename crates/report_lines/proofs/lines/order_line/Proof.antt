@@ -1,0 +1,49 @@
+-- `order_line` meets its contract.
+use mathlib.Core.Path.{_≡_, refl, sym, ap, _∙_, subst}
+use mathlib.Core.Bool.{Bool, true, false}
+use mathlib.Core.List.{List, [], _∷_, _++_, append-assoc}
+use Prim.Native.Nat.{ℕ, _+_, _-_, _*_, _/_, _≤_, _<_}
+use native.Mathlib.Omega.{arith}
+use lib.ListN.{length, getD, take}
+use Rattle.report_lines.specs.Lines.{Put, number, named, intervalAt}
+use Rattle.report_lines.proofs.Putting.{put-as, put-nothing, put-then, Copied, copied-none, copied-more, copied-all, put-item, put-id}
+use Rattle.report_lines.proofs.Numbers.{decimal-is, number-short}
+use Rattle.report_lines.proofs.Numbers.{blocks-short}
+use borrow.Author.Needs.{needs}
+use Rattle.report_lines.proofs.lines.order_line.Statement.{statement}
+use Rattle.report_lines.proofs.lines.order_line.Tie as tie
+
+slice-aggregate-put-text : tie.Need-slice-aggregate-put-text
+slice-aggregate-put-text c = search needs
+
+put-text-requires : tie.Need-put-text-requires
+put-text-requires c κs = omega (arith, c .before .before .before .before .pre .1)
+
+put-blocks-requires : tie.Need-put-blocks-requires
+put-blocks-requires c κs = let t = c .before .before .before .put-text .ensures in omega (arith, c .before .before .before .before .before .before .before .before .pre .0, c .before .before .before .before .before .before .before .before .pre .1, t .next, t .long)
+
+slice-aggregate-put-text-2 : tie.Need-slice-aggregate-put-text-2
+slice-aggregate-put-text-2 c = search needs
+
+put-text-requires-2 : tie.Need-put-text-requires-2
+put-text-requires-2 c κs = let t = c .before .before .before .before .before .before .before .before .put-text .ensures in
+    let n = c .before .before .before .before .put-blocks .ensures in
+    omega (arith, c .before .before .before .before .before .before .before .before .before .before .before .before .before .pre .0, c .before .before .before .before .before .before .before .before .before .before .before .before .before .pre .1, t .next, t .long, n .next, n .long, blocks-short (c .before .before .before .before .before .before .before .before .before .before .before .before .before .args .rpo .now) (λ i. omega (arith, c .before .before .before .before .before .before .before .before .before .before .before .before .shared-slice-known .given i)))
+
+same-length : tie.Need-same-length
+same-length c = search needs
+
+returns : tie.Need-returns
+returns c = put-then (c .before .before .before .before .before .before .before .before .before .before .before .put-text .ensures) (put-then (c .before .before .before .before .before .before .before .put-blocks .ensures) (c .before .before .put-text2 .ensures))
+
+pub order-line-spec : {M : Type 1} → statement M
+order-line-spec =
+    tie.close
+    (tie.spec
+    slice-aggregate-put-text
+    put-text-requires
+    put-blocks-requires
+    slice-aggregate-put-text-2
+    put-text-requires-2
+    same-length
+    returns)

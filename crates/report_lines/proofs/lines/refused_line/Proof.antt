@@ -1,0 +1,48 @@
+-- `refused_line` meets its contract.
+use mathlib.Core.Path.{_≡_, refl, sym, ap, _∙_, subst}
+use mathlib.Core.Bool.{Bool, true, false}
+use mathlib.Core.List.{List, [], _∷_, _++_, append-assoc}
+use Prim.Native.Nat.{ℕ, _+_, _-_, _*_, _/_, _≤_, _<_}
+use native.Mathlib.Omega.{arith}
+use lib.ListN.{length, getD, take}
+use Rattle.report_lines.specs.Lines.{Put, number, named, intervalAt}
+use Rattle.report_lines.proofs.Putting.{put-as, put-nothing, put-then, Copied, copied-none, copied-more, copied-all, put-item, put-id}
+use Rattle.report_lines.proofs.Numbers.{decimal-is, number-short}
+use borrow.Author.Needs.{needs}
+use Rattle.report_lines.proofs.lines.refused_line.Statement.{statement}
+use Rattle.report_lines.proofs.lines.refused_line.Tie as tie
+
+slice-aggregate-put-text : tie.Need-slice-aggregate-put-text
+slice-aggregate-put-text c = search needs
+
+put-text-requires : tie.Need-put-text-requires
+put-text-requires c κs = omega (arith, c .before .before .before .pre)
+
+put-number-requires : tie.Need-put-number-requires
+put-number-requires c κs = let t = c .before .before .before .put-text .ensures in omega (arith, c .before .before .before .before .before .before .before .pre, t .next, t .long)
+
+slice-aggregate-put-text-2 : tie.Need-slice-aggregate-put-text-2
+slice-aggregate-put-text-2 c = search needs
+
+put-text-requires-2 : tie.Need-put-text-requires-2
+put-text-requires-2 c κs = let t = c .before .before .before .before .before .before .before .before .put-text .ensures in
+    let n = c .before .before .before .before .put-number .ensures in
+    omega (arith, c .before .before .before .before .before .before .before .before .before .before .before .before .pre, t .next, t .long, n .next, n .long, number-short (c .before .before .before .before .before .before .before .before .before .before .before .before .args .number) (omega (arith, c .before .before .before .before .before .before .before .before .before .before .before .before .fits)))
+
+same-length : tie.Need-same-length
+same-length c = search needs
+
+returns : tie.Need-returns
+returns c = put-then (c .before .before .before .before .before .before .before .before .before .before .before .put-text .ensures) (put-then (c .before .before .before .before .before .before .before .put-number .ensures) (c .before .before .put-text2 .ensures))
+
+pub refused-line-spec : {M : Type 1} → statement M
+refused-line-spec =
+    tie.close
+    (tie.spec
+    slice-aggregate-put-text
+    put-text-requires
+    put-number-requires
+    slice-aggregate-put-text-2
+    put-text-requires-2
+    same-length
+    returns)

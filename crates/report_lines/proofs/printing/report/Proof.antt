@@ -1,0 +1,100 @@
+-- `report` meets its contract.
+use mathlib.Core.Path.{_≡_, refl, sym, ap, _∙_, subst}
+use mathlib.Core.Logic.{⊎-elim}
+use mathlib.Core.Bool.{Bool, true, false}
+use mathlib.Core.List.{List, [], _∷_, _++_}
+use Prim.Native.Nat.{ℕ, _+_, _-_, _*_, _/_, _≤_, _<_}
+use native.Mathlib.Omega.{arith}
+use lib.ListN.{length, getD, take, length-replicate}
+use lib.Seq.{length-take-le}
+use borrow.Author.Tests.{eq-eqb, ne-eqb}
+use Rattle.plank_core.specs.Lists.{any, range}
+use Rattle.plank_core.specs.laws.Loops.{any-step, any-stop, any-end}
+use Rattle.sir_data.specs.Records.{blocks, locals}
+use Rattle.sir_analyses.specs.Allocation.{allocs}
+use Rattle.sir_analyses.specs.Answers.{intervalsAnswer, allocationAnswer}
+use Rattle.report_lines.specs.Lines.{Put, blockLine, localLine, allocationLine, blockText, localText, allocationText}
+use Rattle.report_lines.specs.Counting.{localTooLong, allocationTooLong, someTooLong, reported}
+use Rattle.report_lines.proofs.Putting.{put-as, put-nothing, put-then}
+use Rattle.report_lines.proofs.TooLong.{is-long, not-long, short, stands, keys-long, longLocal, longAllocation, locals-start, local-short, allocations-start, allocation-short, front, take-most, take-least, seen-as}
+use Rattle.sir_data.specs.Pages.{payload}
+use Rattle.sir_data.specs.WellFormed.{WellFormed}
+use Rattle.sir_analyses.specs.Order.{blocksRpo}
+use Rattle.sir_analyses.specs.Allocation.{rule12}
+use Rattle.sir_analyses.specs.Answers.{refusal}
+use Rattle.sir_analyses.specs.Visiting.{SeenBlocks}
+use Rattle.sir_analyses.specs.Discovery.{allocKeys}
+use borrow.Author.Needs.{needs}
+use Rattle.report_lines.proofs.printing.report.Statement.{statement}
+use Rattle.report_lines.proofs.printing.report.Tie as tie
+
+slice-aggregate-load : tie.Need-slice-aggregate-load
+slice-aggregate-load c = search needs
+
+slice-aggregate-load-2 : tie.Need-slice-aggregate-load-2
+slice-aggregate-load-2 c = search needs
+
+slice-aggregate-load-3 : tie.Need-slice-aggregate-load-3
+slice-aggregate-load-3 c = search needs
+
+slice-aggregate-load-4 : tie.Need-slice-aggregate-load-4
+slice-aggregate-load-4 c = search needs
+
+load-requires : tie.Need-load-requires
+load-requires c κs = search needs
+
+slice-aggregate-say-refused : tie.Need-slice-aggregate-say-refused
+slice-aggregate-say-refused c = search needs
+
+say-refused-requires : tie.Need-say-refused-requires
+say-refused-requires c κs = search needs
+
+returns : tie.Need-returns
+unfolding reported
+returns c = rw (ne-eqb (refusal (c .before .before .before .before .before .before .before .before .before .before .before .before .before .before .args .image .now)) 0 (λ z. c .before .before .before .if1 .taken (c .before .before .before .before .before .before .before .before .load .ensures .number-is ∙ z))) (c .before .before .before .before .before .before .before .before .load .ensures .number-is)
+
+array-share-prefix-words : tie.Need-array-share-prefix-words
+array-share-prefix-words c = let p = c .before .before .before .before .before .load .ensures .accepted (sym (c .before .before .before .before .before .load .ensures .number-is) ∙ c .if1 .left) in p .words-fit
+
+slice-aggregate-report-words : tie.Need-slice-aggregate-report-words
+slice-aggregate-report-words c = let p = c .before .before .before .before .before .before .load .ensures .accepted (sym (c .before .before .before .before .before .before .load .ensures .number-is) ∙ c .before .if1 .left) in sym (length-take-le _ _ (p .words-fit))
+
+slice-aggregate-report-words-2 : tie.Need-slice-aggregate-report-words-2
+slice-aggregate-report-words-2 c = search needs
+
+array-share-prefix-rpo : tie.Need-array-share-prefix-rpo
+array-share-prefix-rpo c = let p = c .before .before .before .before .before .before .before .load .ensures .accepted (sym (c .before .before .before .before .before .before .before .load .ensures .number-is) ∙ c .before .before .if1 .left) in p .rpo-fit
+
+slice-aggregate-report-words-3 : tie.Need-slice-aggregate-report-words-3
+slice-aggregate-report-words-3 c = let p = c .before .before .before .before .before .before .before .before .load .ensures .accepted (sym (c .before .before .before .before .before .before .before .before .load .ensures .number-is) ∙ c .before .before .before .if1 .left) in sym (length-take-le _ _ (p .rpo-fit))
+
+report-words-requires : tie.Need-report-words-requires
+report-words-requires c κs = let p = c .before .before .before .before .before .before .before .before .load .ensures .accepted (sym (c .before .before .before .before .before .before .before .before .load .ensures .number-is) ∙ c .before .before .before .if1 .left) in
+    let e = sym (p .words-are) in
+    (subst WellFormed e (p .well-formed), ((seen-as e (p .seen-are), p .rpo-is ∙ ap blocksRpo e, take-most _ 256 _ (p .rpo-fit) (omega (arith, p .rpo-fit))), (ap rule12 (sym e) ∙ p .bases-differ, omega (arith, ap (λ (w : List ℕ). length (allocKeys w)) e, p .keys-few))))
+
+returns-2 : tie.Need-returns-2
+unfolding reported someTooLong
+returns-2 c = let z = sym (c .before .before .before .before .before .before .before .before .before .load .ensures .number-is) ∙ c .before .before .before .before .if1 .left in
+    let p = c .before .before .before .before .before .before .before .before .before .load .ensures .accepted z in
+    rw (eq-eqb (refusal (c .before .before .before .before .before .before .before .before .before .before .before .before .before .before .before .args .image .now)) 0 z) (rw (p .words-are) at (c .report-words .ensures))
+
+pub report-spec : {M : Type 1} → statement M
+report-spec =
+    tie.close
+    (tie.spec
+    slice-aggregate-load
+    slice-aggregate-load-2
+    slice-aggregate-load-3
+    slice-aggregate-load-4
+    load-requires
+    slice-aggregate-say-refused
+    say-refused-requires
+    returns
+    array-share-prefix-words
+    slice-aggregate-report-words
+    slice-aggregate-report-words-2
+    array-share-prefix-rpo
+    slice-aggregate-report-words-3
+    report-words-requires
+    returns-2)

@@ -1,0 +1,155 @@
+-- `report_words` meets its contract.
+use mathlib.Core.Path.{_≡_, refl, sym, ap, _∙_, subst}
+use mathlib.Core.Logic.{⊎-elim}
+use mathlib.Core.Bool.{Bool, true, false}
+use mathlib.Core.List.{List, [], _∷_, _++_}
+use Prim.Native.Nat.{ℕ, _+_, _-_, _*_, _/_, _≤_, _<_}
+use native.Mathlib.Omega.{arith}
+use lib.ListN.{length, getD, take, length-replicate}
+use lib.Seq.{length-take-le}
+use borrow.Author.Tests.{eq-eqb, ne-eqb}
+use Rattle.plank_core.specs.Lists.{any, range}
+use Rattle.plank_core.specs.laws.Loops.{any-step, any-stop, any-end}
+use Rattle.sir_data.specs.Records.{blocks, locals}
+use Rattle.sir_analyses.specs.Allocation.{allocs}
+use Rattle.sir_analyses.specs.Answers.{intervalsAnswer, allocationAnswer}
+use Rattle.report_lines.specs.Lines.{Put, blockLine, localLine, allocationLine, blockText, localText, allocationText}
+use Rattle.report_lines.specs.Counting.{localTooLong, allocationTooLong, someTooLong, reported}
+use Rattle.report_lines.proofs.Putting.{put-as, put-nothing, put-then}
+use Rattle.report_lines.proofs.TooLong.{is-long, not-long, short, stands, keys-long, longLocal, longAllocation, locals-start, local-short, allocations-start, allocation-short, front}
+use borrow.Author.Needs.{needs}
+use Rattle.report_lines.proofs.printing.report_words.Statement.{statement}
+use Rattle.report_lines.proofs.printing.report_words.Tie as tie
+
+slice-aggregate-operand-sets : tie.Need-slice-aggregate-operand-sets
+slice-aggregate-operand-sets c = search needs
+
+slice-aggregate-operand-sets-2 : tie.Need-slice-aggregate-operand-sets-2
+slice-aggregate-operand-sets-2 c = search needs
+
+operand-sets-requires : tie.Need-operand-sets-requires
+operand-sets-requires c κs = (c .before .before .before .before .before .pre .0, (refl, refl))
+
+slice-aggregate-live-sets : tie.Need-slice-aggregate-live-sets
+slice-aggregate-live-sets c = search needs
+
+slice-aggregate-live-sets-2 : tie.Need-slice-aggregate-live-sets-2
+slice-aggregate-live-sets-2 c = search needs
+
+slice-aggregate-live-sets-3 : tie.Need-slice-aggregate-live-sets-3
+slice-aggregate-live-sets-3 c = search needs
+
+slice-aggregate-live-sets-4 : tie.Need-slice-aggregate-live-sets-4
+slice-aggregate-live-sets-4 c = search needs
+
+slice-aggregate-live-sets-5 : tie.Need-slice-aggregate-live-sets-5
+slice-aggregate-live-sets-5 c = search needs
+
+live-sets-requires : tie.Need-live-sets-requires
+live-sets-requires c κs = let P = c .before .before .before .before .before .before .before .before .before .before .before .before .before .pre in (P .0, ((P .1 .0 .0, P .1 .0 .1), (c .before .before .before .before .before .before .before .operand-sets .ensures, (refl, refl, refl))))
+
+slice-aggregate-find-allocations : tie.Need-slice-aggregate-find-allocations
+slice-aggregate-find-allocations c = search needs
+
+find-allocations-requires : tie.Need-find-allocations-requires
+find-allocations-requires c κs = let P = c .before .before .before .before .before .before .before .before .before .before .before .before .before .before .before .before .before .before .pre in (P .0, (P .1 .0 .1, P .1 .1 .1))
+
+slice-aggregate-pointer-links : tie.Need-slice-aggregate-pointer-links
+slice-aggregate-pointer-links c = search needs
+
+slice-aggregate-pointer-links-2 : tie.Need-slice-aggregate-pointer-links-2
+slice-aggregate-pointer-links-2 c = search needs
+
+pointer-links-requires : tie.Need-pointer-links-requires
+pointer-links-requires c κs = let P = c .before .before .before .before .before .before .before .before .before .before .before .before .before .before .before .before .before .before .before .before .before .before .pre in (P .0, (P .1 .0 .1, (refl, refl)))
+
+array-share-prefix-keys : tie.Need-array-share-prefix-keys
+array-share-prefix-keys c = omega (arith, c .before .before .before .before .before .before .find-allocations .ensures .next, c .before .before .before .before .before .before .before .before .before .before .before .before .before .before .before .before .before .before .before .before .before .before .before .before .before .pre .1 .1 .1)
+
+slice-aggregate-discover-allocations : tie.Need-slice-aggregate-discover-allocations
+slice-aggregate-discover-allocations c = sym (length-take-le _ _ (omega (arith, c .before .before .before .before .before .before .before .find-allocations .ensures .next, c .before .before .before .before .before .before .before .before .before .before .before .before .before .before .before .before .before .before .before .before .before .before .before .before .before .before .pre .1 .1 .1, c .before .before .before .before .before .before .before .find-allocations .kept)))
+
+slice-aggregate-discover-allocations-2 : tie.Need-slice-aggregate-discover-allocations-2
+slice-aggregate-discover-allocations-2 c = search needs
+
+slice-aggregate-discover-allocations-3 : tie.Need-slice-aggregate-discover-allocations-3
+slice-aggregate-discover-allocations-3 c = search needs
+
+slice-aggregate-discover-allocations-4 : tie.Need-slice-aggregate-discover-allocations-4
+slice-aggregate-discover-allocations-4 c = search needs
+
+slice-aggregate-discover-allocations-5 : tie.Need-slice-aggregate-discover-allocations-5
+slice-aggregate-discover-allocations-5 c = search needs
+
+discover-allocations-requires : tie.Need-discover-allocations-requires
+discover-allocations-requires c κs = let P = c .before .before .before .before .before .before .before .before .before .before .before .before .before .before .before .before .before .before .before .before .before .before .before .before .before .before .before .before .before .before .pre in (P .0, ((P .1 .1 .0, c .before .before .before .before .before .before .before .before .before .before .before .find-allocations .ensures .list, c .before .before .before .before .before .before .before .pointer-links .ensures), (refl, refl)))
+
+slice-aggregate-report-tables : tie.Need-slice-aggregate-report-tables
+slice-aggregate-report-tables c = search needs
+
+slice-aggregate-report-tables-2 : tie.Need-slice-aggregate-report-tables-2
+slice-aggregate-report-tables-2 c = search needs
+
+slice-aggregate-report-tables-3 : tie.Need-slice-aggregate-report-tables-3
+slice-aggregate-report-tables-3 c = search needs
+
+slice-aggregate-report-tables-4 : tie.Need-slice-aggregate-report-tables-4
+slice-aggregate-report-tables-4 c = search needs
+
+slice-aggregate-report-tables-5 : tie.Need-slice-aggregate-report-tables-5
+slice-aggregate-report-tables-5 c = search needs
+
+array-share-prefix-keys-2 : tie.Need-array-share-prefix-keys-2
+array-share-prefix-keys-2 c = omega (arith, c .before .before .before .before .before .before .before .before .before .before .before .before .before .before .before .before .before .before .before .find-allocations .ensures .next, c .before .before .before .before .before .before .before .before .before .before .before .before .before .before .before .before .before .before .before .before .before .before .before .before .before .before .before .before .before .before .before .before .before .before .before .before .before .before .pre .1 .1 .1)
+
+slice-aggregate-report-tables-6 : tie.Need-slice-aggregate-report-tables-6
+slice-aggregate-report-tables-6 c = sym (length-take-le _ _ (omega (arith, c .before .before .before .before .before .before .before .before .before .before .before .before .before .before .before .before .before .before .before .before .find-allocations .ensures .next, c .before .before .before .before .before .before .before .before .before .before .before .before .before .before .before .before .before .before .before .before .before .before .before .before .before .before .before .before .before .before .before .before .before .before .before .before .before .before .before .pre .1 .1 .1, c .before .before .before .before .before .before .before .before .before .before .before .before .before .before .before .before .before .before .before .before .find-allocations .kept)))
+
+slice-aggregate-report-tables-7 : tie.Need-slice-aggregate-report-tables-7
+slice-aggregate-report-tables-7 c = search needs
+
+slice-aggregate-report-tables-8 : tie.Need-slice-aggregate-report-tables-8
+slice-aggregate-report-tables-8 c = search needs
+
+report-tables-requires : tie.Need-report-tables-requires
+report-tables-requires c κs = let P = c .before .before .before .before .before .before .before .before .before .before .before .before .before .before .before .before .before .before .before .before .before .before .before .before .before .before .before .before .before .before .before .before .before .before .before .before .before .before .before .before .before .pre in (P .0, ((P .1 .0 .0, P .1 .0 .1, c .before .before .before .before .before .before .before .before .before .before .before .before .before .before .before .before .before .before .before .before .before .before .before .before .before .before .before .before .before .before .before .before .before .before .before .operand-sets .ensures), ((P .1 .0 .2, c .before .before .before .before .before .before .before .before .before .before .before .before .before .before .before .before .before .before .before .before .before .before .before .before .before .before .before .live-sets .ensures .1), ((c .before .before .before .before .before .before .before .before .before .before .before .before .before .before .before .before .before .before .before .before .before .before .find-allocations .ensures .list, omega (arith, ap length (c .before .before .before .before .before .before .before .before .before .before .before .before .before .before .before .before .before .before .before .before .before .before .find-allocations .ensures .list), P .1 .1 .1)), (omega (arith, c .before .before .before .before .before .before .before .before .before .before .discover-allocations .kept), omega (arith, c .before .before .before .before .before .before .before .before .before .before .discover-allocations .kept), c .before .before .before .before .before .before .before .before .before .before .discover-allocations .ensures)))))
+
+returns : tie.Need-returns
+returns c = c .report-tables .ensures
+
+pub report-words-spec : {M : Type 1} → statement M
+report-words-spec =
+    tie.close
+    (tie.spec
+    slice-aggregate-operand-sets
+    slice-aggregate-operand-sets-2
+    operand-sets-requires
+    slice-aggregate-live-sets
+    slice-aggregate-live-sets-2
+    slice-aggregate-live-sets-3
+    slice-aggregate-live-sets-4
+    slice-aggregate-live-sets-5
+    live-sets-requires
+    slice-aggregate-find-allocations
+    find-allocations-requires
+    slice-aggregate-pointer-links
+    slice-aggregate-pointer-links-2
+    pointer-links-requires
+    array-share-prefix-keys
+    slice-aggregate-discover-allocations
+    slice-aggregate-discover-allocations-2
+    slice-aggregate-discover-allocations-3
+    slice-aggregate-discover-allocations-4
+    slice-aggregate-discover-allocations-5
+    discover-allocations-requires
+    slice-aggregate-report-tables
+    slice-aggregate-report-tables-2
+    slice-aggregate-report-tables-3
+    slice-aggregate-report-tables-4
+    slice-aggregate-report-tables-5
+    array-share-prefix-keys-2
+    slice-aggregate-report-tables-6
+    slice-aggregate-report-tables-7
+    slice-aggregate-report-tables-8
+    report-tables-requires
+    returns)
