@@ -82,14 +82,13 @@ fn table(group: &Group) {
     let mut all_library = Duration::ZERO;
     for question in Question::ALL {
         let mut times = Times::default();
-        let linked = answers(question);
         for image in &images {
             let ids = image.sample(question);
             if ids.is_empty() {
                 continue;
             }
             times.images += 1;
-            if linked {
+            if sir_analyses::LINKED {
                 let time = mean(&ids, |id| _ = black_box(ask_library(&image.bytes, question, id, &mut result)));
                 times.library += time;
                 all_library += time * image.count(question);
@@ -98,18 +97,12 @@ fn table(group: &Group) {
                 times.plank += mean(&ids, |id| image.fresh(|plank| _ = black_box(ask_plank(plank, question, id))));
             }
         }
-        let library = linked.then_some(times.library);
+        let library = sir_analyses::LINKED.then_some(times.library);
         let plank = (plank && question != Question::Rounds).then_some(times.plank);
         row(&format!("{question:?}"), times.images, library, plank);
     }
     let all_plank = plank.then(|| images.iter().map(|image| best(|| image.fresh(|plank| image.ask_all(plank)))).sum());
-    row("all", images.len() as u32, sir_analyses::ALLOCATIONS.then_some(all_library), all_plank);
-}
-
-/// Whether the linked library answers a question.
-fn answers(question: Question) -> bool {
-    let later = matches!(question, Question::Allocation | Question::Owner);
-    sir_analyses::LINKED && (sir_analyses::ALLOCATIONS || !later)
+    row("all", images.len() as u32, sir_analyses::LINKED.then_some(all_library), all_plank);
 }
 
 #[derive(Default)]
