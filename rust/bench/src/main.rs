@@ -1,11 +1,11 @@
 //! Times the linked library against Plank's own analyses, in one run. From the folder `rust`:
 //!
 //! ```text
-//! cargo run --release -p bench -- [deals] [full] [medium] [worst]
+//! cargo run --release -p bench -- [deals] [full] [medium] [worst] [stack]
 //! ```
 //!
-//! Without words all four groups are timed: deals of 20 to 60 blocks, full-size images, the worst images of a medium size
-//! that Plank can take too, and the worst legal images.
+//! Without words all groups are taken: deals of 20 to 60 blocks, full-size images, the worst images of a medium size that
+//! Plank can take too, and the worst legal images; then the stack that a call takes.
 //!
 //! The library reads and checks the image anew for every question; Plank begins with a program that is in memory. A
 //! question is timed by itself, as the mean over some ids of each image; for Plank this is the time of the analyses that
@@ -13,6 +13,8 @@
 //! single times, for Plank one run of all analyses and all answers from it. Plank reports no rounds, so that question
 //! has no ratio. Result slices are lent once and not cleared between calls. A side that was missing when this was built
 //! is left out, with a message.
+
+mod stack;
 
 use image_gen::{Kind, Size, generate, worst};
 use paper_reference::{Question, Reference};
@@ -41,7 +43,9 @@ fn main() {
         println!("Plank's files were missing when this was built (set PLANK_SRC): it is left out");
     }
     let asked: Vec<String> = std::env::args().skip(1).collect();
-    if let Some(unknown) = asked.iter().find(|word| !["deals", "full", "medium", "worst"].contains(&word.as_str())) {
+    if let Some(unknown) =
+        asked.iter().find(|word| !["deals", "full", "medium", "worst", "stack"].contains(&word.as_str()))
+    {
         eprintln!("bench: no group {unknown}");
         std::process::exit(2);
     }
@@ -64,6 +68,9 @@ fn main() {
         // Plank takes each operand place of each block, and each local over each edge, in every pass.
         let plank = name.starts_with("allocations") || name == "a ring";
         table(&Group { name: format!("worst legal: {name}"), images: vec![image], plank });
+    }
+    if is_asked("stack") && sir_analyses::LINKED {
+        stack::table();
     }
 }
 

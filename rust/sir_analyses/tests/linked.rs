@@ -110,6 +110,21 @@ fn long_answers() {
     assert_as_the_paper(Question::EntrySet, &image, 0, 4096);
 }
 
+/// Every question keeps within the stack that the header states.
+#[test]
+fn stack() {
+    let images = [samples::deepest().pages(), samples::largest().pages()];
+    let calls = move || {
+        let mut result = [0; 2048];
+        for image in &images {
+            for question in Question::ALL {
+                ask(question, image, 1, &mut result);
+            }
+        }
+    };
+    std::thread::Builder::new().stack_size(1 << 20).spawn(calls).unwrap().join().unwrap();
+}
+
 /// 256 blocks that each span 1,024 calls, each with all 4,096 operands: one local with 2^30 uses. The answer takes 3 * 2^32
 /// bytes; a slice that is too short is refused by counting, and not by stepping through the uses.
 #[test]
