@@ -97,8 +97,8 @@ fn slowest() {
     }
 }
 
-/// Rings with an allocation in the first block, so that its answer waits for some ten thousand passes. The most rings that an
-/// image can have, 128, would take Plank many minutes.
+/// Rings with an allocation in the first block, so that its answer waits for all passes. With the most rings that an image can
+/// have, 128, Plank had no answer after almost four minutes.
 fn rings_with_an_allocation() -> Image {
     let mut image = extremes::rings(Rings { rings: 32, inputs: MAX_LOCALS - 2, ..Rings::most(Size::FULL) });
     let base = image.locals;
