@@ -14,7 +14,7 @@ use paper_reference::{Question, Reference};
 use plank_oracle::Program;
 use sir_image::Image;
 use std::collections::BTreeMap;
-use std::path::Path;
+use std::path::{Path, PathBuf};
 use std::{fs, io};
 
 /// Where the seeds begin.
@@ -158,34 +158,44 @@ fn recordings() -> Vec<Recording> {
     all
 }
 
+/// The files of `crates/replay` that are written, by their names there.
+fn files() -> BTreeMap<String, Vec<u8>> {
+    let all = recordings();
+    let (mut args, mut stdout, mut size) = (String::new(), String::new(), 0);
+    let mut by_number: BTreeMap<u32, usize> = BTreeMap::new();
+    let mut files = BTreeMap::new();
+    for recording in &all {
+        let bytes = recording.bytes();
+        size += bytes.len();
+        files.insert(format!("data/{}", recording.name), bytes);
+        args += &format!("{}\n", recording.name);
+        stdout += &format!("{} agree {} differ 0\n", recording.name, recording.calls.len());
+        recording.calls.iter().for_each(|call| *by_number.entry(call.number).or_default() += 1);
+    }
+    files.insert("args".to_string(), args.into_bytes());
+    files.insert("stdout".to_string(), stdout.into_bytes());
+    files.insert("data/README".to_string(), readme(all.len(), size, &by_number).into_bytes());
+    files
+}
+
+fn folder() -> PathBuf {
+    Path::new(env!("CARGO_MANIFEST_DIR")).join("../../crates/replay")
+}
+
 fn main() -> io::Result<()> {
     if !plank_oracle::PRESENT {
         eprintln!("record: Plank's files were missing when this was built (set PLANK_SRC)");
         std::process::exit(2);
     }
-    let all = recordings();
-    let folder = Path::new(env!("CARGO_MANIFEST_DIR")).join("../../crates/replay");
-    let data = folder.join("data");
-    fs::remove_dir_all(&data).or_else(|error| match error.kind() {
-        io::ErrorKind::NotFound => Ok(()),
-        _ => Err(error),
-    })?;
-    fs::create_dir_all(&data)?;
-    let (mut args, mut stdout, mut size) = (String::new(), String::new(), 0);
-    let mut by_number: BTreeMap<u32, usize> = BTreeMap::new();
-    for recording in &all {
-        let bytes = recording.bytes();
-        size += bytes.len();
-        fs::write(data.join(&recording.name), bytes)?;
-        args += &format!("{}\n", recording.name);
-        stdout += &format!("{} agree {} differ 0\n", recording.name, recording.calls.len());
-        recording.calls.iter().for_each(|call| *by_number.entry(call.number).or_default() += 1);
+    let files = files();
+    if folder().join("data").is_dir() {
+        fs::remove_dir_all(folder().join("data"))?;
     }
-    fs::write(folder.join("args"), args)?;
-    fs::write(folder.join("stdout"), stdout)?;
-    let readme = readme(all.len(), size, &by_number);
-    fs::write(data.join("README"), &readme)?;
-    print!("{readme}");
+    fs::create_dir_all(folder().join("data"))?;
+    for (name, bytes) in &files {
+        fs::write(folder().join(name), bytes)?;
+    }
+    print!("{}", String::from_utf8_lossy(&files["data/README"]));
     Ok(())
 }
 
@@ -207,4 +217,24 @@ fn readme(files: usize, size: usize, by_number: &BTreeMap<u32, usize>) -> String
         Kind::LARGE.len(),
         numbers.join(", "),
     )
+}
+
+#[cfg(test)]
+mod tests {
+    use super::*;
+
+    /// What is stored is what would be written now, and nothing else.
+    #[test]
+    fn files_are_current() {
+        if !plank_oracle::PRESENT {
+            println!("no Plank files: the recorded answers are not made anew");
+            return;
+        }
+        let files = files();
+        for (name, bytes) in &files {
+            assert!(fs::read(folder().join(name)).unwrap() == *bytes, "{name}");
+        }
+        let stored = fs::read_dir(folder().join("data")).unwrap().count();
+        assert_eq!(stored + 2, files.len());
+    }
 }
