@@ -1,4 +1,4 @@
-/* Questions about an image of the intermediate form: order, predecessors, uses, liveness.
+/* Questions about an image of the intermediate form: order, predecessors, uses, liveness, allocations.
  *
  * Each function takes the image as a pointer and a length in bytes, the id asked about where the question has one, and a
  * result slice as a pointer and a length in bytes. It keeps neither pointer.
@@ -66,6 +66,15 @@ sir_answer sir_uses(const uint8_t *image, size_t image_length, uint32_t local, u
  * for block end). */
 sir_answer sir_intervals(const uint8_t *image, size_t image_length, uint32_t local, uint8_t *result,
                          size_t result_length);
+
+/* The owner of a local: allocation + 1, or 0. One word. */
+sir_answer sir_owner(const uint8_t *image, size_t image_length, uint32_t local, uint8_t *result, size_t result_length);
+
+/* An allocation: defining block, operation, base local, kind (0 static, 1 dynamic), size or size local, static id (0 if
+ * dynamic), mark (0 or 1), interval count, intervals as above. A marked allocation has none. Allocations are numbered in the
+ * sequence in which the blocks of the order meet them; the first number that is refused with 13 is their count. */
+sir_answer sir_allocation(const uint8_t *image, size_t image_length, uint32_t allocation, uint8_t *result,
+                          size_t result_length);
 
 #ifdef __cplusplus
 }

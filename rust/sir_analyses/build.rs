@@ -1,14 +1,12 @@
 //! Links the proved library where it has been built: `libsir_analyses.a` in the folder `SIR_ANALYSES_LIB`, absolute or
 //! from the root of the repository, or in `target/staticlib`, where `rt staticlib sir_analyses` puts it. The cfg
-//! `sir_linked` says that it is there and exports every question, `sir_partial` that it exports all but the two on
-//! allocations.
+//! `sir_linked` says that it is there.
 
 use std::env;
-use std::fs;
-use std::path::{Path, PathBuf};
+use std::path::PathBuf;
 
 fn main() {
-    println!("cargo::rustc-check-cfg=cfg(sir_linked, sir_partial)");
+    println!("cargo::rustc-check-cfg=cfg(sir_linked)");
     println!("cargo::rerun-if-env-changed=SIR_ANALYSES_LIB");
     let package = PathBuf::from(env::var_os("CARGO_MANIFEST_DIR").expect("cargo sets it"));
     let repository = package.ancestors().nth(2).expect("the crate stands in the folder rust of the repository");
@@ -17,16 +15,10 @@ fn main() {
     let library = folder.join("libsir_analyses.a");
     println!("cargo::rerun-if-changed={}", library.display());
     if library.is_file() {
-        link(&folder, &fs::read(&library).expect("the library can be read"));
+        println!("cargo::rustc-cfg=sir_linked");
+        println!("cargo::rustc-link-search=native={}", folder.display());
+        println!("cargo::rustc-link-lib=static=sir_analyses");
     } else {
         println!("cargo::warning=no library {}: built without it (run rt staticlib sir_analyses)", library.display());
     }
-}
-
-fn link(folder: &Path, library: &[u8]) {
-    let last = b"sir_allocation";
-    let whole = library.windows(last.len()).any(|bytes| bytes == last);
-    println!("cargo::rustc-cfg={}", if whole { "sir_linked" } else { "sir_partial" });
-    println!("cargo::rustc-link-search=native={}", folder.display());
-    println!("cargo::rustc-link-lib=static=sir_analyses");
 }

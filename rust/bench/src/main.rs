@@ -1,11 +1,12 @@
 //! Times the linked library against Plank's own analyses, in one run. From the folder `rust`:
 //!
 //! ```text
-//! cargo run --release -p bench -- [deals] [full] [medium] [worst]
+//! cargo run --release -p bench -- [deals] [full] [medium] [worst] [stack] [slowest]
 //! ```
 //!
-//! Without words all four groups are timed: deals of 20 to 60 blocks, full-size images, the worst images of a medium size
-//! that Plank can take too, and the worst legal images.
+//! Without words all groups are taken: deals of 20 to 60 blocks, full-size images, the worst images of a medium size that
+//! Plank can take too, and the worst legal images; then the stack that a call takes. The group `slowest` is taken only where
+//! it is named: legal images on which one run of Plank takes from seconds to a minute.
 //!
 //! The library reads and checks the image anew for every question; Plank begins with a program that is in memory. A
 //! question is timed by itself, as the mean over some ids of each image; for Plank this is the time of the analyses that
@@ -14,11 +15,14 @@
 //! has no ratio. Result slices are lent once and not cleared between calls. A side that was missing when this was built
 //! is left out, with a message.
 
+mod stack;
+
+use image_gen::extremes::{self, Rings};
 use image_gen::{Kind, Size, generate, worst};
 use paper_reference::{Question, Reference};
 use plank_oracle::{Analyses, Program};
 use sir_analyses::{Answer, calls};
-use sir_image::Image;
+use sir_image::{Code, Image, MAX_LOCALS};
 use std::hint::black_box;
 use std::time::{Duration, Instant};
 
@@ -41,7 +45,8 @@ fn main() {
         println!("Plank's files were missing when this was built (set PLANK_SRC): it is left out");
     }
     let asked: Vec<String> = std::env::args().skip(1).collect();
-    if let Some(unknown) = asked.iter().find(|word| !["deals", "full", "medium", "worst"].contains(&word.as_str())) {
+    let groups = ["deals", "full", "medium", "worst", "stack", "slowest"];
+    if let Some(unknown) = asked.iter().find(|word| !groups.contains(&word.as_str())) {
         eprintln!("bench: no group {unknown}");
         std::process::exit(2);
     }
@@ -65,6 +70,43 @@ fn main() {
         let plank = name.starts_with("allocations") || name == "a ring";
         table(&Group { name: format!("worst legal: {name}"), images: vec![image], plank });
     }
+    if is_asked("stack") && sir_analyses::LINKED {
+        stack::table();
+    }
+    if asked.iter().any(|word| word == "slowest") {
+        slowest();
+    }
+}
+
+/// Times one allocation of legal images that are slow for Plank.
+fn slowest() {
+    if !plank_oracle::PRESENT || !sir_analyses::LINKED {
+        return;
+    }
+    let renaming = worst(Size::FULL).into_iter().filter(|(name, _)| name.contains("all locals in and out"));
+    let images = renaming.chain([("32 rings, and an allocation beside them", rings_with_an_allocation())]);
+    let mut result = vec![0; RESULT_BYTES];
+    for (name, image) in images {
+        let image = Timed::new(&image);
+        println!("\n{name}: allocation 0, Plank once");
+        println!("{:14} {:>14} {:>14} {:>16}", "", "library", "Plank", "library / Plank");
+        let question = Question::Allocation;
+        let library = best(|| _ = black_box(ask_library(&image.bytes, question, 0, &mut result)));
+        let plank = once(&mut || image.fresh(|plank| _ = black_box(ask_plank(plank, question, 0))));
+        row("Allocation", 1, Some(library), Some(plank));
+    }
+}
+
+/// Rings with an allocation in the first block, so that its answer waits for all passes. With the most rings that an image can
+/// have, 128, Plank had no answer after almost four minutes.
+fn rings_with_an_allocation() -> Image {
+    let mut image = extremes::rings(Rings { rings: 32, inputs: MAX_LOCALS - 2, ..Rings::most(Size::FULL) });
+    let base = image.locals;
+    image.locals += 1;
+    let first = image.operation_with(Code::StaticAllocZeroed, &[], &[base], [32, 0]);
+    image.operation(Code::SelfDestruct, &[base], &[]);
+    image.blocks[0].operations = image.operations_from(first);
+    image
 }
 
 /// Times a group and prints a row for each question.
@@ -82,14 +124,13 @@ fn table(group: &Group) {
     let mut all_library = Duration::ZERO;
     for question in Question::ALL {
         let mut times = Times::default();
-        let linked = answers(question);
         for image in &images {
             let ids = image.sample(question);
             if ids.is_empty() {
                 continue;
             }
             times.images += 1;
-            if linked {
+            if sir_analyses::LINKED {
                 let time = mean(&ids, |id| _ = black_box(ask_library(&image.bytes, question, id, &mut result)));
                 times.library += time;
                 all_library += time * image.count(question);
@@ -98,18 +139,12 @@ fn table(group: &Group) {
                 times.plank += mean(&ids, |id| image.fresh(|plank| _ = black_box(ask_plank(plank, question, id))));
             }
         }
-        let library = linked.then_some(times.library);
+        let library = sir_analyses::LINKED.then_some(times.library);
         let plank = (plank && question != Question::Rounds).then_some(times.plank);
         row(&format!("{question:?}"), times.images, library, plank);
     }
     let all_plank = plank.then(|| images.iter().map(|image| best(|| image.fresh(|plank| image.ask_all(plank)))).sum());
-    row("all", images.len() as u32, sir_analyses::ALLOCATIONS.then_some(all_library), all_plank);
-}
-
-/// Whether the linked library answers a question.
-fn answers(question: Question) -> bool {
-    let later = matches!(question, Question::Allocation | Question::Owner);
-    sir_analyses::LINKED && (sir_analyses::ALLOCATIONS || !later)
+    row("all", images.len() as u32, sir_analyses::LINKED.then_some(all_library), all_plank);
 }
 
 #[derive(Default)]
@@ -129,7 +164,10 @@ fn row(name: &str, images: u32, library: Option<Duration>, plank: Option<Duratio
         None => "-".to_string(),
     };
     let ratio = match (library, plank) {
-        (Some(library), Some(plank)) => format!("{:.2}", library.as_secs_f64() / plank.as_secs_f64()),
+        (Some(library), Some(plank)) => match library.as_secs_f64() / plank.as_secs_f64() {
+            ratio if ratio < 0.1 => format!("{ratio:.4}"),
+            ratio => format!("{ratio:.2}"),
+        },
         _ => "-".to_string(),
     };
     println!("{name:14} {:>14} {:>14} {ratio:>16}", show(library), show(plank));
@@ -182,20 +220,21 @@ fn mean(ids: &[u32], mut run: impl FnMut(u32)) -> Duration {
     ids.iter().map(|&id| best(|| run(id))).sum::<Duration>() / ids.len() as u32
 }
 
+fn once(run: &mut impl FnMut()) -> Duration {
+    let started = Instant::now();
+    run();
+    started.elapsed()
+}
+
 /// The shortest of several times; of fewer, the longer one takes.
 fn best(mut run: impl FnMut()) -> Duration {
-    let mut once = || {
-        let started = Instant::now();
-        run();
-        started.elapsed()
-    };
-    let mut best = once();
+    let mut best = once(&mut run);
     let mut spent = best;
     for _ in 0..20 {
         if spent > Duration::from_millis(20) {
             break;
         }
-        let time = once();
+        let time = once(&mut run);
         spent += time;
         best = best.min(time);
     }

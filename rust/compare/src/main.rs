@@ -19,12 +19,9 @@
 //! disagree, the image is made as small as it goes and shown, and the program stops with status 1. A side that was
 //! missing when this was built is left out, with a message.
 
-mod shrink;
-mod sides;
-mod text;
-
+use compare::sides::{Disagreement, Tally};
+use compare::{shrink, sides, text};
 use image_gen::{Kind, Rng, Size, generate, worst};
-use sides::{Disagreement, Tally};
 use sir_image::Image;
 use std::process::ExitCode;
 use std::time::Instant;

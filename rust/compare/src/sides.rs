@@ -81,7 +81,7 @@ fn agree<T: Debug + PartialEq>(
 }
 
 /// The ids of a question, one for a question without.
-fn ids(paper: &Reference, question: Question) -> Range<u32> {
+pub fn ids(paper: &Reference, question: Question) -> Range<u32> {
     match question {
         Question::Order | Question::Rounds => 0..1,
         _ => 0..paper.ids(question),
@@ -115,7 +115,7 @@ pub fn with_plank(image: &Image, tally: &mut Tally) -> Result<(), Disagreement> 
 }
 
 /// Plank's answer; it reports no rounds.
-fn ask_plank(plank: &Analyses, question: Question, id: u32) -> Option<Vec<u32>> {
+pub fn ask_plank(plank: &Analyses, question: Question, id: u32) -> Option<Vec<u32>> {
     Some(match question {
         Question::Order => plank.order(),
         Question::Predecessors => plank.predecessors(id),
@@ -129,12 +129,6 @@ fn ask_plank(plank: &Analyses, question: Question, id: u32) -> Option<Vec<u32>> 
     })
 }
 
-/// The questions that the linked library answers.
-fn answered() -> impl Iterator<Item = Question> {
-    let later = [Question::Allocation, Question::Owner];
-    Question::ALL.into_iter().filter(move |question| sir_analyses::ALLOCATIONS || !later.contains(question))
-}
-
 /// Compares the paper's answers with those of the linked library: number, length and every byte of the result slice,
 /// for every id, one id too many, and result slices that are just long enough, longer, and too short.
 pub fn with_library(image: &Image, tally: &mut Tally) -> Result<(), Disagreement> {
@@ -144,7 +138,7 @@ pub fn with_library(image: &Image, tally: &mut Tally) -> Result<(), Disagreement
         Ok(paper) => paper,
         Err(_) => return refused_alike(&bytes, tally),
     };
-    for question in answered() {
+    for question in Question::ALL {
         for id in ids(&paper, question) {
             same_answer(&paper, &bytes, question, id, tally)?;
         }
@@ -161,7 +155,7 @@ pub fn with_library_sparsely(image: &Image, tally: &mut Tally) -> Result<(), Dis
     let bytes = image.pages();
     tally.images += 1;
     let paper = Reference::new(&bytes).expect("an accepted image");
-    for question in answered() {
+    for question in Question::ALL {
         let ids = ids(&paper, question);
         let step = (ids.end / 3).max(1) as usize;
         for id in ids.step_by(step) {
@@ -227,7 +221,7 @@ fn same_refusal(image: &[u8], question: Question, id: u32, number: u32) -> Resul
 pub fn refused_alike(image: &[u8], tally: &mut Tally) -> Result<(), Disagreement> {
     let number = paper_reference::refusal(image);
     tally.refused += u64::from(number != 0);
-    for question in answered() {
+    for question in Question::ALL {
         if number != 0 {
             same_refusal(image, question, 0, number)?;
         } else {

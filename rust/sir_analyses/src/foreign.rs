@@ -1,13 +1,13 @@
 //! The C functions, as `include/sir_analyses.h` declares them.
-#![cfg_attr(any(sir_linked, sir_partial), allow(unsafe_code))]
+#![cfg_attr(sir_linked, allow(unsafe_code))]
 
 use crate::Answer;
 
-/// Declares the functions where the library has them, and wraps each in a safe one. The arguments between the two slices
-/// are numbers.
+/// Declares the functions where there is a library, and wraps each in a safe one. What stands between the two slices is
+/// the id that the question is about.
 macro_rules! functions {
-    ($linked:meta; $($(#[$doc:meta])* $name:ident = $symbol:ident($($id:ident)?);)*) => {
-        #[cfg($linked)]
+    ($($(#[$doc:meta])* $name:ident = $symbol:ident($($id:ident)?);)*) => {
+        #[cfg(sir_linked)]
         unsafe extern "C" {
             $(fn $symbol(
                 image: *const u8,
@@ -20,7 +20,7 @@ macro_rules! functions {
 
         $(
             $(#[$doc])*
-            #[cfg($linked)]
+            #[cfg(sir_linked)]
             pub fn $name(image: &[u8], $($id: u32,)? result: &mut [u8]) -> Answer {
                 // Safety: the function reads the bytes of one slice and writes bytes of the other, both lent for the
                 // time of the call, and asks nothing else of its caller.
@@ -28,16 +28,16 @@ macro_rules! functions {
             }
 
             $(#[$doc])*
-            #[cfg(not($linked))]
+            #[cfg(not(sir_linked))]
             pub fn $name(image: &[u8], $($id: u32,)? result: &mut [u8]) -> Answer {
                 let _ = (image, $($id,)? result);
-                panic!("the library had no such function when this was built: run rt staticlib sir_analyses, then build again")
+                panic!("there was no library when this was built: run rt staticlib sir_analyses, then build again")
             }
         )*
     };
 }
 
-functions! { any(sir_linked, sir_partial);
+functions! {
     /// The order. For each function of it: id, block count, block ids.
     order = sir_order();
     /// The predecessors of a block, repeats kept.
@@ -52,9 +52,6 @@ functions! { any(sir_linked, sir_partial);
     exit_set = sir_exit_set(block);
     /// The intervals of a local. For each: block, start, end.
     intervals = sir_intervals(local);
-}
-
-functions! { sir_linked;
     /// The owner of a local: allocation + 1, or 0.
     owner = sir_owner(local);
     /// An allocation: defining block, operation, base local, kind, size or size local, static id, mark, interval count,

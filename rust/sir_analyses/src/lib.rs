@@ -25,10 +25,7 @@ use std::error::Error;
 use std::fmt::{self, Display, Formatter};
 
 /// Whether the library was there when this was built.
-pub const LINKED: bool = cfg!(any(sir_linked, sir_partial));
-
-/// Whether it answers [`allocation`] and [`owner`] too.
-pub const ALLOCATIONS: bool = cfg!(sir_linked);
+pub const LINKED: bool = cfg!(sir_linked);
 
 /// The questions as the library takes them: image, id, result slice.
 ///

@@ -1,18 +1,10 @@
 //! The linked library: accepted and refused images, unknown ids, short slices, and the bytes that are left alone.
-#![cfg(any(sir_linked, sir_partial))]
+#![cfg(sir_linked)]
 
 use paper_reference::Question;
-#[cfg(sir_linked)]
-use sir_analyses::Size;
-use sir_analyses::{Answer, End, FunctionBlocks, Interval, Place, Refusal, Start, Use, calls};
+use sir_analyses::{Answer, End, FunctionBlocks, Interval, Place, Refusal, Size, Start, Use, calls};
 use sir_image::{Block, Control, Image, MAX_BLOCKS, MAX_OPERANDS, MAX_OPERATIONS, Operation, Span, samples};
 use std::{fs, path::Path};
-
-/// The questions that the library answers.
-fn questions() -> Vec<Question> {
-    let later = [Question::Allocation, Question::Owner];
-    Question::ALL.into_iter().filter(|question| sir_analyses::ALLOCATIONS || !later.contains(question)).collect()
-}
 
 fn ask(question: Question, image: &[u8], id: u32, result: &mut [u8]) -> Answer {
     match question {
@@ -58,7 +50,6 @@ fn report_liveness_decoded() {
 }
 
 #[test]
-#[cfg(sir_linked)]
 fn report_allocations_decoded() {
     let image = samples::report().pages();
     let first = Interval { block: 0, start: Start::Operation(1), end: End::Block };
@@ -82,7 +73,7 @@ fn refusals_decoded() {
 #[test]
 fn slices_and_ids() {
     let image = samples::report().pages();
-    for question in questions() {
+    for question in Question::ALL {
         for id in [0, 1, 2, 3, 4, 5, u32::MAX - 1] {
             let enough = assert_as_the_paper(question, &image, id, 100);
             for length in 0..enough.length as usize + 6 {
@@ -100,7 +91,7 @@ fn listed_images() {
     for line in index.lines() {
         let (name, number) = line.split_once(' ').unwrap();
         let image = fs::read(folder.join(name)).unwrap();
-        for question in questions() {
+        for question in Question::ALL {
             let answer = assert_as_the_paper(question, &image, 0, 8);
             let number: u32 = number.parse().unwrap();
             assert!(answer.number == number || (number == 0 && answer.number > 12), "{name}");
@@ -117,6 +108,21 @@ fn long_answers() {
     assert_eq!(blocks, sir_image::MAX_BLOCKS);
     assert_as_the_paper(Question::Uses, &image, 511, 1 << 20);
     assert_as_the_paper(Question::EntrySet, &image, 0, 4096);
+}
+
+/// Every question keeps within the stack that the header states.
+#[test]
+fn stack() {
+    let images = [samples::deepest().pages(), samples::largest().pages()];
+    let calls = move || {
+        let mut result = [0; 2048];
+        for image in &images {
+            for question in Question::ALL {
+                ask(question, image, 1, &mut result);
+            }
+        }
+    };
+    std::thread::Builder::new().stack_size(1 << 20).spawn(calls).unwrap().join().unwrap();
 }
 
 /// 256 blocks that each span 1,024 calls, each with all 4,096 operands: one local with 2^30 uses. The answer takes 3 * 2^32

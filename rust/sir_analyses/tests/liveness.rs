@@ -1,5 +1,5 @@
 //! Liveness and intervals of the linked library, on small programs whose answers are stated by hand.
-#![cfg(any(sir_linked, sir_partial))]
+#![cfg(sir_linked)]
 
 use sir_analyses::{End, Interval, Refusal, Start, entry_set, exit_set, intervals, predecessors, rounds};
 use sir_image::{Code, Control, Image, MAX_LOCALS, Span};

@@ -44,6 +44,25 @@ pub fn largest() -> Image {
     image
 }
 
+/// An image whose order is visited as deep as can be: every block goes on to the next, and each last block of a function calls
+/// the function of the next block, so that all 256 blocks and 64 functions are under way at once.
+pub fn deepest() -> Image {
+    const BLOCKS: usize = MAX_BLOCKS / MAX_FUNCTIONS;
+    let mut image = Image::new(MAX_LOCALS);
+    for function in 0..MAX_FUNCTIONS as u32 {
+        let entry = image.function(function * BLOCKS as u32) * BLOCKS as u32;
+        for block in entry + 1..entry + BLOCKS as u32 {
+            image.block(&[], &[], Span::EMPTY, Control::ContinuesTo(block));
+        }
+        let first = image.operation_with(Code::StaticAllocZeroed, &[], &[function], [32, function]);
+        if function + 1 < MAX_FUNCTIONS as u32 {
+            image.operation_with(Code::InternalCall, &[], &[], [function + 1, 0]);
+        }
+        image.block(&[], &[], image.operations_from(first), Control::InternalReturn);
+    }
+    image
+}
+
 #[cfg(test)]
 mod tests {
     use super::*;

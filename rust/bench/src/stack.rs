@@ -1,0 +1,58 @@
+//! The stack that a call takes: the pages of a new thread's stack that have been touched when the call is done.
+
+use crate::ask_library;
+use image_gen::{Size, worst};
+use paper_reference::Question;
+use sir_image::samples;
+use std::hint::black_box;
+use std::thread;
+
+/// The stack of the thread. Below the size of a huge page, so that each small page is touched by itself.
+const STACK_BYTES: usize = 3 << 19;
+
+/// Prints the most that each question takes, over the images that nest deepest or take longest.
+pub fn table() {
+    let mut images = vec![samples::deepest().pages(), samples::largest().pages()];
+    images.extend(worst(Size::FULL).iter().map(|(_, image)| image.pages()));
+    println!("\nstack of a call, the most of {} images; what a thread without a call takes is included", images.len());
+    println!("{:14} {:>10}", "no call", shown(touched(|| ())));
+    for question in Question::ALL {
+        let most = images.iter().map(|image| touched(|| call(image, question))).max().flatten();
+        println!("{:14} {:>10}", format!("{question:?}"), shown(most));
+    }
+}
+
+fn call(image: &[u8], question: Question) {
+    let mut result = vec![0; 1 << 21];
+    black_box(ask_library(image, question, 0, &mut result));
+}
+
+fn shown(kibibytes: Option<u64>) -> String {
+    kibibytes.map_or("unknown".to_string(), |size| format!("{size} KiB"))
+}
+
+/// The touched part of a new thread's stack once this has run in it, in KiB.
+fn touched(run: impl FnOnce() + Send) -> Option<u64> {
+    let measured = || {
+        run();
+        let here = 0u8;
+        resident(black_box(&raw const here) as u64)
+    };
+    thread::scope(|scope| {
+        let thread = thread::Builder::new().stack_size(STACK_BYTES).spawn_scoped(scope, measured);
+        thread.expect("a thread can be started").join().expect("the thread ends")
+    })
+}
+
+/// The size of the resident part of the mapping that holds an address, in KiB, as Linux tells it.
+fn resident(address: u64) -> Option<u64> {
+    let maps = std::fs::read_to_string("/proc/self/smaps").ok()?;
+    let holds = |line: &str| {
+        let (start, rest) = line.split_once('-')?;
+        let end = rest.split_once(' ')?.0;
+        Some((u64::from_str_radix(start, 16).ok()?..u64::from_str_radix(end, 16).ok()?).contains(&address))
+    };
+    let mut lines = maps.lines().skip_while(|line| holds(line) != Some(true));
+    let size = lines.find_map(|line| line.strip_prefix("Rss:"))?;
+    size.trim().strip_suffix(" kB")?.parse().ok()
+}

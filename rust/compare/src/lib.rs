@@ -1,0 +1,5 @@
+//! What the comparison and the recording of answers share.
+
+pub mod shrink;
+pub mod sides;
+pub mod text;
