@@ -16,7 +16,7 @@ pub fn report(image: &[u8]) -> String {
 
 /// All lines, or 14 where one answer needs more than the slice has.
 fn lines(reference: &Reference) -> Result<String, u32> {
-    let ask = |question, id| {
+    let ask = |question, id| -> Result<Vec<u32>, u32> {
         let answer = reference.answer(question, id)?;
         if 4 * answer.len() > SLICE { Err(14) } else { Ok(answer) }
     };

@@ -65,7 +65,7 @@ fn main() -> io::Result<()> {
     let files: [(&str, Vec<u8>); 8] = [
         ("the_paper", samples::report().pages()),
         ("functions_loops_escapes", several_functions().pages()),
-        ("large", generate(Kind::FullLives, 1).pages()),
+        ("large", generate(Kind::DealLives, 4).pages()),
         ("a_base_twice", base_twice.pages()),
         ("answer_too_long", long_intervals().pages()),
         ("empty", Vec::new()),
