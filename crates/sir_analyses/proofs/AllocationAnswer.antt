@@ -3,25 +3,25 @@ use mathlib.Core.Path.{_≡_, refl, sym, ap, _∙_}
 use mathlib.Core.Bool.{Bool, true, false, _&&_, _||_, cond}
 use mathlib.Core.Logic.{⊎-elim}
 use mathlib.Core.List.{List, [], _∷_, _++_, append-nil}
-use Prim.Native.Nat.{ℕ, suc, _+_, _-_, _*_, _/_, _%_, _≤_, _<_}
+use Prim.Native.Nat.{ℕ, _+_, _-_, _*_, _/_, _%_, _≤_, _<_}
 use native.Mathlib.Omega.{arith}
 use native.Mathlib.Numerals.{add-one}
-use lib.ListN.{length, getD, replicate, length-append}
+use lib.ListN.{length, getD, replicate}
 use lib.Dec.{eqb, ltb}
-use borrow.Author.Tests.{eqb-true, eqb-false, lt-ltb, le-ltb, ltb-true, ltb-false, ne-eqb, eq-eqb}
-use Rattle.plank_core.specs.Lists.{bind, upto, oneIf}
+use borrow.Author.Tests.{eqb-true, eqb-false, lt-ltb, le-ltb, ltb-true, ltb-false}
+use Rattle.plank_core.specs.Lists.{upto, oneIf}
 use Rattle.plank_core.specs.laws.Lists.{and-true-left, or-cases}
 use Rattle.plank_core.specs.DenseIndexSet.{contains, added}
 use Rattle.plank_core.specs.laws.DenseIndexSet.{contains-added, contains-cleared}
 use Rattle.sir_data.specs.Records.{blocks, operations, locals, code, ins, outs, extra}
 use Rattle.sir_data.specs.Codes.{arityOk, isAlloc, isDynamicAlloc}
 use Rattle.sir_data.specs.WellFormed.{WellFormed}
-use Rattle.sir_analyses.specs.Liveness.{Set, has, Interval}
-use Rattle.sir_analyses.specs.Allocation.{allocs, allocAt, base, reach, marked, merged}
+use Rattle.sir_analyses.specs.Liveness.{has, Interval}
+use Rattle.sir_analyses.specs.Allocation.{allocs, allocAt, reach, marked, merged}
 use Rattle.sir_analyses.specs.Answers.{intervalWords, allocationAnswer}
 use Rattle.sir_analyses.specs.Tables.{Same}
 use Rattle.sir_analyses.specs.Discovery.{allocKeys, Discovered}
-use Rattle.sir_analyses.specs.Sweep.{sweep, sweepFrom}
+use Rattle.sir_analyses.specs.Sweep.{sweepFrom}
 use Rattle.sir_analyses.specs.Writing.{Puts}
 use Rattle.sir_analyses.proofs.GenKill.{beyond}
 use Rattle.sir_analyses.proofs.Marks.{reach-length}

@@ -1,9 +1,8 @@
 -- `owned_locals` meets its contract. The invariant: those below v are added.
-use mathlib.Core.Path.{_≡_, refl, sym, ap, _∙_, subst}
+use mathlib.Core.Path.{_≡_, sym, ap, _∙_, subst}
 use mathlib.Core.Logic.{⊎-elim}
-use mathlib.Core.Bool.{Bool, true, false}
-use mathlib.Core.List.{List}
-use Prim.Native.Nat.{ℕ, _+_, _-_, _≤_, _<_}
+use mathlib.Core.Bool.{Bool}
+use Prim.Native.Nat.{ℕ, _+_, _-_, _≤_}
 use native.Mathlib.Omega.{arith}
 use lib.ListN.{length, getD}
 use lib.Dec.{eqb}
@@ -11,7 +10,6 @@ use borrow.Author.Tests.{eq-eqb, ne-eqb}
 use Rattle.sir_data.specs.Records.{locals}
 use Rattle.plank_core.specs.DenseIndexSet.{added}
 use Rattle.sir_analyses.proofs.AllocationAnswer.{Below, below-none, below-more, below-on}
-use borrow.Author.Needs.{needs}
 use Rattle.sir_analyses.proofs.allocation_answer.owned_locals.Statement.{statement}
 use Rattle.sir_analyses.proofs.allocation_answer.owned_locals.Tie as tie
 

@@ -2,13 +2,11 @@
 use mathlib.Core.Path.{_≡_, refl, sym, ap, _∙_}
 use mathlib.Core.Bool.{true, false}
 use mathlib.Core.List.{List}
-use Prim.Native.Nat.{ℕ, _+_, _<_, _≤_}
+use Prim.Native.Nat.{ℕ, _+_, _<_}
 use native.Mathlib.Omega.{arith}
 use lib.ListN.{length, getD}
 use Rattle.plank_core.specs.DenseIndexSet.{contains}
 use Rattle.sir_analyses.specs.Allocation.{allocs, allocAt, reach, marked}
-use Rattle.sir_analyses.specs.Discovery.{allocKeys}
-use Rattle.sir_analyses.specs.Tables.{Same}
 use Rattle.sir_analyses.proofs.Marks.{reach-length}
 use Rattle.sir_analyses.proofs.Discovery.{keys-long}
 use Rattle.sir_analyses.proofs.Writing.{puts-as}

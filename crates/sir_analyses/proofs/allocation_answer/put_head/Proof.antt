@@ -1,5 +1,5 @@
 -- `put_head` meets its contract.
-use mathlib.Core.Path.{_≡_, refl, sym, ap, _∙_}
+use mathlib.Core.Path.{refl}
 use Rattle.sir_analyses.proofs.Writing.{puts-as}
 use borrow.Author.Needs.{needs}
 use Rattle.sir_analyses.proofs.allocation_answer.put_head.Statement.{statement}
