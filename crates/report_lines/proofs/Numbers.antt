@@ -1,13 +1,13 @@
 -- Decimal digits: those of `io::decimal` are the definition's, and a number below 2 ^ 32 has at most ten. Assumes nothing.
-use mathlib.Core.Path.{_≡_, refl, sym, ap, ap₂, _∙_}
+use mathlib.Core.Path.{_≡_, refl, ap}
 use mathlib.Core.Bool.{Bool, true, false, cond}
 use mathlib.Core.List.{List, [], _∷_, _++_}
 use Prim.Native.Nat.{ℕ, zero, suc, _+_, _-_, _*_, _/_, _%_, _^_, _≤_, _<_}
 use native.Mathlib.Omega.{arith}
-use native.Mathlib.Numerals.{add-one, unary-clauses}
+use native.Mathlib.Numerals.{unary-clauses}
 use lib.ListN.{length, getD, length-append}
 use lib.Dec.{eqb, ltb}
-use borrow.Author.Tests.{lt-ltb, le-ltb, ltb-true, ltb-false}
+use borrow.Author.Tests.{lt-ltb, le-ltb}
 use Rattle.io.specs.Digits as Io
 use Rattle.report_lines.specs.Lines.{digits, number, named, startText, endText, interval, locals, blocks, members}
 use Rattle.plank_core.specs.Lists.{bind}

@@ -4,8 +4,8 @@ use mathlib.Core.List.{List, [], _∷_, _++_, append-assoc, append-nil}
 use Prim.Native.Nat.{ℕ, _+_, _≤_, _<_}
 use native.Mathlib.Omega.{arith}
 use native.Mathlib.Numerals.{add-one}
-use lib.ListN.{length, getD, take, drop, set, length-append, length-set}
-use lib.Seq.{take-suc, take-suc-set, take-all, length-take-le}
+use lib.ListN.{length, getD, take, set, length-append, length-set}
+use lib.Seq.{take-suc, take-suc-set, take-all}
 use Rattle.plank_core.specs.Lists.{bind, upto}
 use Rattle.plank_core.specs.laws.Loops.{bind-snoc, upto-more}
 use Rattle.report_lines.specs.Lines.{Put}

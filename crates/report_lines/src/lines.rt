@@ -12,7 +12,7 @@ ghost use lib.ListN.{length};
 ghost use Rattle.report_lines.specs.Lines.{Put, refusedLine, orderLine, roundsLine, blockLine, localLine, allocationHead, allocationLine};
 
 pub fn refused_line(number: u32, line: &mut [u8]) -> usize
-    requires { ⌜ 196608 ≤ length (now line) ⌝ }
+    requires { ⌜ 32 ≤ length (now line) ⌝ }
     ensures { λ r. ⌜ Put (refusedLine number) 0 (now (line .entry)) (now (line .exit)) r ⌝ }
 {
     let a = put_text(line, 0, b"refused ");

@@ -48,7 +48,7 @@ fn say(text: &[u8]) {
 }
 
 fn say_refused(number: u32, line: &mut [u8])
-    requires { ⌜ 196608 ≤ length (now line) ⌝ }
+    requires { ⌜ 32 ≤ length (now line) ⌝ }
 {
     let n = refused_line(number, line);
     say(&line[..n]);
@@ -377,7 +377,7 @@ pub fn report(image: &[u8]) -> u32
     let sizes = load(image, &mut words, &mut seen, &mut post, &mut rpo);
     let number = sizes.number;
     if number != 0 {
-        say_refused(number, &mut [0u8; 196608]);
+        say_refused(number, &mut [0u8; 32]);
         return number;
     }
     let n = sizes.words;

@@ -1,12 +1,8 @@
 -- `local_line` meets its contract.
-use mathlib.Core.Path.{_≡_, refl, sym, ap, _∙_, subst}
-use mathlib.Core.Bool.{Bool, true, false}
-use mathlib.Core.List.{List, [], _∷_, _++_, append-assoc}
-use Prim.Native.Nat.{ℕ, _+_, _-_, _*_, _/_, _≤_, _<_}
+use Prim.Native.Nat.{_/_}
 use native.Mathlib.Omega.{arith}
-use lib.ListN.{length, getD, take}
-use Rattle.report_lines.specs.Lines.{Put, number, named, intervalAt}
-use Rattle.report_lines.proofs.Putting.{put-as, put-nothing, put-then}
+use lib.ListN.{length}
+use Rattle.report_lines.proofs.Putting.{put-then}
 use Rattle.report_lines.proofs.Numbers.{number-short}
 use Rattle.report_lines.proofs.Intervals.{intervals-short}
 use borrow.Author.Needs.{needs}

@@ -1,13 +1,9 @@
 -- `put_allocation_head` meets its contract.
-use mathlib.Core.Path.{_≡_, refl, sym, ap, _∙_, subst}
-use mathlib.Core.Bool.{Bool, true, false}
-use mathlib.Core.List.{List, [], _∷_, _++_}
-use Prim.Native.Nat.{ℕ, _+_, _*_, _≤_, _<_}
+use mathlib.Core.Path.{_≡_, refl, sym, _∙_}
 use native.Mathlib.Omega.{arith}
-use lib.ListN.{length, getD, take}
 use borrow.Author.Tests.{eq-eqb, ne-eqb}
 use Rattle.sir_data.specs.Pages.{wordAt}
-use Rattle.report_lines.specs.Lines.{Put, number, named, allocationHead}
+use Rattle.report_lines.specs.Lines.{allocationHead}
 use Rattle.report_lines.proofs.Putting.{put-as, put-then}
 use Rattle.report_lines.proofs.Numbers.{number-short}
 use Rattle.report_lines.proofs.Intervals.{word-small}

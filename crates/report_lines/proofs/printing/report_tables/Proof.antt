@@ -1,22 +1,8 @@
 -- `report_tables` meets its contract.
-use mathlib.Core.Path.{_≡_, refl, sym, ap, _∙_, subst}
-use mathlib.Core.Logic.{⊎-elim}
-use mathlib.Core.Bool.{Bool, true, false}
-use mathlib.Core.List.{List, [], _∷_, _++_}
-use Prim.Native.Nat.{ℕ, _+_, _-_, _*_, _/_, _≤_, _<_}
+use mathlib.Core.Path.{refl, sym, _∙_}
+use Prim.Native.Nat.{ℕ}
 use native.Mathlib.Omega.{arith}
-use lib.ListN.{length, getD, take, length-replicate}
-use lib.Seq.{length-take-le}
-use borrow.Author.Tests.{eq-eqb, ne-eqb}
-use Rattle.plank_core.specs.Lists.{any, range}
-use Rattle.plank_core.specs.laws.Loops.{any-step, any-stop, any-end}
-use Rattle.sir_data.specs.Records.{blocks, locals}
-use Rattle.sir_analyses.specs.Allocation.{allocs}
-use Rattle.sir_analyses.specs.Answers.{intervalsAnswer, allocationAnswer}
-use Rattle.report_lines.specs.Lines.{Put, blockLine, localLine, allocationLine, blockText, localText, allocationText}
-use Rattle.report_lines.specs.Counting.{localTooLong, allocationTooLong, someTooLong, reported}
-use Rattle.report_lines.proofs.Putting.{put-as, put-nothing, put-then}
-use Rattle.report_lines.proofs.TooLong.{is-long, not-long, short, stands, keys-long, longLocal, longAllocation, locals-start, local-short, allocations-start, allocation-short, front, take-most, take-least, seen-as}
+use lib.ListN.{length-replicate}
 use borrow.Author.Needs.{needs}
 use Rattle.report_lines.proofs.printing.report_tables.Statement.{statement}
 use Rattle.report_lines.proofs.printing.report_tables.Tie as tie
@@ -40,7 +26,7 @@ slice-aggregate-say-refused : tie.Need-slice-aggregate-say-refused
 slice-aggregate-say-refused c = search needs
 
 say-refused-requires : tie.Need-say-refused-requires
-say-refused-requires c κs = search needs
+say-refused-requires c κs = omega (arith, length-replicate {A = ℕ} 196608 0)
 
 returns : tie.Need-returns
 returns c = rw (sym (c .before .before .before .before .before .local-too-long .ensures) ∙ c .before .before .before .if1 .taken) refl
@@ -58,7 +44,7 @@ slice-aggregate-say-refused-2 : tie.Need-slice-aggregate-say-refused-2
 slice-aggregate-say-refused-2 c = search needs
 
 say-refused-requires-2 : tie.Need-say-refused-requires-2
-say-refused-requires-2 c κs = search needs
+say-refused-requires-2 c κs = omega (arith, length-replicate {A = ℕ} 196608 0)
 
 returns-2 : tie.Need-returns-2
 returns-2 c = rw (sym (c .before .before .before .before .before .before .before .before .before .before .local-too-long .ensures) ∙ c .before .before .before .before .before .before .before .before .if1 .left, sym (c .before .before .before .before .before .allocation-too-long .ensures) ∙ c .before .before .before .if2 .taken) refl

@@ -1,22 +1,8 @@
 -- `report_words` meets its contract.
-use mathlib.Core.Path.{_≡_, refl, sym, ap, _∙_, subst}
-use mathlib.Core.Logic.{⊎-elim}
-use mathlib.Core.Bool.{Bool, true, false}
-use mathlib.Core.List.{List, [], _∷_, _++_}
-use Prim.Native.Nat.{ℕ, _+_, _-_, _*_, _/_, _≤_, _<_}
+use mathlib.Core.Path.{refl, sym, ap}
 use native.Mathlib.Omega.{arith}
-use lib.ListN.{length, getD, take, length-replicate}
+use lib.ListN.{length}
 use lib.Seq.{length-take-le}
-use borrow.Author.Tests.{eq-eqb, ne-eqb}
-use Rattle.plank_core.specs.Lists.{any, range}
-use Rattle.plank_core.specs.laws.Loops.{any-step, any-stop, any-end}
-use Rattle.sir_data.specs.Records.{blocks, locals}
-use Rattle.sir_analyses.specs.Allocation.{allocs}
-use Rattle.sir_analyses.specs.Answers.{intervalsAnswer, allocationAnswer}
-use Rattle.report_lines.specs.Lines.{Put, blockLine, localLine, allocationLine, blockText, localText, allocationText}
-use Rattle.report_lines.specs.Counting.{localTooLong, allocationTooLong, someTooLong, reported}
-use Rattle.report_lines.proofs.Putting.{put-as, put-nothing, put-then}
-use Rattle.report_lines.proofs.TooLong.{is-long, not-long, short, stands, keys-long, longLocal, longAllocation, locals-start, local-short, allocations-start, allocation-short, front}
 use borrow.Author.Needs.{needs}
 use Rattle.report_lines.proofs.printing.report_words.Statement.{statement}
 use Rattle.report_lines.proofs.printing.report_words.Tie as tie

@@ -1,15 +1,14 @@
 -- `put_blocks` meets its contract.
-use mathlib.Core.Path.{_≡_, refl, sym, ap, _∙_, subst}
-use mathlib.Core.Bool.{Bool, true, false}
-use mathlib.Core.List.{List, [], _∷_, _++_, append-assoc}
-use Prim.Native.Nat.{ℕ, _+_, _-_, _*_, _/_, _≤_, _<_}
+use mathlib.Core.Path.{ap}
+use mathlib.Core.List.{List, [], _∷_}
+use Prim.Native.Nat.{ℕ, _+_, _-_, _*_, _≤_}
 use native.Mathlib.Omega.{arith}
 use lib.ListN.{length, getD, take}
 use lib.Seq.{take-all}
 use Rattle.plank_core.specs.Lists.{bind}
-use Rattle.report_lines.specs.Lines.{Put, number, named, intervalAt}
-use Rattle.report_lines.proofs.Putting.{put-as, put-nothing, put-then, Copied, copied-none, copied-more, copied-all, put-item, put-id}
-use Rattle.report_lines.proofs.Numbers.{decimal-is, number-short}
+use Rattle.report_lines.specs.Lines.{Put, named}
+use Rattle.report_lines.proofs.Putting.{put-as, put-nothing, put-id}
+use Rattle.report_lines.proofs.Numbers.{number-short}
 use borrow.Author.Needs.{needs}
 use Rattle.report_lines.proofs.text.put_blocks.Statement.{statement}
 use Rattle.report_lines.proofs.text.put_blocks.Tie as tie

@@ -1,14 +1,8 @@
 -- `put_text` meets its contract.
-use mathlib.Core.Path.{_≡_, refl, sym, ap, _∙_, subst}
-use mathlib.Core.Bool.{Bool, true, false}
-use mathlib.Core.List.{List, [], _∷_, _++_, append-assoc}
-use Prim.Native.Nat.{ℕ, _+_, _-_, _*_, _/_, _≤_, _<_}
+use Prim.Native.Nat.{_-_}
 use native.Mathlib.Omega.{arith}
-use lib.ListN.{length, getD, take}
-use Rattle.report_lines.specs.Lines.{Put, number, named, intervalAt}
-use Rattle.report_lines.proofs.Putting.{put-as, put-nothing, put-then, Copied, copied-none, copied-more, copied-all, put-item, put-id}
-use Rattle.report_lines.proofs.Numbers.{decimal-is, number-short}
-use borrow.Author.Needs.{needs}
+use lib.ListN.{length}
+use Rattle.report_lines.proofs.Putting.{Copied, copied-none, copied-more, copied-all}
 use Rattle.report_lines.proofs.text.put_text.Statement.{statement}
 use Rattle.report_lines.proofs.text.put_text.Tie as tie
 
