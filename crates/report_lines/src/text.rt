@@ -3,6 +3,7 @@ ghost use mathlib.Core.Path.{_≡_};
 ghost use mathlib.Core.List.{_++_};
 ghost use Prim.Native.Nat.{_+_, _*_, _≤_, _<_};
 ghost use lib.ListN.{length};
+ghost use Rattle.plank_core.specs.Lists.{bind};
 ghost use Rattle.sir_data.specs.Pages.{wordAt};
 ghost use Rattle.report_lines.specs.Lines.{Put, number, named, locals, blocks, members, startText, endText, interval, intervalAt, intervalsAt};
 
@@ -37,18 +38,26 @@ pub fn put_named(line: &mut [u8], at: usize, name: &[u8], n: u32) -> usize
     put_number(line, m, n)
 }
 
+// A name and a number for each of some ids.
+fn put_ids(line: &mut [u8], at: usize, name: &[u8], ids: &[u32]) -> usize
+    requires { ⌜ (length (now name) ≤ 3) × (at + 13 * length (now ids) ≤ length (now line)) ⌝ }
+    ensures { λ r. ⌜ Put (bind (now (ids .entry)) (named (now (name .entry)))) at (now (line .entry)) (now (line .exit)) r ⌝ }
+{
+    let mut m = at;
+    let mut k: usize = 0;
+    while k < ids.len() {
+        m = put_named(line, m, name, ids[k]);
+        k += 1;
+    }
+    m
+}
+
 // Each of some locals.
 pub fn put_locals(line: &mut [u8], at: usize, ids: &[u32]) -> usize
     requires { ⌜ at + 13 * length (now ids) ≤ length (now line) ⌝ }
     ensures { λ r. ⌜ Put (locals (now (ids .entry))) at (now (line .entry)) (now (line .exit)) r ⌝ }
 {
-    let mut m = at;
-    let mut k: usize = 0;
-    while k < ids.len() {
-        m = put_named(line, m, b" v", ids[k]);
-        k += 1;
-    }
-    m
+    put_ids(line, at, b" v", ids)
 }
 
 // Each of some blocks.
@@ -56,13 +65,7 @@ pub fn put_blocks(line: &mut [u8], at: usize, ids: &[u32]) -> usize
     requires { ⌜ at + 13 * length (now ids) ≤ length (now line) ⌝ }
     ensures { λ r. ⌜ Put (blocks (now (ids .entry))) at (now (line .entry)) (now (line .exit)) r ⌝ }
 {
-    let mut m = at;
-    let mut k: usize = 0;
-    while k < ids.len() {
-        m = put_named(line, m, b" b", ids[k]);
-        k += 1;
-    }
-    m
+    put_ids(line, at, b" b", ids)
 }
 
 // The members of a set; a hyphen where it is empty.
