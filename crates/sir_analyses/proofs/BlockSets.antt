@@ -1,24 +1,24 @@
 -- What the tables of operands, of use and def sets and of predecessors hold, step by step. Assumes nothing.
 use mathlib.Core.Path.{_≡_, refl, sym, ap, _∙_}
 use mathlib.Core.Logic.{⊎-elim}
-use mathlib.Core.Bool.{Bool, true, false, not, _&&_, _||_, cond, or-false, and-or-distrib-left}
+use mathlib.Core.Bool.{Bool, true, false, not, _&&_, _||_, cond, or-true, or-false, or-comm, and-comm, and-or-distrib-left}
 use mathlib.Core.List.{List, [], _∷_, List·Memᴰ·head, List·Memᴰ·tail, List·Memᴰ·append-cases, List·Memᴰ·not-nil}
 use Prim.Native.Nat.{ℕ, _+_, _*_, _≤_, _<_}
 use native.Mathlib.Omega.{arith}
-use lib.ListN.{length}
+use lib.ListN.{length, replicate}
 use lib.Dec.{eqb, ltb}
-use borrow.Author.Tests.{eqb-true, eq-eqb, lt-ltb, ltb-true}
+use borrow.Author.Tests.{eqb-true, lt-ltb, ltb-true}
 use Rattle.plank_core.specs.Lists.{mem, _∈_}
 use Rattle.plank_core.specs.laws.Lists.{split, mem-in, in-mem, mem-not, mem-append, same-tests, both-true, and-true-left, and-true-right}
 use Rattle.plank_core.specs.DenseIndexSet.{contains, rowOf, rowUnion, rowDifference}
-use Rattle.plank_core.specs.laws.DenseIndexSet.{contains-union, contains-difference, contains-row, length-union, length-difference}
+use Rattle.plank_core.specs.laws.DenseIndexSet.{contains-cleared, contains-union, contains-difference, contains-row, set-union, set-difference, length-union, length-difference}
 use Rattle.sir_data.specs.Records.{blocks, operations, locals, control, outputs, ops, successors, condition, returned, ins, outs}
 use Rattle.sir_data.specs.WellFormed.{WellFormed}
 use Rattle.sir_analyses.specs.Order.{isVisited, predecessors}
 use Rattle.sir_analyses.specs.Liveness.{has, readFirst, useSet, defSet}
-use Rattle.sir_analyses.specs.Tables.{Adds, endReads, OperandRows}
-use Rattle.sir_analyses.proofs.Tables.{adds-as, adds-then}
-use Rattle.sir_analyses.proofs.GenKill.{given, beyond, use-length, def-length, has-use, has-def}
+use Rattle.sir_analyses.specs.Tables.{Adds, endReads, OperandRows, RunSets}
+use Rattle.sir_analyses.proofs.Tables.{cleared-long, adds-as, adds-then, adds-union}
+use Rattle.sir_analyses.proofs.GenKill.{given, read-behind, beyond, use-length, def-length, has-use, has-def}
 use Rattle.sir_analyses.proofs.OrderProof.{blocks-seen, blocks-below, predecessors-in, predecessors-out}
 
 -- ---- locals are small
@@ -86,98 +86,79 @@ module _ {w : List ℕ} (good : WellFormed w) where
       both-true (ltb p (blocks w)) (isVisited w p && mem b (successors w p)) (lt-ltb p (blocks w) (blocks-below w good p (blocks-seen w p .1 (r .0))))
       (both-true (isVisited w p) (mem b (successors w p)) (r .0) (in-mem b (r .1))))
 
--- ---- a block's operations backwards: `os` are done
-
-pub record Back (w xs : List ℕ) (row : ℕ) (os uses₀ defs₀ uses defs : List ℕ) : Type 0 where
-  pub uses-long : length uses ≡ length uses₀
-  pub defs-long : length defs ≡ length defs₀
-  pub used : (r v : ℕ) → 8 * r + 8 ≤ length uses₀ → v < 512 → contains uses (512 * r + v) ≡ cond (eqb r row) (readFirst w xs os v) (contains uses₀ (512 * r + v))
-  pub defined : (r v : ℕ) → 8 * r + 8 ≤ length defs₀ → v < 512 → contains defs (512 * r + v) ≡ (contains defs₀ (512 * r + v) || (eqb r row && given w os v))
-
-pub back-starts : {w xs : List ℕ} {row : ℕ} {os uses defs : List ℕ} → os ≡ [] → ((v : ℕ) → v < 512 → contains uses (512 * row + v) ≡ mem v xs) → Back w xs row os uses defs uses defs
-back-starts {w} {xs} {row} {os} {uses} {defs} e h = rw e (record {
-  uses-long = refl;
-  defs-long = refl;
-  used = λ r v l k. go r v k (eqb r row) refl;
-  defined = λ r v l k. go′ (eqb r row) (contains defs (512 * r + v));
-})
-  where
-    go : (r v : ℕ) → v < 512 → (t : Bool) → eqb r row ≡ t → contains uses (512 * r + v) ≡ cond t (mem v xs) (contains uses (512 * r + v))
-    go r v k true q = ap (λ (n : ℕ). contains uses (512 * n + v)) (eqb-true r row q) ∙ h v k
-    go r v k false q = refl
-
-    go′ : (t x : Bool) → x ≡ (x || (t && false))
-    go′ true x = sym (or-false x)
-    go′ false x = sym (or-false x)
-
-step-used : (t f x o i : Bool) → ((cond t f x && not (t && o)) || (t && i)) ≡ cond t (i || (not o && f)) x
-step-used true true x true true = refl
-step-used true true x true false = refl
-step-used true true x false true = refl
-step-used true true x false false = refl
-step-used true false x true true = refl
-step-used true false x true false = refl
-step-used true false x false true = refl
-step-used true false x false false = refl
-step-used false f true o i = refl
-step-used false f false o i = refl
-
-step-defined : (t d g o : Bool) → ((d || (t && g)) || (t && o)) ≡ (d || (t && (o || g)))
-step-defined true true g o = refl
-step-defined true false true true = refl
-step-defined true false true false = refl
-step-defined true false false true = refl
-step-defined true false false false = refl
-step-defined false true g o = refl
-step-defined false false g o = refl
-
-module _ {w xs : List ℕ} {row : ℕ} {os uses₀ defs₀ uses defs : List ℕ} where
-  pub back-more : (reads writes : List ℕ) (o : ℕ) → OperandRows w reads writes → o < operations w → Back w xs row os uses₀ defs₀ uses defs
-      → Back w xs row (o ∷ os) uses₀ defs₀ (rowUnion (rowDifference uses row (rowOf writes o)) row (rowOf reads o)) (rowUnion defs row (rowOf writes o))
-  back-more reads writes o rows l g =
-      let mid = rowDifference uses row (rowOf writes o) in
-      let m : length mid ≡ length uses = length-difference uses row (rowOf writes o) in
-      let out : (v : ℕ) → v < 512 → contains (rowOf writes o) v ≡ mem v (outs w o) = λ v k. contains-row writes o v k ∙ rows .written o v l k in
-      let inn : (v : ℕ) → v < 512 → contains (rowOf reads o) v ≡ mem v (ins w o) = λ v k. contains-row reads o v k ∙ rows .read o v l k in
-      record {
-        uses-long = length-union mid row (rowOf reads o) ∙ m ∙ g .uses-long;
-        defs-long = length-union defs row (rowOf writes o) ∙ g .defs-long;
-        used = λ r v n k.
-            contains-union mid row (rowOf reads o) r v k (omega (arith, m, g .uses-long))
-            ∙ rw (contains-difference uses row (rowOf writes o) r v k (omega (arith, g .uses-long)), g .used r v n k, out v k, inn v k)
-            (step-used (eqb r row) (readFirst w xs os v) (contains uses₀ (512 * r + v)) (mem v (outs w o)) (mem v (ins w o)));
-        defined = λ r v n k.
-            contains-union defs row (rowOf writes o) r v k (omega (arith, g .defs-long))
-            ∙ rw (g .defined r v n k, out v k) (step-defined (eqb r row) (contains defs₀ (512 * r + v)) (given w os v) (mem v (outs w o)));
-      }
-
 -- the two kinds of what is read behind the operations
 pub ends-both : (w : List ℕ) (b : ℕ) {u u₁ u₂ : List ℕ} → Adds u (λ r v. eqb r b && mem v (condition w b)) u₁ → Adds u₁ (λ r v. eqb r b && mem v (returned w b)) u₂
     → Adds u (λ r v. eqb r b && mem v (endReads w b)) u₂
 ends-both w b a₁ a₂ =
     adds-as (λ r v h. sym (and-or-distrib-left (eqb r b) (mem v (condition w b)) (mem v (returned w b))) ∙ ap (λ (t : Bool). eqb r b && t) (sym (mem-append v (condition w b) (returned w b)))) (adds-then a₁ a₂)
 
--- before the first operation: a row that was empty has just these
-pub ended-row : (w : List ℕ) (b : ℕ) {u u₁ : List ℕ} → 8 * b + 8 ≤ length u → ((v : ℕ) → v < 512 → contains u (512 * b + v) ≡ false)
-    → Adds u (λ r v. eqb r b && mem v (endReads w b)) u₁ → (v : ℕ) → v < 512 → contains u₁ (512 * b + v) ≡ mem v (endReads w b)
-ended-row w b l z a v h = a .same b v l h ∙ rw (z v h, eq-eqb b b refl)
+-- ---- a run of operations backwards: `os` are done
 
--- behind the last one: the rows have the use and def sets
-pub back-used : {w : List ℕ} → WellFormed w → (b : ℕ) {u u₁ : List ℕ} → b < blocks w → ((v : ℕ) → v < 512 → contains u (512 * b + v) ≡ false)
-    → Adds u (λ r v. eqb r b && mem v (endReads w b)) u₁ → {os defs₀ uses defs : List ℕ} → os ≡ ops w b → Back w (endReads w b) b os u₁ defs₀ uses defs
-    → Adds u (λ r v. eqb r b && has (useSet w b) v) uses
-back-used {w} good b {u} {u₁} l z a {os} {uses = uses} e g = record {
-  long = g .uses-long ∙ a .long;
-  same = λ r v n h. g .used r v (omega (arith, a .long)) h ∙ go r v n h (eqb r b) refl;
+pub run-starts : {w os exposed gives : List ℕ} → os ≡ [] → exposed ≡ replicate 8 0 → gives ≡ replicate 8 0 → RunSets w os exposed gives
+run-starts {w} e x g = rw e (record {
+  exposed-long = cleared-long _ 8 x;
+  given-long = cleared-long _ 8 g;
+  reads-first = λ v h. cleared-set x v;
+  gives = λ v h. cleared-set g v;
+})
+  where
+    cleared-set : {s : List ℕ} → s ≡ replicate 8 0 → (v : ℕ) → contains s v ≡ false
+    cleared-set q v = ap (λ (ws : List ℕ). contains ws v) q ∙ contains-cleared 8 v
+
+step-read : (r o i : Bool) → ((r && not o) || i) ≡ (i || (not o && r))
+step-read r o true = or-true (r && not o)
+step-read r o false = or-false (r && not o) ∙ and-comm r (not o)
+
+module _ {w os exposed gives : List ℕ} where
+  pub run-more : (reads writes : List ℕ) (o : ℕ) → OperandRows w reads writes → o < operations w → RunSets w os exposed gives
+      → RunSets w (o ∷ os) (rowUnion (rowDifference exposed 0 (rowOf writes o)) 0 (rowOf reads o)) (rowUnion gives 0 (rowOf writes o))
+  run-more reads writes o rows l g =
+      let mid = rowDifference exposed 0 (rowOf writes o) in
+      let m : length mid ≡ length exposed = length-difference exposed 0 (rowOf writes o) in
+      let out : (v : ℕ) → v < 512 → contains (rowOf writes o) v ≡ mem v (outs w o) = λ v k. contains-row writes o v k ∙ rows .written o v l k in
+      let inn : (v : ℕ) → v < 512 → contains (rowOf reads o) v ≡ mem v (ins w o) = λ v k. contains-row reads o v k ∙ rows .read o v l k in
+      record {
+        exposed-long = length-union mid 0 (rowOf reads o) ∙ m ∙ g .exposed-long;
+        given-long = length-union gives 0 (rowOf writes o) ∙ g .given-long;
+        reads-first = λ v k.
+            set-union mid (rowOf reads o) v k (omega (arith, m, g .exposed-long))
+            ∙ rw (set-difference exposed (rowOf writes o) v k (omega (arith, g .exposed-long)), g .reads-first v k, out v k, inn v k)
+            (step-read (readFirst w [] os v) (mem v (outs w o)) (mem v (ins w o)));
+        gives = λ v k.
+            set-union gives (rowOf writes o) v k (omega (arith, g .given-long))
+            ∙ rw (g .gives v k, out v k) (or-comm (given w os v) (mem v (outs w o)));
+      }
+
+-- ---- a block's rows from the sets of its operations
+
+-- a row that was empty has what is exposed, and what is read behind the operations and not given by them
+pub row-used : {w : List ℕ} → WellFormed w → (b : ℕ) {u u₁ exposed gives : List ℕ} → b < blocks w → ((v : ℕ) → v < 512 → contains u (512 * b + v) ≡ false)
+    → Adds u (λ r v. eqb r b && mem v (endReads w b)) u₁ → RunSets w (ops w b) exposed gives
+    → Adds u (λ r v. eqb r b && has (useSet w b) v) (rowUnion (rowDifference u₁ b gives) b exposed)
+row-used {w} good b {u} {u₁} {exposed} {gives} l z a run = record {
+  long = length-union mid b exposed ∙ m ∙ a .long;
+  same = λ r v n h.
+      contains-union mid b exposed r v h (omega (arith, m, a .long))
+      ∙ rw (contains-difference u₁ b gives r v h (omega (arith, a .long)), a .same r v n h, run .gives v h, run .reads-first v h) (go r v h (eqb r b) refl);
 }
   where
-    go : (r v : ℕ) → 8 * r + 8 ≤ length u → v < 512 → (t : Bool) → eqb r b ≡ t → cond t (readFirst w (endReads w b) os v) (contains u₁ (512 * r + v)) ≡ (contains u (512 * r + v) || (t && has (useSet w b) v))
-    go r v n h true q = rw (e, eqb-true r b q, z v h) (use-test good b v l)
-    go r v n h false q = a .same r v n h ∙ rw q
+    mid : List ℕ
+    mid = rowDifference u₁ b gives
 
-pub back-defined : {w : List ℕ} → WellFormed w → (b : ℕ) → b < blocks w → {xs os uses₀ defs₀ uses defs : List ℕ} → os ≡ ops w b → Back w xs b os uses₀ defs₀ uses defs
-    → Adds defs₀ (λ r v. eqb r b && has (defSet w b) v) defs
-back-defined {w} good b l {os = os} {defs₀ = defs₀} e g = record {
-  long = g .defs-long;
-  same = λ r v n h. g .defined r v n h ∙ ap (λ (t : Bool). contains defs₀ (512 * r + v) || (eqb r b && t)) (ap (λ (k : List ℕ). given w k v) e ∙ def-test good b v l);
-}
+    m : length mid ≡ length u₁
+    m = length-difference u₁ b gives
+
+    other : (x : Bool) → (((x || false) && true) || false) ≡ (x || false)
+    other true = refl
+    other false = refl
+
+    go : (r v : ℕ) → v < 512 → (t : Bool) → eqb r b ≡ t
+        → (((contains u (512 * r + v) || (t && mem v (endReads w b))) && not (t && given w (ops w b) v)) || (t && readFirst w [] (ops w b) v)) ≡ (contains u (512 * r + v) || (t && has (useSet w b) v))
+    go r v h true q =
+        rw (eqb-true r b q, z v h)
+        (or-comm (mem v (endReads w b) && not (given w (ops w b) v)) (readFirst w [] (ops w b) v) ∙ sym (read-behind w (endReads w b) (ops w b) v) ∙ use-test good b v l)
+    go r v h false q = other (contains u (512 * r + v))
+
+pub row-defined : {w : List ℕ} → WellFormed w → (b : ℕ) {exposed gives : List ℕ} → b < blocks w → (defs : List ℕ) → RunSets w (ops w b) exposed gives
+    → Adds defs (λ r v. eqb r b && has (defSet w b) v) (rowUnion defs b gives)
+row-defined good b {gives = gives} l defs run = adds-as (λ r v h. ap (λ (t : Bool). eqb r b && t) (run .gives v h ∙ def-test good b v l)) (adds-union defs b gives)

@@ -51,6 +51,18 @@ module _ (w : List ℕ) where
       ∙ ap (λ (a : Bool). (a && not (mem v (outs w o))) || mem v (ins w o)) (through-has c os x v h)
       ∙ tests (readFirst w c os v) (has x v) (given os v) (mem v (outs w o)) (mem v (ins w o))
 
+  behind : (r x d o i : Bool) → (i || (not o && (r || (x && not d)))) ≡ ((i || (not o && r)) || (x && not (o || d)))
+  behind r x d o true = refl
+  behind r x d true false = sym (and-false x)
+  behind r x d false false = refl
+
+  -- what is read behind the operations counts where none of them gives it
+  pub read-behind : (c os : List ℕ) (v : ℕ) → readFirst w c os v ≡ (readFirst w [] os v || (mem v c && not (given os v)))
+  read-behind c [] v = sym (and-true (mem v c))
+  read-behind c (o ∷ os) v =
+      ap (λ (a : Bool). mem v (ins w o) || (not (mem v (outs w o)) && a)) (read-behind c os v)
+      ∙ behind (readFirst w [] os v) (mem v c) (given os v) (mem v (outs w o)) (mem v (ins w o))
+
   abbrev pub given-set : List ℕ → Set
   given-set os = foldr (λ o s. addAll s (outs w o)) (replicate (locals w) false) os
 

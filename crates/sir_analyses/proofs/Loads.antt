@@ -83,34 +83,20 @@ visited-seen good v = record {
 -- all is at hand
 pub prepared : {w words seen post old rpo : List ℕ} {n k m : ℕ} → n ≤ length words → take n words ≡ w → WellFormed (take n words) → VisitedAll (take n words) seen post k
     → Listed (blocksIn (take k post)) 0 old rpo m → length old ≡ 256 → rule12 (take n words) ≡ false → Prepared w words seen post rpo n k m
-prepared {w} {words} {seen} {post} {old} {rpo} {n} {k} {m} fit is good v l long differ = record {
-  words-fit = fit;
-  words-are = is;
-  visited = subst (λ (w : List ℕ). VisitedAll w seen post k) is v;
-  rpo-fit = omega (arith, l .next, l .long, blocks-fit good v);
-  rpo-is = rpo-is good v l ∙ ap blocksRpo is;
-  well-formed = subst WellFormed is good;
-  seen-are = subst (λ (w : List ℕ). SeenBlocks w seen) is (visited-seen good v);
-  bases-differ = ap rule12 (sym is) ∙ differ;
-  keys-few = omega (arith, ap (λ (w : List ℕ). length (allocKeys w)) is, keys-long (take n words), keys-most (take n words) good differ);
-}
-
--- what an accepted image's arrays give a question
-module _ {w words seen post rpo : List ℕ} {n k m : ℕ} (good : WellFormed w) (p : Prepared w words seen post rpo n k m) where
-  pub keys-there : k ≤ length post
-  keys-there = keys-fit good (p .visited)
-
-  pub order-fits : length (orderIn (take k post)) ≤ 384
-  order-fits = omega (arith, ap length (order-answer w (p .visited .shows)), order-most w good, good .sized .functions-most, good .sized .blocks-most)
-
-  pub words-good : WellFormed (take n words)
-  words-good = subst WellFormed (sym (p .words-are)) good
-
-  pub seen-blocks : SeenBlocks (take n words) seen
-  seen-blocks = subst (λ (v : List ℕ). SeenBlocks v seen) (sym (p .words-are)) (p .seen-are)
-
-  pub nine-words : 9 ≤ length (take n words)
-  nine-words = omega (arith, words-good .sized .size)
-
-  pub order-listed : {old order : List ℕ} {r : ℕ} → Listed (orderIn (take k post)) 0 old order r → take r order ≡ orderAnswer w
-  order-listed l = l .list ∙ sym (order-answer w (p .visited .shows))
+prepared {w} {words} {seen} {post} {old} {rpo} {n} {k} {m} fit is good v l long differ =
+    let order : orderIn (take k post) ≡ orderAnswer (take n words) = sym (order-answer (take n words) (v .shows)) in
+    record {
+      words-fit = fit;
+      words-are = is;
+      post-fit = keys-fit good v;
+      order-is = order;
+      order-fits = omega (arith, ap length order, order-most (take n words) good, good .sized .functions-most, good .sized .blocks-most);
+      rpo-fit = omega (arith, l .next, l .long, blocks-fit good v);
+      ready = record {
+        well-formed = good;
+        seen-are = visited-seen good v;
+        rpo-is = rpo-is good v l;
+        bases-differ = differ;
+        keys-few = omega (arith, keys-long (take n words), keys-most (take n words) good differ);
+      };
+    }

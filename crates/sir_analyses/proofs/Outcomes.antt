@@ -9,7 +9,7 @@ use lib.Dec.{eqb, ltb}
 use borrow.Author.Tests.{eq-eqb, ne-eqb, lt-ltb, le-ltb}
 use Rattle.plank_core.specs.Lists.{bind}
 use Rattle.sir_data.specs.Pages.{payload, bytesOf}
-use Rattle.sir_analyses.specs.Answers.{refusal, Outcome, made, refused, answered, outcome}
+use Rattle.sir_analyses.specs.Answers.{refusal, made, answered, asked, outcome}
 use Rattle.sir_analyses.specs.Writing.{wordsPut, Puts}
 use Rattle.sir_analyses.proofs.Writing.{length-bytes, puts-past, puts-all}
 
@@ -28,13 +28,17 @@ module _ (xs out : List ℕ) where
   pub counted : {r : ℕ} {out′ : List ℕ} → Puts 0 0 xs out out′ r → (r ≡ length xs) × (out′ ≡ out)
   counted p = (omega (arith, p .next), p .left ∙ puts-past 0 0 xs out (omega arith))
 
-module _ (bound : List ℕ → ℕ) (words : List ℕ → ℕ → List ℕ) (image : List ℕ) (id : ℕ) (out : List ℕ) where
-  pub image-refused : {n l : ℕ} → (refusal image ≡ 0 → ⊥) → n ≡ refusal image → l ≡ 0 → made n l out ≡ outcome bound words image id out
+module _ (count : ℕ) (words : ℕ → List ℕ) (id : ℕ) (out : List ℕ) where
+  -- 13: the id asked for is not below its count
+  pub id-refused : {n l : ℕ} → count ≤ id → n ≡ 13 → l ≡ 0 → made n l out ≡ asked count words id out
+  id-refused h a b = rw (le-ltb id count h, a, b)
+
+  pub id-answered : id < count → answered (bind (words id) bytesOf) out ≡ asked count words id out
+  id-answered h = rw (lt-ltb id count h)
+
+module _ (count : List ℕ → ℕ) (words : List ℕ → ℕ → List ℕ) (image : List ℕ) (id : ℕ) (out : List ℕ) where
+  pub image-refused : {n l : ℕ} → (refusal image ≡ 0 → ⊥) → n ≡ refusal image → l ≡ 0 → made n l out ≡ outcome count words image id out
   image-refused h a b = rw (ne-eqb (refusal image) 0 h, a, b)
 
-  -- 13: the id asked for is not below its count
-  pub id-refused : {n l : ℕ} → refusal image ≡ 0 → bound (payload image) ≤ id → n ≡ 13 → l ≡ 0 → made n l out ≡ outcome bound words image id out
-  id-refused z h a b = rw (eq-eqb (refusal image) 0 z, le-ltb id (bound (payload image)) h, a, b)
-
-  pub asked : refusal image ≡ 0 → id < bound (payload image) → answered (bind (words (payload image) id) bytesOf) out ≡ outcome bound words image id out
-  asked z h = rw (eq-eqb (refusal image) 0 z, lt-ltb id (bound (payload image)) h)
+  pub image-accepted : refusal image ≡ 0 → asked (count (payload image)) (words (payload image)) id out ≡ outcome count words image id out
+  image-accepted z = rw (eq-eqb (refusal image) 0 z)

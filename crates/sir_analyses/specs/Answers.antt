@@ -78,17 +78,19 @@ made n l out = record { number = n; len = l; result = out }
 
 -- a refusal gives its number and answer length 0, and the result slice keeps its bytes
 abbrev pub refused : ℕ → List ℕ → Outcome
-refused n out = record { number = n; len = 0; result = out }
+refused n out = made n 0 out
 
 -- success is number 0, and bytes past the answer stay; 14: result slice shorter than the answer
 abbrev pub answered : List ℕ → List ℕ → Outcome
 answered bytes out =
     cond (ltb (length out) (length bytes)) (refused 14 out)
-    (record { number = 0; len = length bytes; result = bytes ++ drop (length bytes) out })
+    (made 0 (length bytes) (bytes ++ drop (length bytes) out))
 
--- a question about id, of which there are `bound w`, answered by `words w id`; 13: id asked for not below its count
+-- a question about id, of which there are `count`, answered by `words id`; 13: id asked for not below its count
+abbrev pub asked : ℕ → (ℕ → List ℕ) → ℕ → List ℕ → Outcome
+asked count words id out = cond (ltb id count) (answered (bind (words id) bytesOf) out) (refused 13 out)
+
+-- a question put to an image: the refusal of the image comes first
 abbrev pub outcome : (List ℕ → ℕ) → (List ℕ → ℕ → List ℕ) → List ℕ → ℕ → List ℕ → Outcome
-outcome bound words image id out =
-    cond (eqb (refusal image) 0)
-    (cond (ltb id (bound (payload image))) (answered (bind (words (payload image) id) bytesOf) out) (refused 13 out))
-    (refused (refusal image) out)
+outcome count words image id out =
+    cond (eqb (refusal image) 0) (asked (count (payload image)) (words (payload image)) id out) (refused (refusal image) out)

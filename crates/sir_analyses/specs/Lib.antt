@@ -11,6 +11,7 @@ pub mod Propagation
 pub mod Discovery
 pub mod Answers
 pub mod Loading
+pub mod Questions
 pub mod Scanning
 pub mod Kinds
 pub mod Sweep

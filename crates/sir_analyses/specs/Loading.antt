@@ -10,20 +10,26 @@ use Rattle.sir_data.specs.WellFormed.{WellFormed}
 use Rattle.sir_analyses.specs.Order.{blocksRpo}
 use Rattle.sir_analyses.specs.Allocation.{rule12}
 use Rattle.sir_analyses.specs.Discovery.{allocKeys}
-use Rattle.sir_analyses.specs.Visiting.{VisitedAll, SeenBlocks}
-use Rattle.sir_analyses.specs.Answers.{refusal}
+use Rattle.sir_analyses.specs.Visiting.{SeenBlocks, orderIn}
+use Rattle.sir_analyses.specs.Answers.{refusal, orderAnswer}
+
+-- what questions are answered from: the words of an accepted image, the blocks seen, the order's sequence
+pub record Ready (w seen rpo : List ℕ) : Type 0 where
+  pub well-formed : WellFormed w
+  pub seen-are : SeenBlocks w seen
+  pub rpo-is : rpo ≡ blocksRpo w
+  pub bases-differ : rule12 w ≡ false
+  pub keys-few : length (allocKeys w) ≤ 512
 
 -- n words, k keys of the visit and m blocks stand at the front of their arrays
 pub record Prepared (w words seen post rpo : List ℕ) (n k m : ℕ) : Type 0 where
   pub words-fit : n ≤ length words
   pub words-are : take n words ≡ w
-  pub visited : VisitedAll w seen post k
+  pub post-fit : k ≤ length post
+  pub order-is : orderIn (take k post) ≡ orderAnswer (take n words)
+  pub order-fits : length (orderIn (take k post)) ≤ 384
   pub rpo-fit : m ≤ length rpo
-  pub rpo-is : take m rpo ≡ blocksRpo w
-  pub well-formed : WellFormed w
-  pub seen-are : SeenBlocks w seen
-  pub bases-differ : rule12 w ≡ false
-  pub keys-few : length (allocKeys w) ≤ 512
+  pub ready : Ready (take n words) seen (take m rpo)
 
 pub record Loaded (s words seen post rpo : List ℕ) (number n k m : ℕ) : Type 0 where
   pub number-is : number ≡ refusal s

@@ -2,7 +2,7 @@
 -- Assumes nothing.
 use mathlib.Core.Path.{_≡_}
 use mathlib.Core.Bool.{Bool, true, not, _&&_, _||_}
-use mathlib.Core.List.{List, _++_, map}
+use mathlib.Core.List.{List, [], _++_, map}
 use Prim.Native.Nat.{ℕ, _+_, _*_, _≤_, _<_}
 use lib.ListN.{length, getD}
 use Rattle.plank_core.specs.Lists.{upto, any, keep, mem, _∈_}
@@ -10,7 +10,7 @@ use Rattle.plank_core.specs.DenseIndexSet.{contains}
 use Rattle.plank_core.specs.DenseIndexSet as Words
 use Rattle.sir_data.specs.Records.{blocks, operations, locals, inputs, outputs, condition, returned, ins, outs}
 use Rattle.sir_analyses.specs.Order.{isVisited, predecessors}
-use Rattle.sir_analyses.specs.Liveness.{Set, has, rowOf, useSet, defSet, renamed, settled}
+use Rattle.sir_analyses.specs.Liveness.{Set, has, rowOf, readFirst, useSet, defSet, renamed, settled}
 use Rattle.sir_analyses.specs.Answers.{entryAnswer, exitAnswer}
 
 -- words that show a set
@@ -44,6 +44,13 @@ pub record OperandRows (w reads writes : List ℕ) : Type 0 where
   pub writes-long : length writes ≡ 8192
   pub read : Rows reads (operations w) (λ o v. mem v (ins w o))
   pub written : Rows writes (operations w) (λ o v. mem v (outs w o))
+
+-- what the operations os read before one of them gives it, and what they give
+pub record RunSets (w os exposed given : List ℕ) : Type 0 where
+  pub exposed-long : length exposed ≡ 8
+  pub given-long : length given ≡ 8
+  pub reads-first : (v : ℕ) → v < 512 → contains exposed v ≡ readFirst w [] os v
+  pub gives : (v : ℕ) → v < 512 → contains given v ≡ any (λ o. mem v (outs w o)) os
 
 -- what is read behind a block's operations: its condition, and what it returns
 abbrev pub endReads : List ℕ → ℕ → List ℕ

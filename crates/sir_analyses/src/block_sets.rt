@@ -7,6 +7,7 @@ use plank_core::rows::row_contains;
 use plank_core::rows::row_difference_with;
 use plank_core::rows::row_of;
 use plank_core::rows::row_union_with;
+use plank_core::span::Span;
 use sir_data::records::Tested;
 use sir_data::records::block_count;
 use sir_data::records::block_operations;
@@ -22,12 +23,12 @@ ghost use mathlib.Core.Bool.{_&&_, false};
 ghost use Prim.Native.Nat.{ℕ, _+_, _*_, _≤_, _<_};
 ghost use lib.ListN.{length, replicate};
 ghost use lib.Dec.{eqb};
-ghost use Rattle.plank_core.specs.Lists.{mem, _∈_};
+ghost use Rattle.plank_core.specs.Lists.{range, mem, _∈_};
 ghost use Rattle.plank_core.specs.DenseIndexSet.{contains};
-ghost use Rattle.sir_data.specs.Records.{blocks, successors, condition};
+ghost use Rattle.sir_data.specs.Records.{blocks, ops, successors, condition};
 ghost use Rattle.sir_data.specs.WellFormed.{WellFormed};
 ghost use Rattle.sir_analyses.specs.Liveness.{has, useSet, defSet};
-ghost use Rattle.sir_analyses.specs.Tables.{Adds, endReads, EndRows, OperandRows, BlockRows, BlocksSeen, PredecessorRows};
+ghost use Rattle.sir_analyses.specs.Tables.{Adds, endReads, EndRows, OperandRows, RunSets, BlockRows, BlocksSeen, PredecessorRows};
 
 // Adds the locals of a run to a row.
 pub fn add_run(table: &mut [u64], row: usize, run: &[u32])
@@ -93,33 +94,93 @@ pub fn end_sets(words: &[u32], ends: &mut [u64])
     }
 }
 
-// The use and def sets of one block, to rows that are empty: what is read behind its operations, then these backwards.
-fn block_rows(
+// Empties a set.
+fn clear(set: &mut [u64])
+    requires { ⌜ length (now set) ≡ 8 ⌝ }
+    ensures { λ _. ⌜ now (set .exit) ≡ replicate 8 0 ⌝ }
+{
+    let mut k: usize = 0;
+    while k < 8 {
+        set[k] = 0;
+        k += 1;
+    }
+}
+
+// What the operations of block b read before one of them gives it, and what they give: taken backwards.
+fn run_sets(
     words: &[u32],
     b: BlockId,
     reads: &[u64],
     writes: &[u64],
-    uses: &mut [u64],
-    defs: &mut [u64],
+    exposed: &mut [u64],
+    given: &mut [u64],
 )
     requires { ⌜ WellFormed (now words) ⌝ }
     requires { ⌜ OperandRows (now words) (now reads) (now writes) ⌝ }
-    requires { ⌜ (b .0 < blocks (now words)) × (length (now uses) ≡ 2048) × (length (now defs) ≡ 2048) ⌝ }
-    requires { ⌜ ((v : ℕ) → v < 512 → contains (now uses) (512 * b .0 + v) ≡ false) × ((v : ℕ) → v < 512 → contains (now defs) (512 * b .0 + v) ≡ false) ⌝ }
-    ensures { λ _. ⌜ Adds (now (uses .entry)) (λ r v. eqb r (b .0) && has (useSet (now (words .entry)) (b .0)) v) (now (uses .exit)) ⌝ }
-    ensures { λ _. ⌜ Adds (now (defs .entry)) (λ r v. eqb r (b .0) && has (defSet (now (words .entry)) (b .0)) v) (now (defs .exit)) ⌝ }
+    requires { ⌜ (b .0 < blocks (now words)) × (length (now exposed) ≡ 8) × (length (now given) ≡ 8) ⌝ }
+    ensures { λ _. ⌜ RunSets (now (words .entry)) (ops (now (words .entry)) (b .0)) (now (exposed .exit)) (now (given .exit)) ⌝ }
 {
-    let row = b.0 as usize;
-    add_end(words, b, uses);
+    clear(exposed);
+    clear(given);
     let span = block_operations(words, b);
     let first = span.start as usize;
     let mut o = span.end as usize;
     while first < o {
         o -= 1;
-        row_difference_with(uses, row, row_of(writes, o));
-        row_union_with(uses, row, row_of(reads, o));
-        row_union_with(defs, row, row_of(writes, o));
+        row_difference_with(exposed, 0, row_of(writes, o));
+        row_union_with(exposed, 0, row_of(reads, o));
+        row_union_with(given, 0, row_of(writes, o));
     }
+}
+
+// Turns the sets of the range `kept` into those of block b, and answers its range. They are made anew only where that is another
+// one: blocks that follow each other may share a long range.
+fn turn_sets(
+    words: &[u32],
+    b: BlockId,
+    reads: &[u64],
+    writes: &[u64],
+    kept: Span,
+    exposed: &mut [u64],
+    given: &mut [u64],
+) -> Span
+    requires { ⌜ WellFormed (now words) ⌝ }
+    requires { ⌜ OperandRows (now words) (now reads) (now writes) ⌝ }
+    requires { ⌜ b .0 < blocks (now words) ⌝ }
+    requires { ⌜ RunSets (now words) (range (kept .start) (kept .end)) (now exposed) (now given) ⌝ }
+    ensures { λ r. ⌜ range (r .start) (r .end) ≡ ops (now (words .entry)) (b .0) ⌝ }
+    ensures { λ _. ⌜ RunSets (now (words .entry)) (ops (now (words .entry)) (b .0)) (now (exposed .exit)) (now (given .exit)) ⌝ }
+{
+    let span = block_operations(words, b);
+    if span.start == kept.start && span.end == kept.end {
+        return kept;
+    }
+    run_sets(words, b, reads, writes, exposed, given);
+    span
+}
+
+// The use and def sets of one block, to rows that are empty, from the sets of its operations: what is read behind them is used
+// where none of them gives it.
+fn block_rows(
+    words: &[u32],
+    b: BlockId,
+    exposed: &[u64],
+    given: &[u64],
+    uses: &mut [u64],
+    defs: &mut [u64],
+)
+    requires { ⌜ WellFormed (now words) ⌝ }
+    requires { ⌜ (b .0 < blocks (now words)) × (length (now uses) ≡ 2048) × (length (now defs) ≡ 2048) ⌝ }
+    requires { ⌜ RunSets (now words) (ops (now words) (b .0)) (now exposed) (now given) ⌝ }
+    requires { ⌜ ((v : ℕ) → v < 512 → contains (now uses) (512 * b .0 + v) ≡ false) ⌝ }
+    ensures { λ _. ⌜ Adds (now (uses .entry)) (λ r v. eqb r (b .0) && has (useSet (now (words .entry)) (b .0)) v) (now (uses .exit)) ⌝ }
+    ensures { λ _. ⌜ Adds (now (defs .entry)) (λ r v. eqb r (b .0) && has (defSet (now (words .entry)) (b .0)) v) (now (defs .exit)) ⌝ }
+{
+    let row = b.0 as usize;
+    add_end(words, b, uses);
+    row_difference_with(uses, row, given);
+    row_union_with(uses, row, exposed);
+    row_union_with(defs, row, given);
 }
 
 // The use and def sets of all blocks, from what their operations read and write.
@@ -129,10 +190,22 @@ pub fn block_sets(words: &[u32], reads: &[u64], writes: &[u64], uses: &mut [u64]
     requires { ⌜ (now uses ≡ replicate 2048 0) × (now defs ≡ replicate 2048 0) ⌝ }
     ensures { λ _. ⌜ BlockRows (now (words .entry)) (now (uses .exit)) (now (defs .exit)) ⌝ }
 {
+    let mut exposed = [0u64; 8];
+    let mut given = [0u64; 8];
+    let mut kept = Span { start: 0, end: 0 };
     let count = block_count(words);
     let mut b: u32 = 0;
     while b < count {
-        block_rows(words, BlockId(b), reads, writes, uses, defs);
+        kept = turn_sets(
+            words,
+            BlockId(b),
+            reads,
+            writes,
+            kept,
+            &mut exposed,
+            &mut given,
+        );
+        block_rows(words, BlockId(b), &exposed, &given, uses, defs);
         b += 1;
     }
 }

@@ -1,139 +1,48 @@
--- `block_rows` meets its contract. The invariant: row b is what the operations from o on, taken backwards, make of it.
-use mathlib.Core.Path.{_≡_, ap, ap₂, _∙_}
-use Prim.Native.Nat.{_-_, _≤_, _<_}
-use lib.ListN.{length}
-use Rattle.plank_core.specs.Lists.{range}
-use Rattle.plank_core.specs.laws.Loops.{range-before, range-none}
-use Rattle.plank_core.specs.laws.DenseIndexSet.{length-row}
-use Rattle.sir_data.specs.Records.{operations, blockWord, ops}
-use Rattle.sir_analyses.specs.Tables.{endReads}
-use Rattle.sir_analyses.proofs.BlockSets.{Back, back-starts, back-more, back-used, back-defined, ended-row}
+-- `block_rows` meets its contract.
+use Rattle.sir_analyses.proofs.BlockSets.{row-used, row-defined}
 use borrow.Author.Needs.{needs}
-use native.Mathlib.Omega.{arith}
 use Rattle.sir_analyses.proofs.block_sets.block_rows.Statement.{statement}
 use Rattle.sir_analyses.proofs.block_sets.block_rows.Tie as tie
 
-abbrev Inv-loop : tie.InvT-loop
-Inv-loop words reads writes uses₀ defs₀ row first o₀ uses defs o = (first ≤ o) × (o ≤ o₀) × Back words (endReads words row) row (range o o₀) uses₀ defs₀ uses defs
-
-abbrev μ-loop : tie.MeasureT-loop
-μ-loop words reads writes uses₀ defs₀ row first o₀ uses defs o = o
-
-cast-row : tie.Need-cast-row Inv-loop μ-loop
+cast-row : tie.Need-cast-row
 cast-row c = search needs
 
-add-end-requires : tie.Need-add-end-requires Inv-loop μ-loop
-add-end-requires c κs = (c .before .before .before .before .before .before .before .pre .0, (c .before .before .before .before .before .before .before .pre .1 .1 .0 .0, c .before .before .before .before .before .before .before .pre .1 .1 .0 .1))
+add-end-requires : tie.Need-add-end-requires
+add-end-requires c κs = search needs
 
-block-operations-requires : tie.Need-block-operations-requires Inv-loop μ-loop
-block-operations-requires c κs = (c .before .before .before .before .before .before .before .before .before .before .pre .0 .sized, c .before .before .before .before .before .before .before .before .before .before .pre .1 .1 .0 .0)
+row-difference-with-requires : tie.Need-row-difference-with-requires
+row-difference-with-requires c κs = search needs
 
-cast-first : tie.Need-cast-first Inv-loop μ-loop
-cast-first c = search needs
+row-union-with-requires : tie.Need-row-union-with-requires
+row-union-with-requires c κs = search needs
 
-cast-o : tie.Need-cast-o Inv-loop μ-loop
-cast-o c = search needs
+row-union-with-requires-2 : tie.Need-row-union-with-requires-2
+row-union-with-requires-2 c κs = search needs
 
-loop-holds : tie.Need-loop-holds Inv-loop μ-loop
-loop-holds c = let s = c .before .before .before .before .before .before .before .before .before .before .before .before .before in
-    let w = s .args .words .now in
+same-length : tie.Need-same-length
+same-length c = search needs
+
+same-length-2 : tie.Need-same-length-2
+same-length-2 c = search needs
+
+returns : tie.Need-returns
+returns c = let s = c .before .before .before .before .before .before .before .before .before .before .before .before .before .before .before .before .before .before .before .before .before .before in
     let b = s .args .b .0 in
-    let l = s .pre .1 .1 .0 .0 in
-    let span = c .before .before .block-operations .ensures in (
-      omega (arith, s .pre .0 .in-range .ops-range b l, span),
-      omega arith,
-      back-starts (range-none (c .before .before .block-operations .result .end) (c .before .before .block-operations .result .end) (omega arith))
-          (ended-row w b (omega (arith, s .pre .1 .1 .0, s .pre .0 .sized .blocks-most)) (s .pre .1 .1 .1 .0) (c .before .before .before .before .before .add-end .ensures)),
-    )
-
-sub-o : tie.Need-sub-o Inv-loop μ-loop
-sub-o c = omega arith
-
-row-of-requires : tie.Need-row-of-requires Inv-loop μ-loop
-row-of-requires c κs = let s = c .before .before .before .before .before .before .before .before .before .before .before .before .before .before .before .before in
-    omega (arith, s .pre .1 .0 .writes-long, s .pre .0 .sized .operations-most, s .pre .0 .in-range .ops-range (s .args .b .0) (s .pre .1 .1 .0 .0), c .before .before .before .before .before .block-operations .ensures)
-
-row-difference-with-requires : tie.Need-row-difference-with-requires Inv-loop μ-loop
-row-difference-with-requires c κs = let s = c .before .before .before .before .before .before .before .before .before .before .before .before .before .before .before .before .before in
-    let l = c .before .before .before .loop in (
-      omega (arith, l .inv .2 .uses-long, c .before .before .before .before .before .before .before .before .before .add-end .ensures .long, s .pre .1 .1 .0, s .pre .0 .sized .blocks-most),
-      ap length (c .row-of .ensures) ∙ length-row (s .args .writes .now) (l .o - 1) (omega (arith, s .pre .1 .0 .writes-long, s .pre .0 .sized .operations-most, s .pre .0 .in-range .ops-range (s .args .b .0) (s .pre .1 .1 .0 .0), c .before .before .before .before .before .before .block-operations .ensures)),
-    )
-
-row-of-requires-2 : tie.Need-row-of-requires-2 Inv-loop μ-loop
-row-of-requires-2 c κs = let s = c .before .before .before .before .before .before .before .before .before .before .before .before .before .before .before .before .before .before .before .before .before in
-    omega (arith, s .pre .1 .0 .reads-long, s .pre .0 .sized .operations-most, s .pre .0 .in-range .ops-range (s .args .b .0) (s .pre .1 .1 .0 .0), c .before .before .before .before .before .before .before .before .before .before .block-operations .ensures)
-
-row-union-with-requires : tie.Need-row-union-with-requires Inv-loop μ-loop
-row-union-with-requires c κs = let s = c .before .before .before .before .before .before .before .before .before .before .before .before .before .before .before .before .before .before .before .before .before .before in
-    let l = c .before .before .before .before .before .before .before .before .loop in (
-      omega (arith, c .before .before .before .before .row-difference-with .kept, l .inv .2 .uses-long, c .before .before .before .before .before .before .before .before .before .before .before .before .before .before .add-end .ensures .long, s .pre .1 .1 .0, s .pre .0 .sized .blocks-most),
-      ap length (c .row-of2 .ensures) ∙ length-row (s .args .reads .now) (l .o - 1) (omega (arith, s .pre .1 .0 .reads-long, s .pre .0 .sized .operations-most, s .pre .0 .in-range .ops-range (s .args .b .0) (s .pre .1 .1 .0 .0), c .before .before .before .before .before .before .before .before .before .before .before .block-operations .ensures)),
-    )
-
-row-of-requires-3 : tie.Need-row-of-requires-3 Inv-loop μ-loop
-row-of-requires-3 c κs = let s = c .before .before .before .before .before .before .before .before .before .before .before .before .before .before .before .before .before .before .before .before .before .before .before .before .before .before in
-    omega (arith, s .pre .1 .0 .writes-long, s .pre .0 .sized .operations-most, s .pre .0 .in-range .ops-range (s .args .b .0) (s .pre .1 .1 .0 .0), c .before .before .before .before .before .before .before .before .before .before .before .before .before .before .before .block-operations .ensures)
-
-row-union-with-requires-2 : tie.Need-row-union-with-requires-2 Inv-loop μ-loop
-row-union-with-requires-2 c κs = let s = c .before .before .before .before .before .before .before .before .before .before .before .before .before .before .before .before .before .before .before .before .before .before .before .before .before .before .before in
-    let l = c .before .before .before .before .before .before .before .before .before .before .before .before .before .loop in (
-      omega (arith, l .inv .2 .defs-long, s .pre .1 .1 .0, s .pre .0 .sized .blocks-most),
-      ap length (c .row-of3 .ensures) ∙ length-row (s .args .writes .now) (l .o - 1) (omega (arith, s .pre .1 .0 .writes-long, s .pre .0 .sized .operations-most, s .pre .0 .in-range .ops-range (s .args .b .0) (s .pre .1 .1 .0 .0), c .before .before .before .before .before .before .before .before .before .before .before .before .before .before .before .before .block-operations .ensures)),
-    )
-
-loop-less : tie.Need-loop-less Inv-loop μ-loop
-loop-less c = omega arith
-
-loop-again : tie.Need-loop-again Inv-loop μ-loop
-loop-again c = let s = c .before .before .before .before .before .before .before .before .before .before .before .before .before .before .before .before .before .before .before .before .before .before .before .before .before .before .before .before .before .before in
-    let l = c .before .before .before .before .before .before .before .before .before .before .before .before .before .before .before .before .loop in
-    let h : l .o - 1 < operations (s .args .words .now) = omega (arith, s .pre .0 .in-range .ops-range (s .args .b .0) (s .pre .1 .1 .0 .0), c .before .before .before .before .before .before .before .before .before .before .before .before .before .before .before .before .before .before .before .block-operations .ensures) in (
-      omega arith,
-      omega arith,
-      rw (range-before (l .o) (c .before .before .before .before .before .before .before .before .before .before .before .before .before .before .before .before .before .before .before .block-operations .result .end) (omega arith) (omega arith), c .before .before .before .before .before .before .before .row-union-with .ensures .1, c .before .before .before .before .before .before .before .before .row-of2 .ensures, c .before .before .before .before .before .before .before .before .before .before .before .before .row-difference-with .ensures, c .before .before .before .before .before .before .before .before .before .before .before .before .before .row-of .ensures, c .before .before .row-union-with2 .ensures .1, c .before .before .before .row-of3 .ensures)
-          (back-more (s .args .reads .now) (s .args .writes .now) (l .o - 1) (s .pre .1 .0) h (l .inv .2)),
-    )
-
-same-length : tie.Need-same-length Inv-loop μ-loop
-same-length c = omega (arith, c .before .loop .inv .2 .uses-long, c .before .before .before .before .before .before .before .add-end .ensures .long)
-
-same-length-2 : tie.Need-same-length-2 Inv-loop μ-loop
-same-length-2 c = omega (arith, c .before .loop .inv .2 .defs-long)
-
-returns : tie.Need-returns Inv-loop μ-loop
-returns c = let s = c .before .before .before .before .before .before .before .before .before .before .before .before .before .before .before in
-    let w = s .args .words .now in
-    let b = s .args .b .0 in
-    let l = c .before .loop in
-    let span = c .before .before .before .before .block-operations .ensures in
-    let first : l .o ≡ blockWord w b 4 = omega (arith, span) in
-    let os : range (l .o) (c .before .before .before .before .block-operations .result .end) ≡ ops w b = ap₂ range first (span .1) in (
-      back-used (s .pre .0) b (s .pre .1 .1 .0 .0) (s .pre .1 .1 .1 .0) (c .before .before .before .before .before .before .before .add-end .ensures) os (l .inv .2),
-      back-defined (s .pre .0) b (s .pre .1 .1 .0 .0) os (l .inv .2),
+    let l = s .pre .1 .0 .0 in
+    let run = s .pre .1 .1 .0 in (
+      rw (c .before .before .before .before .before .before .row-union-with .ensures .1, c .before .before .before .before .before .before .before .before .before .before .row-difference-with .ensures) (row-used (s .pre .0) b l (s .pre .1 .1 .1) (c .before .before .before .before .before .before .before .before .before .before .before .before .before .before .add-end .ensures) run),
+      rw (c .before .before .row-union-with2 .ensures .1) (row-defined (s .pre .0) b l (s .args .defs .now) run),
     )
 
 pub block-rows-spec : {M : Type 1} → statement M
 block-rows-spec =
     tie.close
     (tie.spec
-    Inv-loop
-    μ-loop
     cast-row
     add-end-requires
-    block-operations-requires
-    cast-first
-    cast-o
-    loop-holds
-    sub-o
-    row-of-requires
     row-difference-with-requires
-    row-of-requires-2
     row-union-with-requires
-    row-of-requires-3
     row-union-with-requires-2
-    loop-less
-    loop-again
     same-length
     same-length-2
     returns)

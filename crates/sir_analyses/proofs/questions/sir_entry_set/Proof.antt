@@ -1,132 +1,17 @@
 -- `sir_entry_set` meets its contract.
-use mathlib.Core.Path.{_≡_, refl, sym, ap, _∙_}
-use mathlib.Core.List.{List}
-use Prim.Native.Nat.{ℕ, _<_, _≤_}
-use native.Mathlib.Omega.{arith}
-use lib.ListN.{length, take}
-use Rattle.plank_core.specs.Lists.{bind}
-use Rattle.sir_data.specs.Pages.{payload, bytesOf}
-use Rattle.sir_data.specs.Records.{blocks}
-use Rattle.sir_analyses.specs.Order.{blocksRpo}
-use Rattle.sir_analyses.specs.Answers.{refusal, entryAnswer, answered}
-use Rattle.sir_analyses.proofs.Proved.{good, liveness}
-use Rattle.sir_analyses.proofs.Loads.{words-good, seen-blocks, nine-words, front-length}
-use Rattle.sir_analyses.proofs.Outcomes.{image-refused, id-refused, asked}
+use Rattle.sir_analyses.proofs.Proved.{liveness}
 use borrow.Author.Needs.{needs}
 use Rattle.sir_analyses.proofs.questions.sir_entry_set.Statement.{statement}
 use Rattle.sir_analyses.proofs.questions.sir_entry_set.Tie as tie
 
-slice-aggregate-load : tie.Need-slice-aggregate-load
-slice-aggregate-load c = search needs
-
-slice-aggregate-load-2 : tie.Need-slice-aggregate-load-2
-slice-aggregate-load-2 c = search needs
-
-slice-aggregate-load-3 : tie.Need-slice-aggregate-load-3
-slice-aggregate-load-3 c = search needs
-
-slice-aggregate-load-4 : tie.Need-slice-aggregate-load-4
-slice-aggregate-load-4 c = search needs
-
-load-requires : tie.Need-load-requires
-load-requires c κs = search needs
-
-refuse-requires : tie.Need-refuse-requires
-refuse-requires c κs = search needs
-
-returns : tie.Need-returns
-returns c = (image-refused blocks entryAnswer (c .before .before .before .before .before .before .before .before .before .before .before .before .before .args .image .now) (c .before .before .before .before .before .before .before .before .before .before .before .before .before .args .block) (c .before .before .before .before .before .before .before .before .before .before .before .before .before .args .out .now) (λ y. c .before .if1 .taken (c .before .before .before .before .before .before .load .ensures .number-is ∙ y)) (c .refuse .ensures .0 ∙ c .before .before .before .before .before .before .load .ensures .number-is) (c .refuse .ensures .1), λ y. liveness (c .before .before .before .before .before .before .before .before .before .before .before .before .before .args .image .now) y)
-
-array-share-prefix-words : tie.Need-array-share-prefix-words
-array-share-prefix-words c = let z : refusal (c .before .before .before .before .before .before .before .before .before .before .before .before .args .image .now) ≡ 0 = sym (c .before .before .before .before .before .load .ensures .number-is) ∙ c .if1 .left in
-    let p = c .before .before .before .before .before .load .ensures .accepted z in
-    let g = good (c .before .before .before .before .before .before .before .before .before .before .before .before .args .image .now) z in
-    p .words-fit
-
-slice-aggregate-block-count : tie.Need-slice-aggregate-block-count
-slice-aggregate-block-count c = let z : refusal (c .before .before .before .before .before .before .before .before .before .before .before .before .before .args .image .now) ≡ 0 = sym (c .before .before .before .before .before .before .load .ensures .number-is) ∙ c .before .if1 .left in
-    let p = c .before .before .before .before .before .before .load .ensures .accepted z in
-    let g = good (c .before .before .before .before .before .before .before .before .before .before .before .before .before .args .image .now) z in
-    front-length _ _ (p .words-fit)
-
-block-count-requires : tie.Need-block-count-requires
-block-count-requires c κs = let z : refusal (c .before .before .before .before .before .before .before .before .before .before .before .before .before .args .image .now) ≡ 0 = sym (c .before .before .before .before .before .before .load .ensures .number-is) ∙ c .before .if1 .left in
-    let p = c .before .before .before .before .before .before .load .ensures .accepted z in
-    let g = good (c .before .before .before .before .before .before .before .before .before .before .before .before .before .args .image .now) z in
-    nine-words g p
-
-refuse-requires-2 : tie.Need-refuse-requires-2
-refuse-requires-2 c κs = search needs
-
-returns-2 : tie.Need-returns-2
-returns-2 c = let z : refusal (c .before .before .before .before .before .before .before .before .before .before .before .before .before .before .before .before .args .image .now) ≡ 0 = sym (c .before .before .before .before .before .before .before .before .before .load .ensures .number-is) ∙ c .before .before .before .before .if1 .left in
-    let p = c .before .before .before .before .before .before .before .before .before .load .ensures .accepted z in
-    let g = good (c .before .before .before .before .before .before .before .before .before .before .before .before .before .before .before .before .args .image .now) z in
-    (id-refused blocks entryAnswer (c .before .before .before .before .before .before .before .before .before .before .before .before .before .before .before .before .args .image .now) (c .before .before .before .before .before .before .before .before .before .before .before .before .before .before .before .before .args .block) (c .before .before .before .before .before .before .before .before .before .before .before .before .before .before .before .before .args .out .now) z (omega (arith, c .before .before .block-count .ensures, ap blocks (p .words-are), c .before .if2 .taken)) (c .refuse2 .ensures .0) (c .refuse2 .ensures .1), λ y. liveness (c .before .before .before .before .before .before .before .before .before .before .before .before .before .before .before .before .args .image .now) y)
-
-array-share-prefix-words-2 : tie.Need-array-share-prefix-words-2
-array-share-prefix-words-2 c = let z : refusal (c .before .before .before .before .before .before .before .before .before .before .before .before .before .before .before .args .image .now) ≡ 0 = sym (c .before .before .before .before .before .before .before .before .load .ensures .number-is) ∙ c .before .before .before .if1 .left in
-    let p = c .before .before .before .before .before .before .before .before .load .ensures .accepted z in
-    let g = good (c .before .before .before .before .before .before .before .before .before .before .before .before .before .before .before .args .image .now) z in
-    p .words-fit
-
-slice-aggregate-entry-answer : tie.Need-slice-aggregate-entry-answer
-slice-aggregate-entry-answer c = let z : refusal (c .before .before .before .before .before .before .before .before .before .before .before .before .before .before .before .before .args .image .now) ≡ 0 = sym (c .before .before .before .before .before .before .before .before .before .load .ensures .number-is) ∙ c .before .before .before .before .if1 .left in
-    let p = c .before .before .before .before .before .before .before .before .before .load .ensures .accepted z in
-    let g = good (c .before .before .before .before .before .before .before .before .before .before .before .before .before .before .before .before .args .image .now) z in
-    front-length _ _ (p .words-fit)
-
-slice-aggregate-entry-answer-2 : tie.Need-slice-aggregate-entry-answer-2
-slice-aggregate-entry-answer-2 c = search needs
-
-array-share-prefix-rpo : tie.Need-array-share-prefix-rpo
-array-share-prefix-rpo c = let z : refusal (c .before .before .before .before .before .before .before .before .before .before .before .before .before .before .before .before .before .args .image .now) ≡ 0 = sym (c .before .before .before .before .before .before .before .before .before .before .load .ensures .number-is) ∙ c .before .before .before .before .before .if1 .left in
-    let p = c .before .before .before .before .before .before .before .before .before .before .load .ensures .accepted z in
-    let g = good (c .before .before .before .before .before .before .before .before .before .before .before .before .before .before .before .before .before .args .image .now) z in
-    p .rpo-fit
-
-slice-aggregate-entry-answer-3 : tie.Need-slice-aggregate-entry-answer-3
-slice-aggregate-entry-answer-3 c = let z : refusal (c .before .before .before .before .before .before .before .before .before .before .before .before .before .before .before .before .before .before .args .image .now) ≡ 0 = sym (c .before .before .before .before .before .before .before .before .before .before .before .load .ensures .number-is) ∙ c .before .before .before .before .before .before .if1 .left in
-    let p = c .before .before .before .before .before .before .before .before .before .before .before .load .ensures .accepted z in
-    let g = good (c .before .before .before .before .before .before .before .before .before .before .before .before .before .before .before .before .before .before .args .image .now) z in
-    front-length _ _ (p .rpo-fit)
-
-entry-answer-requires : tie.Need-entry-answer-requires
-entry-answer-requires c κs = let z : refusal (c .before .before .before .before .before .before .before .before .before .before .before .before .before .before .before .before .before .before .before .args .image .now) ≡ 0 = sym (c .before .before .before .before .before .before .before .before .before .before .before .before .load .ensures .number-is) ∙ c .before .before .before .before .before .before .before .if1 .left in
-    let p = c .before .before .before .before .before .before .before .before .before .before .before .before .load .ensures .accepted z in
-    let g = good (c .before .before .before .before .before .before .before .before .before .before .before .before .before .before .before .before .before .before .before .args .image .now) z in
-    (words-good g p, ((seen-blocks g p, p .rpo-is ∙ ap blocksRpo (sym (p .words-are))), omega (arith, c .before .before .before .before .before .block-count .ensures, c .before .before .before .before .if2 .left)))
+ask-requires : tie.Need-ask-requires
+ask-requires c κs = search needs
 
 same-length : tie.Need-same-length
 same-length c = search needs
 
-returns-3 : tie.Need-returns-3
-returns-3 c = let z : refusal (c .before .before .before .before .before .before .before .before .before .before .before .before .before .before .before .before .before .before .before .before .before .before .args .image .now) ≡ 0 = sym (c .before .before .before .before .before .before .before .before .before .before .before .before .before .before .before .load .ensures .number-is) ∙ c .before .before .before .before .before .before .before .before .before .before .if1 .left in
-    let p = c .before .before .before .before .before .before .before .before .before .before .before .before .before .before .before .load .ensures .accepted z in
-    let g = good (c .before .before .before .before .before .before .before .before .before .before .before .before .before .before .before .before .before .before .before .before .before .before .args .image .now) z in
-    (c .before .before .entry-answer .ensures ∙ ap (λ (l : List ℕ). answered (bind (entryAnswer l (c .before .before .before .before .before .before .before .before .before .before .before .before .before .before .before .before .before .before .before .before .before .before .args .block)) bytesOf) (c .before .before .before .before .before .before .before .before .before .before .before .before .before .before .before .before .before .before .before .before .before .before .args .out .now)) (p .words-are) ∙ asked blocks entryAnswer (c .before .before .before .before .before .before .before .before .before .before .before .before .before .before .before .before .before .before .before .before .before .before .args .image .now) (c .before .before .before .before .before .before .before .before .before .before .before .before .before .before .before .before .before .before .before .before .before .before .args .block) (c .before .before .before .before .before .before .before .before .before .before .before .before .before .before .before .before .before .before .before .before .before .before .args .out .now) z (omega (arith, c .before .before .before .before .before .before .before .before .block-count .ensures, ap blocks (p .words-are), c .before .before .before .before .before .before .before .if2 .left)), λ y. liveness (c .before .before .before .before .before .before .before .before .before .before .before .before .before .before .before .before .before .before .before .before .before .before .args .image .now) y)
+returns : tie.Need-returns
+returns c = (c .before .before .ask .ensures, liveness (c .before .before .before .before .before .before .args .image .now))
 
 pub sir-entry-set-spec : {M : Type 1} → statement M
-sir-entry-set-spec =
-    tie.close
-    (tie.spec
-    slice-aggregate-load
-    slice-aggregate-load-2
-    slice-aggregate-load-3
-    slice-aggregate-load-4
-    load-requires
-    refuse-requires
-    returns
-    array-share-prefix-words
-    slice-aggregate-block-count
-    block-count-requires
-    refuse-requires-2
-    returns-2
-    array-share-prefix-words-2
-    slice-aggregate-entry-answer
-    slice-aggregate-entry-answer-2
-    array-share-prefix-rpo
-    slice-aggregate-entry-answer-3
-    entry-answer-requires
-    same-length
-    returns-3)
+sir-entry-set-spec = tie.close (tie.spec ask-requires same-length returns)

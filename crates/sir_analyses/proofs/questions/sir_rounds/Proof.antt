@@ -1,99 +1,17 @@
 -- `sir_rounds` meets its contract.
-use mathlib.Core.Path.{_≡_, refl, sym, ap, _∙_}
-use mathlib.Core.List.{List}
-use Prim.Native.Nat.{ℕ, _<_, _≤_}
-use native.Mathlib.Omega.{arith}
-use lib.ListN.{length, take}
-use Rattle.plank_core.specs.Lists.{bind}
-use Rattle.sir_data.specs.Pages.{payload, bytesOf}
-use Rattle.sir_analyses.specs.Order.{blocksRpo}
-use Rattle.sir_analyses.specs.Answers.{refusal, roundsAnswer, answered}
-use Rattle.sir_analyses.proofs.Proved.{good, liveness}
-use Rattle.sir_analyses.proofs.Loads.{words-good, seen-blocks, front-length}
-use Rattle.sir_analyses.proofs.Outcomes.{image-refused, asked}
+use Rattle.sir_analyses.proofs.Proved.{liveness}
 use borrow.Author.Needs.{needs}
 use Rattle.sir_analyses.proofs.questions.sir_rounds.Statement.{statement}
 use Rattle.sir_analyses.proofs.questions.sir_rounds.Tie as tie
 
-slice-aggregate-load : tie.Need-slice-aggregate-load
-slice-aggregate-load c = search needs
-
-slice-aggregate-load-2 : tie.Need-slice-aggregate-load-2
-slice-aggregate-load-2 c = search needs
-
-slice-aggregate-load-3 : tie.Need-slice-aggregate-load-3
-slice-aggregate-load-3 c = search needs
-
-slice-aggregate-load-4 : tie.Need-slice-aggregate-load-4
-slice-aggregate-load-4 c = search needs
-
-load-requires : tie.Need-load-requires
-load-requires c κs = search needs
-
-refuse-requires : tie.Need-refuse-requires
-refuse-requires c κs = search needs
-
-returns : tie.Need-returns
-returns c = (image-refused (λ w. 1) (λ w i. roundsAnswer w) (c .before .before .before .before .before .before .before .before .before .before .before .before .before .args .image .now) 0 (c .before .before .before .before .before .before .before .before .before .before .before .before .before .args .out .now) (λ y. c .before .if1 .taken (c .before .before .before .before .before .before .load .ensures .number-is ∙ y)) (c .refuse .ensures .0 ∙ c .before .before .before .before .before .before .load .ensures .number-is) (c .refuse .ensures .1), λ y. liveness (c .before .before .before .before .before .before .before .before .before .before .before .before .before .args .image .now) y)
-
-array-share-prefix-words : tie.Need-array-share-prefix-words
-array-share-prefix-words c = let z : refusal (c .before .before .before .before .before .before .before .before .before .before .before .before .args .image .now) ≡ 0 = sym (c .before .before .before .before .before .load .ensures .number-is) ∙ c .if1 .left in
-    let p = c .before .before .before .before .before .load .ensures .accepted z in
-    let g = good (c .before .before .before .before .before .before .before .before .before .before .before .before .args .image .now) z in
-    p .words-fit
-
-slice-aggregate-rounds-answer : tie.Need-slice-aggregate-rounds-answer
-slice-aggregate-rounds-answer c = let z : refusal (c .before .before .before .before .before .before .before .before .before .before .before .before .before .args .image .now) ≡ 0 = sym (c .before .before .before .before .before .before .load .ensures .number-is) ∙ c .before .if1 .left in
-    let p = c .before .before .before .before .before .before .load .ensures .accepted z in
-    let g = good (c .before .before .before .before .before .before .before .before .before .before .before .before .before .args .image .now) z in
-    front-length _ _ (p .words-fit)
-
-slice-aggregate-rounds-answer-2 : tie.Need-slice-aggregate-rounds-answer-2
-slice-aggregate-rounds-answer-2 c = search needs
-
-array-share-prefix-rpo : tie.Need-array-share-prefix-rpo
-array-share-prefix-rpo c = let z : refusal (c .before .before .before .before .before .before .before .before .before .before .before .before .before .before .args .image .now) ≡ 0 = sym (c .before .before .before .before .before .before .before .load .ensures .number-is) ∙ c .before .before .if1 .left in
-    let p = c .before .before .before .before .before .before .before .load .ensures .accepted z in
-    let g = good (c .before .before .before .before .before .before .before .before .before .before .before .before .before .before .args .image .now) z in
-    p .rpo-fit
-
-slice-aggregate-rounds-answer-3 : tie.Need-slice-aggregate-rounds-answer-3
-slice-aggregate-rounds-answer-3 c = let z : refusal (c .before .before .before .before .before .before .before .before .before .before .before .before .before .before .before .args .image .now) ≡ 0 = sym (c .before .before .before .before .before .before .before .before .load .ensures .number-is) ∙ c .before .before .before .if1 .left in
-    let p = c .before .before .before .before .before .before .before .before .load .ensures .accepted z in
-    let g = good (c .before .before .before .before .before .before .before .before .before .before .before .before .before .before .before .args .image .now) z in
-    front-length _ _ (p .rpo-fit)
-
-rounds-answer-requires : tie.Need-rounds-answer-requires
-rounds-answer-requires c κs = let z : refusal (c .before .before .before .before .before .before .before .before .before .before .before .before .before .before .before .before .args .image .now) ≡ 0 = sym (c .before .before .before .before .before .before .before .before .before .load .ensures .number-is) ∙ c .before .before .before .before .if1 .left in
-    let p = c .before .before .before .before .before .before .before .before .before .load .ensures .accepted z in
-    let g = good (c .before .before .before .before .before .before .before .before .before .before .before .before .before .before .before .before .args .image .now) z in
-    (words-good g p, (seen-blocks g p, p .rpo-is ∙ ap blocksRpo (sym (p .words-are))))
+ask-requires : tie.Need-ask-requires
+ask-requires c κs = search needs
 
 same-length : tie.Need-same-length
 same-length c = search needs
 
-returns-2 : tie.Need-returns-2
-returns-2 c = let z : refusal (c .before .before .before .before .before .before .before .before .before .before .before .before .before .before .before .before .before .before .before .args .image .now) ≡ 0 = sym (c .before .before .before .before .before .before .before .before .before .before .before .before .load .ensures .number-is) ∙ c .before .before .before .before .before .before .before .if1 .left in
-    let p = c .before .before .before .before .before .before .before .before .before .before .before .before .load .ensures .accepted z in
-    let g = good (c .before .before .before .before .before .before .before .before .before .before .before .before .before .before .before .before .before .before .before .args .image .now) z in
-    (c .before .before .rounds-answer .ensures ∙ ap (λ (l : List ℕ). answered (bind (roundsAnswer l) bytesOf) (c .before .before .before .before .before .before .before .before .before .before .before .before .before .before .before .before .before .before .before .args .out .now)) (p .words-are) ∙ asked (λ w. 1) (λ w i. roundsAnswer w) (c .before .before .before .before .before .before .before .before .before .before .before .before .before .before .before .before .before .before .before .args .image .now) 0 (c .before .before .before .before .before .before .before .before .before .before .before .before .before .before .before .before .before .before .before .args .out .now) z (omega arith), λ y. liveness (c .before .before .before .before .before .before .before .before .before .before .before .before .before .before .before .before .before .before .before .args .image .now) y)
+returns : tie.Need-returns
+returns c = (c .before .before .ask .ensures, liveness (c .before .before .before .before .before .before .args .image .now))
 
 pub sir-rounds-spec : {M : Type 1} → statement M
-sir-rounds-spec =
-    tie.close
-    (tie.spec
-    slice-aggregate-load
-    slice-aggregate-load-2
-    slice-aggregate-load-3
-    slice-aggregate-load-4
-    load-requires
-    refuse-requires
-    returns
-    array-share-prefix-words
-    slice-aggregate-rounds-answer
-    slice-aggregate-rounds-answer-2
-    array-share-prefix-rpo
-    slice-aggregate-rounds-answer-3
-    rounds-answer-requires
-    same-length
-    returns-2)
+sir-rounds-spec = tie.close (tie.spec ask-requires same-length returns)

@@ -7,8 +7,8 @@ use Rattle.sir_analyses.proofs.Writing.{puts-as}
 use Rattle.sir_analyses.proofs.UseWords.{uses-are, uses-most}
 use Rattle.sir_analyses.proofs.Outcomes.{too-short, written, counted}
 use borrow.Author.Needs.{needs}
-use Rattle.sir_analyses.proofs.questions.uses_answer.Statement.{statement}
-use Rattle.sir_analyses.proofs.questions.uses_answer.Tie as tie
+use Rattle.sir_analyses.proofs.order_answers.uses_answer.Statement.{statement}
+use Rattle.sir_analyses.proofs.order_answers.uses_answer.Tie as tie
 
 slice-aggregate-input-counts : tie.Need-slice-aggregate-input-counts
 slice-aggregate-input-counts c = search needs

@@ -6,8 +6,8 @@ use Rattle.sir_analyses.specs.Order.{predecessors}
 use Rattle.sir_analyses.proofs.Edges.{predecessors-most}
 use Rattle.sir_analyses.proofs.Outcomes.{too-short, written, counted}
 use borrow.Author.Needs.{needs}
-use Rattle.sir_analyses.proofs.questions.predecessors_answer.Statement.{statement}
-use Rattle.sir_analyses.proofs.questions.predecessors_answer.Tie as tie
+use Rattle.sir_analyses.proofs.order_answers.predecessors_answer.Statement.{statement}
+use Rattle.sir_analyses.proofs.order_answers.predecessors_answer.Tie as tie
 
 put-predecessors-requires : tie.Need-put-predecessors-requires
 put-predecessors-requires c κs = (c .before .before .before .before .pre .0, (c .before .before .before .before .pre .1, (omega arith, omega (arith, predecessors-most (c .before .before .before .before .args .words .now) (c .before .before .before .before .pre .0) (c .before .before .before .before .args .block)))))

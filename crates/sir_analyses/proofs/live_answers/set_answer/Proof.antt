@@ -11,8 +11,8 @@ use Rattle.sir_analyses.specs.Answers.{answered}
 use Rattle.sir_analyses.proofs.SetAnswers.{front-members}
 use Rattle.sir_analyses.proofs.Loads.{front-length}
 use borrow.Author.Needs.{needs}
-use Rattle.sir_analyses.proofs.questions.set_answer.Statement.{statement}
-use Rattle.sir_analyses.proofs.questions.set_answer.Tie as tie
+use Rattle.sir_analyses.proofs.live_answers.set_answer.Statement.{statement}
+use Rattle.sir_analyses.proofs.live_answers.set_answer.Tie as tie
 
 slice-aggregate-list : tie.Need-slice-aggregate-list
 slice-aggregate-list c = search needs

@@ -1,0 +1,46 @@
+-- `order_answer` meets its contract.
+use mathlib.Core.Path.{_≡_, refl, sym, ap, _∙_}
+use mathlib.Core.List.{List}
+use Prim.Native.Nat.{ℕ}
+use native.Mathlib.Omega.{arith}
+use lib.ListN.{length}
+use Rattle.plank_core.specs.Lists.{bind}
+use Rattle.sir_data.specs.Pages.{bytesOf}
+use Rattle.sir_analyses.specs.Answers.{answered}
+use Rattle.sir_analyses.proofs.Loads.{front-length}
+use borrow.Author.Needs.{needs}
+use Rattle.sir_analyses.proofs.order_answers.order_answer.Statement.{statement}
+use Rattle.sir_analyses.proofs.order_answers.order_answer.Tie as tie
+
+slice-aggregate-order-words : tie.Need-slice-aggregate-order-words
+slice-aggregate-order-words c = search needs
+
+order-words-requires : tie.Need-order-words-requires
+order-words-requires c κs = search needs
+
+array-share-prefix-order : tie.Need-array-share-prefix-order
+array-share-prefix-order c = search needs
+
+slice-aggregate-words-answer : tie.Need-slice-aggregate-words-answer
+slice-aggregate-words-answer c = front-length _ _ (omega (arith, c .before .before .before .before .before .before .pre, c .before .before .order-words .ensures .next, c .before .before .order-words .ensures .long))
+
+words-answer-requires : tie.Need-words-answer-requires
+words-answer-requires c κs = omega (arith, c .before .before .before .before .before .before .before .pre, ap length (c .before .before .before .order-words .ensures .list))
+
+same-length : tie.Need-same-length
+same-length c = search needs
+
+returns : tie.Need-returns
+returns c = c .before .before .words-answer .ensures ∙ ap (λ (l : List ℕ). answered (bind l bytesOf) (c .before .before .before .before .before .before .before .before .before .before .args .out .now)) (c .before .before .before .before .before .before .order-words .ensures .list)
+
+pub order-answer-spec : {M : Type 1} → statement M
+order-answer-spec =
+    tie.close
+    (tie.spec
+    slice-aggregate-order-words
+    order-words-requires
+    array-share-prefix-order
+    slice-aggregate-words-answer
+    words-answer-requires
+    same-length
+    returns)

@@ -1,0 +1,57 @@
+-- What the questions of the code's enums are about, and the words that answer them. Assumes nothing.
+use mathlib.Core.List.{List}
+use Prim.Native.Nat.{ℕ}
+use lib.ListN.{length}
+use Rattle.sir_data.specs.Records.{blocks, locals}
+use Rattle.sir_analyses.specs.Allocation.{allocs}
+use Rattle.sir_analyses.specs.Answers.{orderAnswer, predecessorsAnswer, usesAnswer, entryAnswer, exitAnswer, roundsAnswer, intervalsAnswer, allocationAnswer, ownerAnswer}
+use Rattle.sir_analyses.specs.declared.live_answers.LiveQuestion.{LiveQuestion}
+use Rattle.sir_analyses.specs.declared.questions.BlockQuestion.{BlockQuestion}
+use Rattle.sir_analyses.specs.declared.questions.LocalQuestion.{LocalQuestion}
+use Rattle.sir_analyses.specs.declared.questions.Question.{Question}
+
+-- how many ids there are to ask about
+abbrev pub liveCount : LiveQuestion → List ℕ → ℕ
+liveCount LiveQuestion.EntrySet = blocks
+liveCount LiveQuestion.ExitSet = blocks
+liveCount LiveQuestion.Intervals = locals
+liveCount LiveQuestion.Rounds = λ w. 1
+
+-- order and rounds have no id, and count as asked about the only one
+abbrev pub idCount : Question → List ℕ → ℕ
+idCount Question.Order = λ w. 1
+idCount Question.Rounds = λ w. 1
+idCount (Question.OfBlock q b) = blocks
+idCount (Question.OfLocal q v) = locals
+idCount (Question.Allocation a) = λ w. length (allocs w)
+
+abbrev pub idOf : Question → ℕ
+idOf Question.Order = 0
+idOf Question.Rounds = 0
+idOf (Question.OfBlock q b) = b .0
+idOf (Question.OfLocal q v) = v .0
+idOf (Question.Allocation a) = a .0
+
+-- the words of the answer about an id
+abbrev pub liveWords : LiveQuestion → List ℕ → ℕ → List ℕ
+liveWords LiveQuestion.EntrySet = entryAnswer
+liveWords LiveQuestion.ExitSet = exitAnswer
+liveWords LiveQuestion.Intervals = intervalsAnswer
+liveWords LiveQuestion.Rounds = λ w i. roundsAnswer w
+
+abbrev pub blockWords : BlockQuestion → List ℕ → ℕ → List ℕ
+blockWords BlockQuestion.Predecessors = predecessorsAnswer
+blockWords BlockQuestion.EntrySet = entryAnswer
+blockWords BlockQuestion.ExitSet = exitAnswer
+
+abbrev pub localWords : LocalQuestion → List ℕ → ℕ → List ℕ
+localWords LocalQuestion.Uses = usesAnswer
+localWords LocalQuestion.Intervals = intervalsAnswer
+localWords LocalQuestion.Owner = ownerAnswer
+
+abbrev pub answerWords : Question → List ℕ → ℕ → List ℕ
+answerWords Question.Order = λ w i. orderAnswer w
+answerWords Question.Rounds = λ w i. roundsAnswer w
+answerWords (Question.OfBlock q b) = blockWords q
+answerWords (Question.OfLocal q v) = localWords q
+answerWords (Question.Allocation a) = allocationAnswer

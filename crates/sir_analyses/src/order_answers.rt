@@ -1,0 +1,66 @@
+// The answers that need no liveness: the order, the predecessors of a block, the uses of a local.
+use crate::answers::Answer;
+use crate::answers::refuse;
+use crate::answers::words_answer;
+use crate::def_use::input_counts;
+use crate::def_use::put_uses;
+use crate::predecessors::put_predecessors;
+use crate::reverse_post_order::order_words;
+use plank_core::index::BlockId;
+ghost use mathlib.Core.Path.{_≡_};
+ghost use Prim.Native.Nat.{_≤_};
+ghost use lib.ListN.{length};
+ghost use Rattle.plank_core.specs.Lists.{bind};
+ghost use Rattle.sir_data.specs.Pages.{bytesOf};
+ghost use Rattle.sir_data.specs.WellFormed.{WellFormed};
+ghost use Rattle.sir_analyses.specs.Order.{blocksRpo};
+ghost use Rattle.sir_analyses.specs.Answers.{predecessorsAnswer, usesAnswer, made, answered};
+ghost use Rattle.sir_analyses.specs.Visiting.{SeenBlocks, orderIn};
+
+// The order, from the keys of the visit.
+pub fn order_answer(post: &[u32], out: &mut [u8]) -> Answer
+    requires { ⌜ length (orderIn (now post)) ≤ 384 ⌝ }
+    ensures { λ r. ⌜ made (r .number) (r .length) (now (out .exit)) ≡ answered (bind (orderIn (now (post .entry))) bytesOf) (now (out .entry)) ⌝ }
+{
+    let mut order = [0u32; 384];
+    let n = order_words(post, &mut order);
+    words_answer(&order[..n], out)
+}
+
+// Predecessors: counts, then writes.
+pub fn predecessors_answer(words: &[u32], seen: &[u64], block: u32, out: &mut [u8]) -> Answer
+    requires { ⌜ WellFormed (now words) ⌝ }
+    requires { ⌜ SeenBlocks (now words) (now seen) ⌝ }
+    ensures { λ r. ⌜ made (r .number) (r .length) (now (out .exit)) ≡ answered (bind (predecessorsAnswer (now (words .entry)) block) bytesOf) (now (out .entry)) ⌝ }
+{
+    let n = put_predecessors(words, seen, BlockId(block), out, 0);
+    if out.len() < 4 * n {
+        return refuse(14);
+    }
+    let room = out.len();
+    put_predecessors(words, seen, BlockId(block), out, room);
+    Answer {
+        number: 0,
+        length: (4 * n) as u64,
+    }
+}
+
+// Uses: counts, then writes.
+pub fn uses_answer(words: &[u32], rpo: &[u32], local: u32, out: &mut [u8]) -> Answer
+    requires { ⌜ WellFormed (now words) ⌝ }
+    requires { ⌜ now rpo ≡ blocksRpo (now words) ⌝ }
+    ensures { λ r. ⌜ made (r .number) (r .length) (now (out .exit)) ≡ answered (bind (usesAnswer (now (words .entry)) local) bytesOf) (now (out .entry)) ⌝ }
+{
+    let mut counts = [0u32; 1024];
+    input_counts(words, local, &mut counts);
+    let n = put_uses(words, rpo, &counts, local, out, 0);
+    if out.len() < 4 * n {
+        return refuse(14);
+    }
+    let room = out.len();
+    put_uses(words, rpo, &counts, local, out, room);
+    Answer {
+        number: 0,
+        length: (4 * n) as u64,
+    }
+}
