@@ -8,7 +8,7 @@ use lib.ListN.{length}
 use lib.Dec.{eqb}
 use borrow.Author.Tests.{eqb-true}
 use Rattle.plank_core.specs.Lists.{_∈_}
-use Rattle.plank_core.specs.laws.Lists.{and-true-left, and-true-right, or-cases, refuted}
+use Rattle.plank_core.specs.laws.Lists.{and-true-left, and-true-right, or-cases}
 use Rattle.sir_data.specs.Records.{blocks, operations, locals, outputs, ops, control, successors, returned, code, ins, outs}
 use Rattle.sir_data.specs.Codes.{arityOk, isStaticAlloc, isDynamicAlloc, isAlloc}
 use Rattle.sir_data.specs.WellFormed.{WellFormed}
@@ -54,7 +54,6 @@ module _ (w : List ℕ) (good : WellFormed w) where
   pub listed-op : {b o : ℕ} → b ∈ blocksRpo w → o ∈ ops w b → o < operations w
   listed-op {b} {o} m n = good .in-range .op b o (blocks-below w good b m) n
 
--- a block that has a successor does not return
-pub follows-on : (w : List ℕ) (b s : ℕ) → s ∈ successors w b → eqb (control w b) 1 ≡ false
-follows-on w b s m =
-    refuted (eqb (control w b) 1) (λ e. let c : control w b ≡ 1 = eqb-true (control w b) 1 e in List·Memᴰ·not-nil {a = s} (rw c at m))
+-- a block that returns has no successors
+pub returns-last : (w : List ℕ) (b : ℕ) → eqb (control w b) 1 ≡ true → successors w b ≡ []
+returns-last w b e = let c : control w b ≡ 1 = eqb-true (control w b) 1 e in rw c

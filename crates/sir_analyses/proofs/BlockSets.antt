@@ -15,8 +15,8 @@ use Rattle.plank_core.specs.laws.DenseIndexSet.{contains-cleared, contains-unio
 use Rattle.sir_data.specs.Records.{blocks, operations, locals, control, outputs, ops, successors, condition, returned, ins, outs}
 use Rattle.sir_data.specs.WellFormed.{WellFormed}
 use Rattle.sir_analyses.specs.Order.{isVisited, predecessors}
-use Rattle.sir_analyses.specs.Liveness.{has, readFirst, useSet, defSet}
-use Rattle.sir_analyses.specs.Tables.{Adds, endReads, OperandRows, RunSets}
+use Rattle.sir_analyses.specs.Liveness.{has, endReads, readFirst, useSet, defSet}
+use Rattle.sir_analyses.specs.Tables.{Adds, OperandRows, RunSets}
 use Rattle.sir_analyses.proofs.Tables.{cleared-long, adds-as, adds-then, adds-union}
 use Rattle.sir_analyses.proofs.GenKill.{given, read-behind, beyond, use-length, def-length, has-use, has-def}
 use Rattle.sir_analyses.proofs.OrderProof.{blocks-seen, blocks-below, predecessors-in, predecessors-out}

@@ -4,14 +4,14 @@ use mathlib.Core.Logic.{⊎-elim}
 use mathlib.Core.Bool.{Bool, true, false, not, _&&_, _||_, or-true, or-false, and-true, and-false}
 use Prim.Native.Nat.{ℕ, zero, suc, _<_, _≤_}
 use native.Mathlib.Omega.{arith}
-use mathlib.Core.List.{List, [], _∷_, _++_, foldr}
+use mathlib.Core.List.{List, [], _∷_, foldr}
 use lib.ListN.{length, replicate, length-replicate, List·getD-eq-default}
 use lib.Seq.{ext-getD}
 use Rattle.plank_core.specs.Lists.{mem, any}
 use Rattle.plank_core.specs.laws.Lists.{or-true-left, or-true-right, or-cases, both-true, and-true-left, and-true-right, split}
 use Rattle.plank_core.specs.laws.Loops.{length-map-upto, getD-map-upto}
-use Rattle.sir_data.specs.Records.{locals, ops, condition, returned, ins, outs}
-use Rattle.sir_analyses.specs.Liveness.{Set, has, addAll, removeAll, readFirst, useSet, defSet, entryFrom}
+use Rattle.sir_data.specs.Records.{locals, ops, ins, outs}
+use Rattle.sir_analyses.specs.Liveness.{Set, has, addAll, removeAll, endReads, readFirst, useSet, defSet, entryFrom}
 use Rattle.sir_analyses.proofs.SetLaws.{has-less, none-in, length-addAll, length-removeAll, has-addAll, has-removeAll, Within}
 
 module _ (w : List ℕ) where
@@ -86,12 +86,12 @@ pub beyond : (s : Set) (v : ℕ) → length s ≤ v → has s v ≡ false
 beyond s v h = List·getD-eq-default s false {n = v} h
 
 pub entry-length : (w : List ℕ) (b : ℕ) (x : Set) → length (entryFrom w b x) ≡ length x
-entry-length w b x = length-through w (condition w b ++ returned w b) (ops w b) x
+entry-length w b x = length-through w (endReads w b) (ops w b) x
 
 -- the entry set grows with the exit set
 pub entry-grows : (w : List ℕ) (b : ℕ) (x y : Set) → length x ≡ length y → Within x y → Within (entryFrom w b x) (entryFrom w b y)
 entry-grows w b x y e f v t =
-    let c = condition w b ++ returned w b in
+    let c = endReads w b in
     let h : v < length x = rw entry-length at (has-less (entryFrom w b x) v t) in
     let r : Bool = readFirst w c (ops w b) v in
     let d : Bool = given w (ops w b) v in
@@ -102,17 +102,14 @@ entry-grows w b x y e f v t =
     (or-cases r (has x v && not d) (sym (through-has w c (ops w b) x v h) ∙ t))
 
 module _ (w : List ℕ) (b : ℕ) where
-  abbrev end : List ℕ
-  end = condition w b ++ returned w b
-
   pub use-length : length (useSet w b) ≡ locals w
-  use-length = length-map-upto (readFirst w end (ops w b)) (locals w)
+  use-length = length-map-upto (readFirst w (endReads w b) (ops w b)) (locals w)
 
   pub def-length : length (defSet w b) ≡ locals w
   def-length = length-map-upto (given w (ops w b)) (locals w)
 
-  pub has-use : (v : ℕ) → v < locals w → has (useSet w b) v ≡ readFirst w end (ops w b) v
-  has-use v h = getD-map-upto (readFirst w end (ops w b)) (locals w) v false h
+  pub has-use : (v : ℕ) → v < locals w → has (useSet w b) v ≡ readFirst w (endReads w b) (ops w b) v
+  has-use v h = getD-map-upto (readFirst w (endReads w b) (ops w b)) (locals w) v false h
 
   pub has-def : (v : ℕ) → v < locals w → has (defSet w b) v ≡ given w (ops w b) v
   has-def v h = getD-map-upto (given w (ops w b)) (locals w) v false h
@@ -120,7 +117,7 @@ module _ (w : List ℕ) (b : ℕ) where
   pub gen-kill : (x : Set) → length x ≡ locals w → (v : ℕ) → has (entryFrom w b x) v ≡ (has (useSet w b) v || (has x v && not (has (defSet w b) v)))
   gen-kill x e v =
       ⊎-elim
-      (λ (h : v < locals w). rw (has-use v h, has-def v h) (through-has w end (ops w b) x v (omega arith)))
+      (λ (h : v < locals w). rw (has-use v h, has-def v h) (through-has w (endReads w b) (ops w b) x v (omega arith)))
       (λ (h : locals w ≤ v).
       rw (beyond (useSet w b) v (rw use-length h), beyond x v (omega arith)) (beyond (entryFrom w b x) v (rw entry-length (omega arith))))
       (split v (locals w))

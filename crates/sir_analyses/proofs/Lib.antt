@@ -29,11 +29,11 @@ pub mod PointerLinks
 pub mod Merging
 pub mod Scans
 pub mod Lifetime
-pub mod Source
 pub mod SourceSteps
 pub mod SourceMarks
 pub mod SourceOwners
 pub mod Propagation
+pub mod SourceProof
 pub mod Linking
 pub mod Following
 pub mod Discovery

@@ -4,14 +4,14 @@ use mathlib.Core.Logic.{_↔_, _⊎_, inl, inr}
 use mathlib.Core.Bool.{Bool, true, false, cond}
 use Prim.Native.Nat.{ℕ, suc, _+_, _≤_, _<_}
 use native.Mathlib.Omega.{arith}
-use mathlib.Core.List.{List, [], _∷_, _++_, map, List·Memᴰ, List·Memᴰ·head, List·Memᴰ·tail, List·Memᴰ·not-nil, Memᴰ·append-left, List·Memᴰ·append-cases, Memᴰ·map, Memᴰ·cast}
+use mathlib.Core.List.{List, [], _∷_, map, List·Memᴰ, List·Memᴰ·head, List·Memᴰ·tail, List·Memᴰ·not-nil, Memᴰ·append-left, List·Memᴰ·append-cases, Memᴰ·map, Memᴰ·cast}
 use lib.ListN.{length, getD, replicate, length-replicate, List·getD-eq-default}
 use Rattle.plank_core.specs.Lists.{bind, _∈_, _∉_}
 use Rattle.plank_core.specs.laws.Lists.{bind-mem, bind-out, elem-getD, elem-mem, elem-less}
 use Rattle.sir_data.specs.Records.{blocks, locals, inputs, outputs, ops, successors, condition, returned, ins, outs}
 use Rattle.sir_data.specs.WellFormed.{WellFormed}
 use Rattle.sir_analyses.specs.Order.{blocksRpo}
-use Rattle.sir_analyses.specs.Liveness.{Set, has, removeAll, members, entryFrom, renamed, indexOf, exitSet, exitFrom, blockEnd, Interval, blockIntervals, intervals}
+use Rattle.sir_analyses.specs.Liveness.{Set, has, removeAll, members, endReads, entryFrom, renamed, indexOf, exitSet, exitFrom, blockEnd, Interval, blockIntervals, intervals}
 use Rattle.sir_analyses.specs.Allocation.{allocs, noAlloc, allocAt, base, reach, marked, sort, merge, merged}
 use Rattle.sir_analyses.specs.Claims.{Reached, itself, linked, met}
 use Rattle.sir_analyses.specs.Walk.{Paired, Event, op, edge, steps, Executed, now, before, Walk, enter, step, follow, Gives, Holds, given, derived, kept, moved, stayed, Lies, here, there, Lifetimes}
@@ -53,11 +53,11 @@ module _ (w : List ℕ) (good : WellFormed w) where
   exit-in {b} {s} {u} mb ms m h = ap (λ (x : Set). has x u) (exit-is mb) ∙ gather-in (entering b) (replicate (locals w) false) ms m (rw length-replicate h)
 
   live-length : {b : ℕ} (os : List ℕ) → b ∈ blocksRpo w → length (liveIn w b os) ≡ locals w
-  live-length {b} os mb = length-through w (condition w b ++ returned w b) os (exitSet w b) ∙ exit-size w good b (below mb)
+  live-length {b} os mb = length-through w (endReads w b) os (exitSet w b) ∙ exit-size w good b (below mb)
 
   -- what is live is in the set
   live-has : {b v : ℕ} {os : List ℕ} → b ∈ blocksRpo w → Suffix (ops w b) os → Live w b os v → has (liveIn w b os) v ≡ true
-  live-has {b} {v} mb s (leaves t) = add-keeps (exitSet w b) (condition w b ++ returned w b) v t
+  live-has {b} {v} mb s (leaves t) = add-keeps (exitSet w b) (endReads w b) v t
   live-has {b} {v} mb s (tests m) = add-in (exitSet w b) m (rw (exit-size w good b (below mb)) (go (List·Memᴰ·append-cases (condition w b) m)))
     where
       go : (v ∈ condition w b) ⊎ (v ∈ returned w b) → v < locals w

@@ -87,8 +87,8 @@ module _ (w : List ℕ) (good : WellFormed w) where
       least = λ y s b v m t. live-ended .held .least y (solution-closed y s) b (blocks-visited w good b .1 m) v t;
     };
     entries = entry-is;
-    use-def = λ b v m.
-        ap (λ (s : Set). has s v) (entry-is b m) ∙ gen-kill w b (exitSet w b) (exit-size b (blocks-below w good b (blocks-visited w good b .1 m))) v;
+    sized = λ b m. exit-size b (blocks-below w good b (blocks-visited w good b .1 m));
+    use-def = λ b x v e. gen-kill w b x e v;
     unvisited-entry = λ b n. ap (λ (t : Bool). members (cond t (entryFrom w b (exitSet w b)) [])) (not-visited w b n);
     unvisited-exit = λ b n. no-members (members (exitSet w b)) (λ v m. n (exit-visited b v (members-out (exitSet w b) m)));
     passes = λ b. ap (λ (e : List Set). rowOf e b) (sym at-end);

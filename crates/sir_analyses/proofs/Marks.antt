@@ -10,7 +10,7 @@ use lib.ListN.{length, getD, replicate, getElem?, length-replicate}
 use lib.Dec.{eqb}
 use borrow.Author.Tests.{eqb-false, ne-eqb, not-true}
 use Rattle.plank_core.specs.Lists.{bind, keep, upto, _∈_}
-use Rattle.sir_data.specs.Records.{locals, control, inputs, outputs, ops, successors, condition, code, ins, outs}
+use Rattle.sir_data.specs.Records.{locals, inputs, outputs, ops, successors, condition, code, ins, outs}
 use Rattle.sir_data.specs.Codes.{isAlloc, derives}
 use Rattle.sir_data.specs.WellFormed.{WellFormed}
 use Rattle.sir_analyses.specs.Order.{blocksRpo}
@@ -21,7 +21,7 @@ use Rattle.plank_core.specs.laws.Lists.{and-true-left, and-true-right, both-tru
 use Rattle.sir_analyses.proofs.SetLaws.{has-less, none-in, set-ext, members-in, members-out, length-addAll, add-keeps, add-in, add-out, card, card-full, add-card}
 use Rattle.sir_analyses.proofs.Positions.{positions-in, positions-out}
 use Rattle.sir_analyses.proofs.OrderProof.{blocks-below, next-listed}
-use Rattle.sir_analyses.proofs.Accepted.{one-out, listed-op, follows-on}
+use Rattle.sir_analyses.proofs.Accepted.{one-out, listed-op}
 
 abbrev pub opUse : ℕ → ℕ → Use
 opUse b o = record { block = b; kind = 0; place = o }
@@ -161,21 +161,20 @@ module _ (w : List ℕ) where
       byDerive mb mo mi true e m = derive mb mo e mi m
       byDerive mb mo mi false e m = absurd (List·Memᴰ·not-nil m)
 
-      byPass : {b : ℕ} (k : ℕ) → b ∈ blocksRpo w → getElem? (outputs w b) k ≡ some u → (t : Bool) → v ∈ cond t (map (λ s. getD (inputs w s) k 0) (successors w b)) [] → Link u v
-      byPass {b} k mb e true m = let q = Memᴰ·of-map (λ (s : ℕ). getD (inputs w s) k 0) (successors w b) m in pass k mb (q .1) e (sym (q .2))
-      byPass k mb e false m = absurd (List·Memᴰ·not-nil m)
+      byPass : {b : ℕ} (k : ℕ) → b ∈ blocksRpo w → getElem? (outputs w b) k ≡ some u → v ∈ map (λ s. getD (inputs w s) k 0) (successors w b) → Link u v
+      byPass {b} k mb e m = let q = Memᴰ·of-map (λ (s : ℕ). getD (inputs w s) k 0) (successors w b) m in pass k mb (q .1) e (sym (q .2))
 
       go : Used u x → Link u v
       go (byOp {b} {o} mb mo mi e) = byDerive mb mo mi (derives (code w o)) refl (rw e at mv)
       go (byCondition mb mi e) = absurd (List·Memᴰ·not-nil {a = v} (rw e at mv))
-      go (byOutput {b} k mb h e) = byPass k mb h (not (eqb (control w b) 1)) (rw e at mv)
+      go (byOutput {b} k mb h e) = byPass k mb h (rw e at mv)
 
   pub link-carried : {u v : ℕ} → Link u v → (x : Use) × List·Memᴰ x (uses w u) × (v ∈ carried w x)
   link-carried {u} {v} (derive {b} {o} mb mo d mi m) =
       (opUse b o, used-by-op mb mo mi, rw d m)
   link-carried {u} {v} (pass {b} {s} k mb ms e d) =
       let m : v ∈ map (λ s. getD (inputs w s) k 0) (successors w b) = Memᴰ·cast d (Memᴰ·map (λ (s : ℕ). getD (inputs w s) k 0) ms) in
-      (outUse b k, used-as-output k mb e, rw (follows-on w b s ms) m)
+      (outUse b k, used-as-output k mb e, m)
 
   pub next-link : {u v : ℕ} → v ∈ next w u → Link u v
   next-link {u} m = let r = bind-out (carried w) (uses w u) m in carried-link (r .1) (r .2)

@@ -18,10 +18,10 @@ use Rattle.plank_core.specs.laws.DenseIndexSet.{contains-row, contains-cleared,
 use Rattle.sir_data.specs.Records.{blocks, operations, locals, ops, ins, outs}
 use Rattle.sir_data.specs.WellFormed.{WellFormed}
 use Rattle.sir_analyses.specs.Order.{isVisited}
-use Rattle.sir_analyses.specs.Liveness.{Set, has, removeAll, settled, exitSet, Scan}
+use Rattle.sir_analyses.specs.Liveness.{Set, has, removeAll, endReads, settled, exitSet, Scan}
 use Rattle.sir_analyses.specs.Answers.{intervalWords}
 use Rattle.sir_analyses.specs.Writing.{Puts}
-use Rattle.sir_analyses.specs.Tables.{Same, SameRows, OperandRows, EndRows, endReads}
+use Rattle.sir_analyses.specs.Tables.{Same, SameRows, OperandRows, EndRows}
 use Rattle.sir_analyses.specs.Scanning.{closing, endOpen}
 use Rattle.sir_analyses.specs.Sweep.{meet, nonempty, liveBefore, shut, note, Sweep, sweepEnd, sweepOp, sweepBlock, sweepFrom}
 use Rattle.sir_analyses.proofs.Writing.{Putting, putting-none, putting-as, putting-more, putting-all, puts-as, puts-length}

@@ -113,7 +113,7 @@ module _ {w : List ℕ} (good : WellFormed w) where
         go : (x : Bool) → grew (blocks w) t t′ ≡ x → sameRows e′ e ≡ not x
         go false g = ap (λ (x : List Set). sameRows x e) (shown-same (grew-not (blocks w) t t′ g more)) ∙ rows-self e
         go true g = refuted (sameRows e′ e) (λ y.
-            none (grew (blocks w) t t′) g (same-grew (blocks w) t t′ (same-shown (same-rows (locals w) e e′ (s .tall ∙ sym (s′ .tall)) (s .wide) (s′ .wide) y))))
+            none (grew (blocks w) t t′) g (same-grew (blocks w) t t′ (same-shown (same-rows e e′ y))))
 
     pub shown-under : More (blocks w) t t′ → Under e e′
     shown-under more b v y =
@@ -191,5 +191,5 @@ module _ {w : List ℕ} (good : WellFormed w) where
       settling-ends y =
           let n : sameRows (pass w (g .sets)) (g .sets) ≡ true = test ∙ ap not y in
           let e : settled w ≡ (suc k, g .sets) = sym (g .rest) ∙ one-pass ∙ rw n in
-          let same : pass w (g .sets) ≡ g .sets = same-rows (locals w) (g .sets) (pass w (g .sets)) (g .shown .tall ∙ sym (next .tall)) (g .shown .wide) (next .wide) n in
+          let same : pass w (g .sets) ≡ g .sets = same-rows (g .sets) (pass w (g .sets)) n in
           (add-one k ∙ sym (ap (λ r. r .0) e), subst (λ (x : List Set). SameRows exits′ x (blocks w)) (same ∙ sym (ap (λ r. r .1) e)) (next .rows))

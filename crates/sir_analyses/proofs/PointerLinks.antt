@@ -21,9 +21,9 @@ use Rattle.sir_data.specs.Codes.{derives, escaping}
 use Rattle.sir_data.specs.WellFormed.{WellFormed}
 use Rattle.sir_analyses.specs.Order.{blocksRpo}
 use Rattle.sir_analyses.specs.Liveness.{Use, uses, positions}
-use Rattle.sir_analyses.specs.Allocation.{next, escapes, isReturned}
+use Rattle.sir_analyses.specs.Allocation.{next, escapesBy, escapesAt, returnedAt, escapes, isReturned}
 use Rattle.sir_analyses.specs.Tables.{Adds}
-use Rattle.sir_analyses.specs.Pointers.{isMet, derivesBy, escapesBy, passesBy, PointerRows}
+use Rattle.sir_analyses.specs.Pointers.{isMet, derivesBy, passesBy, PointerRows}
 use Rattle.sir_analyses.proofs.Tables.{adds-as, adds-then, cleared-long, cleared-row}
 use Rattle.sir_analyses.proofs.BlockSets.{small}
 use Rattle.sir_analyses.proofs.Positions.{positions-in, positions-out}
@@ -175,10 +175,10 @@ module _ (w : List ℕ) where
       let q = any-out (λ b. mem v (returned w b)) (blocksRpo w) t in
       let r = returned-out v (q .0) (mem-in v (returned w (q .0)) (q .2)) in
       let k = mem-elem (r .1) in
-      any-mem (λ (x : Use). eqb (x .kind) 2 && eqb (control w (x .block)) 1) (used-as-output w (k .0) (q .1) (k .1)) (r .0))
-      (λ t. let q = any-out (λ (x : Use). eqb (x .kind) 2 && eqb (control w (x .block)) 1) (uses w v) t in by (q .0) (used w v (q .1)) (q .2))
+      any-mem (returnedAt w) (used-as-output w (k .0) (q .1) (k .1)) (r .0))
+      (λ t. let q = any-out (returnedAt w) (uses w v) t in by (q .0) (used w v (q .1)) (q .2))
     where
-      by : (x : Use) → Used w v x → (eqb (x .kind) 2 && eqb (control w (x .block)) 1) ≡ true → any (λ b. mem v (returned w b)) (blocksRpo w) ≡ true
+      by : (x : Use) → Used w v x → returnedAt w x ≡ true → any (λ b. mem v (returned w b)) (blocksRpo w) ≡ true
       by x (byOp mb mo mi e) t = none false (rw e at t) refl
       by x (byCondition mb mi e) t = none false (rw e at t) refl
       by x (byOutput {b} k mb h e) t =
@@ -218,10 +218,10 @@ module _ (w : List ℕ) where
         let s = and-true-right (isMet w o) (escapesBy w o v) (q .2) in
         let p = any-out (escaping (code w o)) (positions v (ins w o) 0) s in
         let r = positions-out v (ins w o) 0 (p .1) in
-        any-mem (λ (x : Use). eqb (x .kind) 0 && escapesBy w (x .place) v) (used-by-op w (m .1) (m .2) (elem-mem (ins w o) (r .0) v (r .2))) s)
-        (λ t. let q = any-out (λ (x : Use). eqb (x .kind) 0 && escapesBy w (x .place) v) (uses w v) t in by (q .0) (used w v (q .1)) (q .2))
+        any-mem (escapesAt w v) (used-by-op w (m .1) (m .2) (elem-mem (ins w o) (r .0) v (r .2))) s)
+        (λ t. let q = any-out (escapesAt w v) (uses w v) t in by (q .0) (used w v (q .1)) (q .2))
       where
-        by : (x : Use) → Used w v x → (eqb (x .kind) 0 && escapesBy w (x .place) v) ≡ true → any (λ o. isMet w o && escapesBy w o v) (upto (operations w)) ≡ true
+        by : (x : Use) → Used w v x → escapesAt w v x ≡ true → any (λ o. isMet w o && escapesBy w o v) (upto (operations w)) ≡ true
         by x (byOp {b} {o} mb mo mi e) t =
             any-mem (λ o. isMet w o && escapesBy w o v) (upto-mem o (operations w) (listed-op w good mb mo)) (both-true (isMet w o) (escapesBy w o v) (in-met mb mo) (rw e at t))
         by x (byCondition mb mi e) t = none false (rw e at t) refl

@@ -57,7 +57,7 @@ module _ (w : List ℕ) (good : WellFormed w) where
             let z : i .one ≡ a = omega (arith, i .is-root, root) in
             ap suc (sym (alone-first (rw z at (i .meets)) free))
 
-    ended-reach : (a v : ℕ) → a < length (allocs w) → marked w a ≡ false → has (reach w (allocAt w a)) v ≡ eqb (getD (s .owner) v 0) (suc a)
+    pub ended-reach : (a v : ℕ) → a < length (allocs w) → marked w a ≡ false → has (reach w (allocAt w a)) v ≡ eqb (getD (s .owner) v 0) (suc a)
     ended-reach a v h free =
         let rule = mark-rule w good .reach-exact a v h in
         same-tests (has (reach w (allocAt w a)) v) (eqb (getD (s .owner) v 0) (suc a))

@@ -4,22 +4,19 @@ use mathlib.Core.Bool.{Bool, true, false}
 use Prim.Native.Nat.{ℕ, _<_}
 use native.Mathlib.Omega.{arith}
 use mathlib.Core.List.{List, [], _∷_, _++_}
-use lib.ListN.{length}
 use Rattle.sir_data.specs.Pages.{payload}
 use Rattle.sir_data.specs.Rules.{first, pageRules, recordRules}
 use Rattle.sir_data.specs.WellFormed.{WellFormed}
 use Rattle.sir_data.specs.laws.WellFormed.{first-left, first-right, well-formed}
-use Rattle.sir_analyses.specs.Allocation.{rule12, allocs, marked, merged, owners}
+use Rattle.sir_analyses.specs.Allocation.{rule12, marked, merged}
 use Rattle.sir_analyses.specs.Answers.{refusal}
-use Rattle.sir_analyses.specs.Claims.{OrderRule, LivenessRule, MarkRule}
+use Rattle.sir_analyses.specs.Claims.{OrderRule, LivenessRule, MarkRule, SourceRule}
 use Rattle.sir_analyses.specs.Walk.{Lifetimes}
 use Rattle.sir_analyses.proofs.OrderProof.{order-rule}
 use Rattle.sir_analyses.proofs.LivenessProof.{liveness-rule}
 use Rattle.sir_analyses.proofs.Marks.{mark-rule}
 use Rattle.sir_analyses.proofs.Lifetime.{lifetimes}
-use Rattle.sir_analyses.proofs.Source.{sourceState, sourceMarked}
-use Rattle.sir_analyses.proofs.SourceMarks.{source-marks}
-use Rattle.sir_analyses.proofs.SourceOwners.{source-owners}
+use Rattle.sir_analyses.proofs.SourceProof.{source-rule}
 use Rattle.sir_analyses.specs.Sweep.{sweep}
 use Rattle.sir_analyses.proofs.SweepProof.{sweep-merged}
 
@@ -49,12 +46,8 @@ module _ (image : List ℕ) (accepted : refusal image ≡ 0) where
   pub walks : Lifetimes (payload image)
   walks = lifetimes (payload image) good
 
-  -- the source's marks and owners
-  pub as-the-source : (a : ℕ) → a < length (allocs (payload image)) → sourceMarked (payload image) a ≡ marked (payload image) a
-  as-the-source = source-marks (payload image) good bases-distinct
-
-  pub owners-as-the-source : sourceState (payload image) .owner ≡ owners (payload image)
-  owners-as-the-source = source-owners (payload image) good
+  pub source : SourceRule (payload image)
+  source = source-rule (payload image) good bases-distinct
 
   -- one backwards pass gives the merged intervals
   pub swept : (a : ℕ) → marked (payload image) a ≡ false → sweep (payload image) a ≡ merged (payload image) a

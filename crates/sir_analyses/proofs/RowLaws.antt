@@ -66,14 +66,14 @@ module _ (L : ℕ) where
       go true p a c one rest = let r = rest (rw p at d) in omega arith
       go false p a c one rest = let r = one p in omega arith
 
-  pub same-rows : (e f : List Set) → length e ≡ length f → Wide L e → Wide L f → sameRows f e ≡ true → f ≡ e
-  same-rows [] [] l we wf d = refl
-  same-rows [] (t ∷ f) l we wf d = absurd (omega arith)
-  same-rows (s ∷ e) [] l we wf d = absurd (omega arith)
-  same-rows (s ∷ e) (t ∷ f) l we wf d =
-      let a : t ≡ s = same-set t s (wf 0 (omega arith) ∙ sym (we 0 (omega arith))) (and-true-left (sameSet t s) (sameRows f e) d) in
-      let c : f ≡ e = same-rows e f (omega arith) (λ b h. we (suc b) (omega arith)) (λ b h. wf (suc b) (omega arith)) (and-true-right (sameSet t s) (sameRows f e) d) in
-      cc
+pub same-rows : (e f : List Set) → sameRows f e ≡ true → f ≡ e
+same-rows [] [] d = refl
+same-rows [] (t ∷ f) d = none false d refl
+same-rows (s ∷ e) [] d = none false d refl
+same-rows (s ∷ e) (t ∷ f) d =
+    let a : t ≡ s = same-set t s (and-true-left (sameSet t s) (sameRows f e) d) in
+    let c : f ≡ e = same-rows e f (and-true-right (sameSet t s) (sameRows f e) d) in
+    cc
 
 -- ---- passes until one adds nothing
 
@@ -119,7 +119,7 @@ module _ (B L : ℕ) (P : List Set → List Set) (I : List Set → Type 0)
           → Ended P I states (cond t (suc k, e) (settleBy P n (suc k) (P e)) .0) (cond t (suc k, e) (settleBy P n (suc k) (P e)) .1)
       go true p below = record {
         held = i;
-        fixed = same-rows L e (P e) alike (shape e i .wide) (shape (P e) (keeps e i) .wide) p;
+        fixed = same-rows e (P e) p;
         few = omega arith;
         before = k;
         last = refl;

@@ -9,8 +9,8 @@ use lib.Dec.{eqb}
 use borrow.Author.Tests.{eqb-true, eqb-false, ne-eqb}
 use Rattle.plank_core.specs.Lists.{count, mem, _∈_, _∉_}
 use Rattle.plank_core.specs.laws.Lists.{or-true-left, or-true-right, bool-or, none, mem-count, mem-in, in-mem, mem-not}
-use Rattle.sir_data.specs.Records.{ops, condition, returned, ins, outs, blockWord}
-use Rattle.sir_analyses.specs.Liveness.{Set, has, exitSet, blockEnd, Interval, Scan, close, scanOp, blockIntervals}
+use Rattle.sir_data.specs.Records.{ops, ins, outs, blockWord}
+use Rattle.sir_analyses.specs.Liveness.{Set, has, endReads, exitSet, blockEnd, Interval, Scan, close, scanOp, blockIntervals}
 use Rattle.sir_analyses.proofs.GenKill.{through}
 
 -- os is what is left of all behind some operation, or all of it
@@ -153,31 +153,31 @@ module _ (w : List ℕ) where
   -- v is live in b where the operations os are still to come
   pub data Live (b : ℕ) : List ℕ → ℕ → Type 0 where
     leaves : {v : ℕ} → has (exitSet w b) v ≡ true → Live b [] v
-    tests : {v : ℕ} → v ∈ (condition w b ++ returned w b) → Live b [] v
+    tests : {v : ℕ} → v ∈ (endReads w b) → Live b [] v
     reads : {o v : ℕ} {os : List ℕ} → v ∈ ins w o → Live b (o ∷ os) v
     later : {o v : ℕ} {os : List ℕ} → v ∉ outs w o → Live b os v → Live b (o ∷ os) v
 
   abbrev pub scan : ℕ → ℕ → List ℕ → Scan
-  scan b v os = foldr (scanOp w b v) (record { open′ = cond (has (exitSet w b) v || mem v (condition w b ++ returned w b)) blockEnd 0; closed = [] }) os
+  scan b v os = foldr (scanOp w b v) (record { open′ = cond (has (exitSet w b) v || mem v (endReads w b)) blockEnd 0; closed = [] }) os
 
   -- the live set of b where the operations os are still to come
   abbrev pub liveIn : ℕ → List ℕ → Set
-  liveIn b os = through w (condition w b ++ returned w b) os (exitSet w b)
+  liveIn b os = through w (endReads w b) os (exitSet w b)
 
   -- what is live has an end
   pub live-end : {b v : ℕ} {os : List ℕ} → Live b os v → ¬ (scan b v os .open′ ≡ 0)
   live-end {b} {v} (leaves t) =
-      let h : (has (exitSet w b) v || mem v (condition w b ++ returned w b)) ≡ true = or-true-left (has (exitSet w b) v) (mem v (condition w b ++ returned w b)) t in
+      let h : (has (exitSet w b) v || mem v (endReads w b)) ≡ true = or-true-left (has (exitSet w b) v) (mem v (endReads w b)) t in
       rw h (λ e. omega arith)
   live-end {b} {v} (tests m) =
-      let h : (has (exitSet w b) v || mem v (condition w b ++ returned w b)) ≡ true = or-true-right (has (exitSet w b) v) (mem v (condition w b ++ returned w b)) (in-mem v m) in
+      let h : (has (exitSet w b) v || mem v (endReads w b)) ≡ true = or-true-right (has (exitSet w b) v) (mem v (endReads w b)) (in-mem v m) in
       rw h (λ e. omega arith)
   live-end {b} {v} (reads {o} {os = os} i) = opened-reads w b v o (ended w b v o (scan b v os)) i
   live-end {b} {v} (later {o} {os = os} n l) = λ e. live-end l (sym (scan-keeps w b v o (scan b v os) n (live-end l)) ∙ e)
 
   -- an end lies behind every operation before it
   pub ends-behind : (p b v : ℕ) (os : List ℕ) → p < blockEnd → ((q : ℕ) → q ∈ os → p < q) → Behind p (scan b v os .open′)
-  ends-behind p b v [] l h = go (has (exitSet w b) v || mem v (condition w b ++ returned w b))
+  ends-behind p b v [] l h = go (has (exitSet w b) v || mem v (endReads w b))
     where
       go : (t : Bool) → Behind p (cond t blockEnd 0)
       go true = inr (omega arith)

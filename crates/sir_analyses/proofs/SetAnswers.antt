@@ -24,7 +24,7 @@ use Rattle.sir_analyses.proofs.Stepping.{entry-shows}
 
 -- ---- words that show a set have its members
 
-keep-same : (p q : ℕ → Bool) (s n : ℕ) → ((i : ℕ) → s ≤ i → i < s + n → p i ≡ q i) → keep p (count s n) ≡ keep q (count s n)
+pub keep-same : (p q : ℕ → Bool) (s n : ℕ) → ((i : ℕ) → s ≤ i → i < s + n → p i ≡ q i) → keep p (count s n) ≡ keep q (count s n)
 keep-same p q s zero h = refl
 keep-same p q s (suc n) h = ap₂ (λ (t : Bool) (xs : List ℕ). cond t (s ∷ xs) xs) (h s (omega arith) (omega arith)) (keep-same p q (suc s) n (λ i a b. h i (omega arith) (omega arith)))
 

@@ -172,19 +172,19 @@ card-rises (true ∷ s) (false ∷ t) e f d = none false (f 0 refl) refl
 card-rises (false ∷ s) (true ∷ t) e f d = omega (arith, card-grows s t (omega arith) (λ v. f (suc v)))
 card-rises (false ∷ s) (false ∷ t) e f d = card-rises s t (omega arith) (λ v. f (suc v)) d
 
-pub same-set : (s t : Set) → length s ≡ length t → sameSet s t ≡ true → s ≡ t
-same-set [] [] e d = refl
-same-set [] (y ∷ t) e d = absurd (omega arith)
-same-set (x ∷ s) [] e d = absurd (omega arith)
-same-set (true ∷ s) (true ∷ t) e d = ap {B = List Bool} (λ r. true ∷ r) (same-set s t (omega arith) d)
-same-set (true ∷ s) (false ∷ t) e d = none false d refl
-same-set (false ∷ s) (true ∷ t) e d = none false d refl
-same-set (false ∷ s) (false ∷ t) e d = ap {B = List Bool} (λ r. false ∷ r) (same-set s t (omega arith) d)
+pub same-set : (s t : Set) → sameSet s t ≡ true → s ≡ t
+same-set [] [] d = refl
+same-set [] (y ∷ t) d = none false d refl
+same-set (x ∷ s) [] d = none false d refl
+same-set (true ∷ s) (true ∷ t) d = ap {B = List Bool} (λ r. true ∷ r) (same-set s t d)
+same-set (true ∷ s) (false ∷ t) d = none false d refl
+same-set (false ∷ s) (true ∷ t) d = none false d refl
+same-set (false ∷ s) (false ∷ t) d = ap {B = List Bool} (λ r. false ∷ r) (same-set s t d)
 
 -- adding changes nothing, or gives more members
 pub add-card : (s : Set) (vs : List ℕ) → (addAll s vs ≡ s) ⊎ (card s < card (addAll s vs))
 add-card s vs = go (sameSet (addAll s vs) s) refl
   where
     go : (t : Bool) → sameSet (addAll s vs) s ≡ t → (addAll s vs ≡ s) ⊎ (card s < card (addAll s vs))
-    go true e = inl (same-set (addAll s vs) s (length-addAll s vs) e)
+    go true e = inl (same-set (addAll s vs) s e)
     go false e = inr (card-rises s (addAll s vs) (sym (length-addAll s vs)) (λ v. add-keeps s vs v) e)

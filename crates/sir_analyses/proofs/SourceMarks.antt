@@ -1,6 +1,6 @@
 -- The source's marks are those of the rule. What is said of a step, of the start and of the end holds for every machine that follows
 -- locals with a work list; only `drain` and `propagate` are the source's own. Assumes nothing.
-use mathlib.Core.Path.{_≡_, refl, sym, _∙_, ap}
+use mathlib.Core.Path.{_≡_, refl, sym, _∙_, ap, subst}
 use mathlib.Core.Logic.{_⊎_, inl, inr}
 use mathlib.Core.Bool.{Bool, true, false, _||_}
 use Prim.Native.Nat.{ℕ, zero, suc, _+_, _≤_, _<_}
@@ -13,14 +13,14 @@ use Rattle.plank_core.specs.laws.Lists.{or-true-left, or-true-right, or-cases, 
 use Rattle.sir_data.specs.Records.{locals}
 use Rattle.sir_data.specs.WellFormed.{WellFormed}
 use Rattle.sir_analyses.specs.Liveness.{Use, uses, Set, has}
-use Rattle.sir_analyses.specs.Allocation.{allocs, noAlloc, base, rule12, carried, next, escapes, isReturned, marked, bases}
+use Rattle.sir_analyses.specs.Allocation.{allocs, noAlloc, base, rule12, carried, next, escapesAt, returnedAt, escapes, isReturned, marked, bases}
 use Rattle.sir_analyses.specs.Discovery.{zeros}
 use Rattle.sir_analyses.specs.Propagation.{State, linkLocal, follow, start}
+use Rattle.sir_analyses.specs.Source.{followUse, pop, drain, propagate, sourceAfter, sourceState, sourceMarked}
 use Rattle.sir_analyses.specs.Claims.{Reached, itself, linked, Marked, escaped, returned, met}
 use Rattle.sir_analyses.proofs.SetLaws.{none-in, add-in}
-use Rattle.sir_analyses.proofs.Source.{escapesAt, returnedAt, hurts, followUse, pop, drain, propagate, sourceState, sourceMarked}
 use Rattle.sir_analyses.proofs.Marks.{next-link, link-less, base-less, mark-rule}
-use Rattle.sir_analyses.proofs.SourceSteps.{zeros-most, bases-out, bases-in, no-owner, Meets, same, each, Joined, meets-trans, joined-grow, baseOf, start-length, Done, Inv, Grown, grown-trans, grown-refl, remark, fold-step}
+use Rattle.sir_analyses.proofs.SourceSteps.{marksAt, follow-use, zeros-most, bases-out, bases-in, no-owner, Meets, same, each, Joined, meets-trans, joined-grow, baseOf, start-length, Done, Inv, Grown, grown-trans, grown-refl, remark, fold-step}
 
 any-or : {A : Type 0} (p q : A → Bool) (xs : List A) → any (λ x. p x || q x) xs ≡ (any p xs || any q xs)
 any-or p q [] = refl
@@ -34,8 +34,8 @@ any-or p q (x ∷ xs) = ap (λ (t : Bool). (p x || q x) || t) (any-or p q xs) �
 
 module _ (w : List ℕ) where
   -- some use of v marks where v escapes or is returned
-  all-hurts : (v : ℕ) → any (hurts w v) (uses w v) ≡ (escapes w v || isReturned w v)
-  all-hurts v = any-or (escapesAt w v) (returnedAt w) (uses w v)
+  all-marks : (v : ℕ) → any (marksAt w v) (uses w v) ≡ (escapes w v || isReturned w v)
+  all-marks v = any-or (escapesAt w v) (returnedAt w) (uses w v)
 
   harm-marks : {a l : ℕ} → Reached w a l → (escapes w l || isReturned w l) ≡ true → Marked w a
   harm-marks {a} {l} r t = go (or-cases (escapes w l) (isReturned w l) t)
@@ -114,7 +114,7 @@ module _ (w : List ℕ) where
   -- a local that is followed to its end is done
   pub followed : {a l : ℕ} {s s′ : State} {more vs xs : List ℕ} {harm : Bool} (I : Inv w a s more) (e : s .work ≡ l ∷ vs) → Step (popped I e) xs harm s′
       → ((y : ℕ) → y ∈ next w l → y ∈ xs) → harm ≡ (escapes w l || isReturned w l) → Inv w a s′ more
-  followed {a} {l} I e S f h = finish (S .grown .inv) (S .grown .roots l a (I .mine l (rw e (List·Memᴰ·head refl)) .0)) (record { links = λ y m. S .joins y (f y m); hurt = λ t. S .marks (h ∙ t) })
+  followed {a} {l} I e S f h = finish (S .grown .inv) (S .grown .roots l a (I .mine l (rw e (List·Memᴰ·head refl)) .0)) (record { links = λ y m. S .joins y (f y m); marks-it = λ t. S .marks (h ∙ t) })
 
   -- the next allocation begins with its base
   pub begun : {b : ℕ} {s : State} {more : List ℕ} (a : ℕ) → Inv w b s (baseOf w a ∷ more) → s .work ≡ [] → a < length (allocs w) → Inv w a (record { owner = s .owner; marks = s .marks; work = baseOf w a ∷ [] }) more
@@ -228,7 +228,7 @@ module _ (w : List ℕ) (good : WellFormed w) where
     harmed : {a v : ℕ} → a < length (allocs w) → Reached w a v → (escapes w v || isReturned w v) ≡ true → has (s .marks) a ≡ true
     harmed {a} {v} h r t =
         let j = reached-joined h r in
-        second-marked (j .meets) (all-done v (j .one) (j .is-root) .hurt t)
+        second-marked (j .meets) (all-done v (j .one) (j .is-root) .marks-it t)
 
     complete : (a : ℕ) → a < length (allocs w) → Marked w a → has (s .marks) a ≡ true
     complete a h (escaped {v} r t) = harmed h r (or-true-left (escapes w v) (isReturned w v) t)
@@ -254,12 +254,13 @@ module _ (w : List ℕ) (good : WellFormed w) where
   -- ---- the source
 
   uses-step : {a l : ℕ} {more : List ℕ} (xs : List Use) (s : State) (I : Inv w a s more) → a < length (allocs w) → Reached w a l → ((x : Use) → List·Memᴰ x xs → List·Memᴰ x (uses w l))
-      → Step w I (bind xs (carried w)) (any (hurts w l) xs) (foldl (followUse w a l) s xs)
+      → Step w I (bind xs (carried w)) (any (marksAt w l) xs) (foldl (followUse w a l) s xs)
   uses-step [] s I less r f = step-nil w I
   uses-step {a} {l} {more} (x ∷ xs) s I less r f =
       let m = f x (List·Memᴰ·head refl) in
-      let P = follow-step I less r (carried w x) (λ y k. bind-mem (carried w) m k) (hurts w l x) (λ t. sym (all-hurts w l) ∙ any-mem (hurts w l) m t) in
-      step-trans w (carried w x) (bind xs (carried w)) (hurts w l x) (any (hurts w l) xs) P (uses-step xs (followUse w a l s x) (P .grown .inv) less r (λ y k. f y (List·Memᴰ·tail k)))
+      let Q = follow-step I less r (carried w x) (λ y k. bind-mem (carried w) m k) (marksAt w l x) (λ t. sym (all-marks w l) ∙ any-mem (marksAt w l) m t) in
+      let P : Step w I (carried w x) (marksAt w l x) (followUse w a l s x) = subst (Step w I (carried w x) (marksAt w l x)) (sym (follow-use w a l s x)) Q in
+      step-trans w (carried w x) (bind xs (carried w)) (marksAt w l x) (any (marksAt w l) xs) P (uses-step xs (followUse w a l s x) (P .grown .inv) less r (λ y k. f y (List·Memᴰ·tail k)))
 
   drain-step : {a : ℕ} {more : List ℕ} (m : ℕ) (s : State) → Inv w a s more → a < length (allocs w) → zeros (s .owner) + length (s .work) ≤ m → Inv w a (drain m w a s) more × (drain m w a s .work ≡ [])
   drain-step zero s I less h = (I, length-none (s .work) (omega arith))
@@ -271,18 +272,28 @@ module _ (w : List ℕ) (good : WellFormed w) where
       go (v ∷ vs) e f =
           let t : State = record { owner = s .owner; marks = s .marks; work = vs } in
           let S = uses-step (uses w v) t (popped w I e) less (I .mine v (rw e (List·Memᴰ·head refl)) .1) (λ x k. k) in
-          f (foldl (followUse w a v) t (uses w v)) (followed w I e S (λ y k. k) (all-hurts w v)) less (omega (arith, S .grown .cost, ap length e))
+          f (foldl (followUse w a v) t (uses w v)) (followed w I e S (λ y k. k) (all-marks w v)) less (omega (arith, S .grown .cost, ap length e))
 
-  phases : {b : ℕ} (k m : ℕ) (s : State) → Inv w b s (map (baseOf w) (count k m)) → s .work ≡ [] → k + m ≡ length (allocs w)
-      → (a : ℕ) × Inv w a (foldl (propagate w) s (count k m)) [] × (foldl (propagate w) s (count k m) .work ≡ [])
-  phases {b} k zero s I e h = (b, I, e)
-  phases {b} k (suc m) s I e h =
+  -- allocations k to j have their turns; the bases of the other m are still to be followed
+  phases : {b : ℕ} (k n r j m : ℕ) (s : State) → Inv w b s (map (baseOf w) (count k r)) → s .work ≡ [] → k + r ≡ length (allocs w) → k + n ≡ j → n + m ≡ r
+      → (a : ℕ) × Inv w a (foldl (propagate w) s (count k n)) (map (baseOf w) (count j m)) × (foldl (propagate w) s (count k n) .work ≡ [])
+  phases {b} k zero r j m s I e h p q =
+      let y : j ≡ k = omega arith in
+      let z : m ≡ r = omega arith in
+      rw (y, z) (b, I, e)
+  phases {b} k (suc n) zero j m s I e h p q = absurd (omega arith)
+  phases {b} k (suc n) (suc r) j m s I e h p q =
       let less : k < length (allocs w) = omega arith in
-      let p = drain-step (suc (locals w)) (record { owner = s .owner; marks = s .marks; work = baseOf w k ∷ [] }) (begun w k I e less) less (omega (arith, zeros-most (s .owner), I .owner-length)) in
-      phases (suc k) m (propagate w s k) (p .0) (p .1) (omega arith)
+      let d = drain-step (suc (locals w)) (record { owner = s .owner; marks = s .marks; work = baseOf w k ∷ [] }) (begun w k I e less) less (omega (arith, zeros-most (s .owner), I .owner-length)) in
+      phases (suc k) n r j m (propagate w s k) (d .0) (d .1) (omega arith) (omega arith) (omega arith)
+
+  -- nothing is left of the work list
+  pub source-after : rule12 w ≡ false → (n m : ℕ) → n + m ≡ length (allocs w) → (a : ℕ) × Inv w a (sourceAfter w n) (map (baseOf w) (count n m)) × (sourceAfter w n .work ≡ [])
+  source-after twelve n m h = phases 0 n (length (allocs w)) n m (start w) (started twelve) refl (omega arith) (omega arith) h
+
+  pub source-ends : rule12 w ≡ false → (a : ℕ) × Inv w a (sourceState w) [] × (sourceState w .work ≡ [])
+  source-ends twelve = source-after twelve (length (allocs w)) 0 (omega arith)
 
   -- the source's marks are the marks
   pub source-marks : rule12 w ≡ false → (a : ℕ) → a < length (allocs w) → sourceMarked w a ≡ marked w a
-  source-marks twelve =
-      let end = phases 0 (length (allocs w)) (start w) (started twelve) refl (omega arith) in
-      ended-marks (sourceState w) (end .1) (end .2)
+  source-marks twelve = let end = source-ends twelve in ended-marks (sourceState w) (end .1) (end .2)

@@ -1,8 +1,8 @@
 -- The owners as the source gives them are those of the definition. What is said of a step, of the start and of the end of a turn
 -- holds for every machine that follows locals with a work list; only `drain` and `propagate` are the source's own. Assumes nothing.
-use mathlib.Core.Path.{_≡_, refl, sym, _∙_, ap}
-use mathlib.Core.Logic.{_⊎_, inl, inr, ⊎-elim}
-use mathlib.Core.Bool.{Bool, true, false, not, _&&_, cond}
+use mathlib.Core.Path.{_≡_, refl, sym, _∙_, ap, subst}
+use mathlib.Core.Logic.{_⊎_, inl, inr}
+use mathlib.Core.Bool.{Bool, true, false, cond}
 use Prim.Native.Nat.{ℕ, zero, suc, _+_, _-_, _≤_, _<_}
 use native.Mathlib.Omega.{arith}
 use native.Mathlib.Decide.{ℕ-discrete}
@@ -12,17 +12,17 @@ use lib.Seq.{getD-set-same, getD-set-other, ext-getD}
 use lib.Dec.{eqb}
 use borrow.Author.Tests.{eqb-true, eqb-false, eq-eqb}
 use Rattle.plank_core.specs.Lists.{foldl, bind, mem, count, _∈_}
-use Rattle.plank_core.specs.laws.Lists.{and-true-left, both-true, bool-or, none, keep-mem, keep-out, bind-mem, bind-out, mem-in, in-mem, length-none}
+use Rattle.plank_core.specs.laws.Lists.{bool-or, none, keep-mem, keep-out, bind-mem, bind-out, mem-in, in-mem, length-none}
 use Rattle.sir_data.specs.Records.{locals}
 use Rattle.sir_data.specs.WellFormed.{WellFormed}
 use Rattle.sir_analyses.specs.Liveness.{Use, uses, Set, has, addAll, members}
 use Rattle.sir_analyses.specs.Allocation.{allocs, allocAt, base, carried, next, nextOf, spread, unowned, give, link, owners}
 use Rattle.sir_analyses.specs.Discovery.{zeros}
 use Rattle.sir_analyses.specs.Propagation.{State, linkLocal, follow, start}
+use Rattle.sir_analyses.specs.Source.{followUse, pop, drain, propagate, sourceState}
 use Rattle.sir_analyses.proofs.SetLaws.{members-in, members-out}
-use Rattle.sir_analyses.proofs.Source.{hurts, followUse, pop, drain, propagate, sourceState}
 use Rattle.sir_analyses.proofs.Marks.{spread-sound, spread-base, spread-step, next-link, link-less, base-less}
-use Rattle.sir_analyses.proofs.SourceSteps.{zeros-most, zeros-fewer, zeros-no-more, start-length}
+use Rattle.sir_analyses.proofs.SourceSteps.{marksAt, follow-use, zeros-most, zeros-fewer, zeros-no-more, start-length}
 
 -- what the work list comes to from v, where o has the owners before: v itself, and what nobody had
 pub data Onward (w o : List ℕ) (v : ℕ) : ℕ → Type 0 where
@@ -158,8 +158,9 @@ module _ (w o : List ℕ) (v a : ℕ) where
 
     uses-step : {more : List ℕ} (us : List Use) (s : State) → Taking (s .owner) (s .work) more → ((x : ℕ) → x ∈ bind us (carried w) → (x ∈ next w u) × (x < locals w)) → Out s (foldl (followUse w a u) s us) more (bind us (carried w))
     uses-step [] s I h = out-nil I
-    uses-step (x ∷ us) s I h =
-        let P = follow-step (carried w x) (hurts w u x) s I (λ y m. h y (Memᴰ·append-left (bind us (carried w)) m)) in
+    uses-step {more} (x ∷ us) s I h =
+        let Q = follow-step (carried w x) (marksAt w u x) s I (λ y m. h y (Memᴰ·append-left (bind us (carried w)) m)) in
+        let P : Out s (followUse w a u s x) more (carried w x) = subst (λ (t : State). Out s t more (carried w x)) (sym (follow-use w a u s x)) Q in
         out-trans (carried w x) P (uses-step us (followUse w a u s x) (P .inv) (λ y m. h y (Memᴰ·append-right (carried w x) m)))
 
   -- ---- the work list
@@ -256,22 +257,17 @@ module _ (w : List ℕ) (good : WellFormed w) where
     reached-onward : (x : ℕ) → has reached x ≡ true → Onward w o v x
     unfolding reached
     reached-onward = spread-sound (unowned w o) w v (Onward w o v) (itself refl) (λ s h x m.
-        let p = keep-out (λ (x : ℕ). eqb (getD o x 0) 0 && not (has s x)) (nextOf w s) m in
+        let p = keep-out (λ (x : ℕ). eqb (getD o x 0) 0) (nextOf w s) m in
         let q = bind-out (next w) (members s) (p .0) in
-        onwards (h (q .0) (members-out s (q .1))) (q .2) (eqb-true (getD o x 0) 0 (and-true-left (eqb (getD o x 0) 0) (not (has s x)) (p .1))))
+        onwards (h (q .0) (members-out s (q .1))) (q .2) (eqb-true (getD o x 0) 0 (p .1)))
 
     onward-reached : {x : ℕ} → Onward w o v x → has reached x ≡ true
     unfolding reached
     onward-reached {x} (itself q) = spread-base (unowned w o) w v q (base-less w good a less)
     onward-reached {x} (onwards {u} f m z) =
-        ⊎-elim
-        (λ (t : has reached x ≡ true). t)
-        (λ (t : has reached x ≡ false).
         spread-step (unowned w o) w v
-        (keep-mem (λ (x : ℕ). eqb (getD o x 0) 0 && not (has reached x)) (bind-mem (next w) (members-in reached u (onward-reached f)) m)
-        (both-true (eqb (getD o x 0) 0) (not (has reached x)) (eq-eqb (getD o x 0) 0 z) (ap not t)))
-        (small u x m))
-        (bool-or (has reached x))
+        (keep-mem (λ (x : ℕ). eqb (getD o x 0) 0) (bind-mem (next w) (members-in reached u (onward-reached f)) m) (eq-eqb (getD o x 0) 0 z))
+        (small u x m)
 
     taken : List ℕ
     taken = nextOf w reached

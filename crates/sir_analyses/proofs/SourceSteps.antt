@@ -1,23 +1,26 @@
 -- What linking one local does to owners and marks: each step keeps an invariant. Assumes nothing.
 use mathlib.Core.Path.{_≡_, refl, sym, _∙_, ap}
 use mathlib.Core.Logic.{_⊎_, inl, inr}
-use mathlib.Core.Bool.{Bool, true, false, _||_, cond}
+use mathlib.Core.Bool.{Bool, true, false, _&&_, _||_, cond}
 use Prim.Native.Nat.{ℕ, zero, suc, _+_, _-_, _≤_, _<_}
 use native.Mathlib.Omega.{arith}
 use native.Mathlib.Decide.{ℕ-discrete, decLt}
-use mathlib.Core.List.{List, [], _∷_, List·Memᴰ·head, List·Memᴰ·tail, List·Memᴰ·not-nil}
+use mathlib.Core.List.{List, [], _∷_, map, List·Memᴰ·head, List·Memᴰ·tail, List·Memᴰ·not-nil}
 use lib.ListN.{length, getD, set, replicate, length-set, length-replicate, List·getD-eq-default}
 use lib.Seq.{getD-set-same, getD-set-other}
 use lib.Dec.{eqb}
 use borrow.Author.Tests.{eqb-true, eqb-false, eq-eqb, ne-eqb}
 use Rattle.plank_core.specs.Lists.{foldl, upto, _∈_}
-use Rattle.sir_data.specs.Records.{locals}
-use Rattle.sir_analyses.specs.Liveness.{Set, has, addAll}
-use Rattle.sir_analyses.specs.Allocation.{allocs, allocAt, base, bases, next, escapes, isReturned}
+use Rattle.sir_data.specs.Records.{locals, control, inputs, successors, code, outs}
+use Rattle.sir_data.specs.Codes.{derives}
+use Rattle.sir_analyses.specs.Liveness.{Use, Set, has, addAll}
+use Rattle.sir_analyses.specs.Allocation.{allocs, allocAt, base, bases, carried, next, escapesBy, escapesAt, returnedAt, escapes, isReturned}
 use Rattle.sir_analyses.specs.Discovery.{zeros}
-use Rattle.sir_analyses.specs.Propagation.{State, linkLocal}
+use Rattle.sir_analyses.specs.Propagation.{State, linkLocal, mark, follow}
+use Rattle.sir_analyses.specs.Source.{followOperation, followOutput, followUse}
 use Rattle.sir_analyses.specs.Claims.{Reached, Marked, met}
 use Rattle.sir_analyses.proofs.SetLaws.{length-addAll, add-keeps, add-in, add-out}
+use Rattle.sir_analyses.proofs.Accepted.{returns-last}
 
 -- ---- owners that are not yet given
 
@@ -89,6 +92,37 @@ no-owner zero x c e = omega arith
 no-owner (suc m) zero c e = omega arith
 no-owner (suc m) (suc x) c e = no-owner m x c e
 
+-- ---- one use
+
+-- does this use of v mark?
+abbrev pub marksAt : List ℕ → ℕ → Use → Bool
+marksAt w v u = escapesAt w v u || returnedAt w u
+
+-- the source links what a use carries, and then marks
+pub follow-use : (w : List ℕ) (a v : ℕ) (s : State) (u : Use) → followUse w a v s u ≡ follow (carried w u) (marksAt w v u) a s
+follow-use w a v s u = go (eqb (u .kind) 0) refl (eqb (u .kind) 2) refl
+  where
+    operation : (d e : Bool) → cond e (mark a (cond d (foldl (linkLocal a) s (outs w (u .place))) s)) (cond d (foldl (linkLocal a) s (outs w (u .place))) s) ≡ follow (cond d (outs w (u .place)) []) (e || false) a s
+    operation true true = refl
+    operation true false = refl
+    operation false true = refl
+    operation false false = refl
+
+    places : List ℕ → List ℕ
+    places bs = map (λ c. getD (inputs w c) (u .place) 0) bs
+
+    output : (t : Bool) → eqb (control w (u .block)) 1 ≡ t → cond t (mark a s) (foldl (linkLocal a) s (places (successors w (u .block)))) ≡ follow (places (successors w (u .block))) t a s
+    output true e = rw (returns-last w (u .block) e)
+    output false e = refl
+
+    go : (t : Bool) → eqb (u .kind) 0 ≡ t → (k : Bool) → eqb (u .kind) 2 ≡ k
+        → cond t (followOperation w a v (u .place) s) (cond k (followOutput w a (u .block) (u .place) s) s)
+        ≡ follow (cond t (cond (derives (code w (u .place))) (outs w (u .place)) []) (cond k (places (successors w (u .block))) [])) ((t && escapesBy w (u .place) v) || (k && eqb (control w (u .block)) 1)) a s
+    go true p true q = absurd (omega (arith, eqb-true (u .kind) 0 p, eqb-true (u .kind) 2 q))
+    go true p false q = operation (derives (code w (u .place))) (escapesBy w (u .place) v)
+    go false p true q = output (eqb (control w (u .block)) 1) refl
+    go false p false q = refl
+
 -- ---- the invariant
 
 -- one and the same allocation, or both are marked
@@ -128,7 +162,7 @@ module _ (w : List ℕ) where
   -- all that x carries is joined to d, and where x harms d is marked
   pub record Done (root : ℕ → ℕ) (marks : Set) (x d : ℕ) : Type 0 where
     pub links : (y : ℕ) → y ∈ next w x → Joined root marks d y
-    pub hurt : (escapes w x || isReturned w x) ≡ true → has marks d ≡ true
+    pub marks-it : (escapes w x || isReturned w x) ≡ true → has marks d ≡ true
 
   -- allocation a is being followed; `root` is the first owner of each local; `more` are the locals whose turn comes later
   pub record Inv (a : ℕ) (s : State) (more : List ℕ) : Type 0 where
@@ -149,7 +183,7 @@ module _ (w : List ℕ) where
     pub cost : zeros (s′ .owner) + length (s′ .work) ≤ zeros (s .owner) + length (s .work)
 
   done-grow : {root root′ : ℕ → ℕ} {marks marks′ : Set} {x d : ℕ} → ((x d : ℕ) → root x ≡ suc d → root′ x ≡ suc d) → ((d : ℕ) → has marks d ≡ true → has marks′ d ≡ true) → Done root marks x d → Done root′ marks′ x d
-  done-grow {d = d} f g D = record { links = λ y m. joined-grow f g (D .links y m); hurt = λ t. g d (D .hurt t) }
+  done-grow {d = d} f g D = record { links = λ y m. joined-grow f g (D .links y m); marks-it = λ t. g d (D .marks-it t) }
 
   abbrev pub grown-trans : {a : ℕ} {s s′ s″ : State} {more : List ℕ} {I : Inv a s more} (G : Grown I s′) → Grown (G .inv) s″ → Grown I s″
   grown-trans G H = record {

@@ -11,10 +11,10 @@ use lib.Dec.{eqb, eqb·suc-zero}
 use borrow.Author.Tests.{eqb-true, eqb-false, ne-eqb, not-true}
 use Rattle.plank_core.specs.Lists.{bind, keep, mem, count, upto, _∈_}
 use Rattle.plank_core.specs.laws.Lists.{and-true-left, and-true-right, both-true, none, keep-mem, keep-out, bind-mem, bind-out, mem-keep, upto-mem}
-use Rattle.sir_data.specs.Records.{blocks, ops, condition, returned, ins, outs, blockWord}
+use Rattle.sir_data.specs.Records.{blocks, ops, ins, outs, blockWord}
 use Rattle.sir_data.specs.WellFormed.{WellFormed}
 use Rattle.sir_analyses.specs.Order.{blocksRpo, isVisited}
-use Rattle.sir_analyses.specs.Liveness.{Set, has, addAll, removeAll, members, exitSet, blockEnd, Interval, Scan, close, blockIntervals, intervals}
+use Rattle.sir_analyses.specs.Liveness.{Set, has, addAll, removeAll, members, endReads, exitSet, blockEnd, Interval, Scan, close, blockIntervals, intervals}
 use Rattle.sir_analyses.specs.Allocation.{allocAt, reach, marked, merged}
 use Rattle.sir_analyses.proofs.SetLaws.{has-less, members-in, members-out, has-addAll, has-removeAll, length-addAll, length-removeAll}
 use Rattle.sir_analyses.proofs.OrderProof.{blocks-seen, blocks-below}
@@ -101,11 +101,11 @@ module _ (w : List ℕ) (b : ℕ) where
   scanned v os = scan w b v os
 
   length-live : (os : List ℕ) → length (live os) ≡ length (exitSet w b)
-  length-live os = length-through w (condition w b ++ returned w b) os (exitSet w b)
+  length-live os = length-through w (endReads w b) os (exitSet w b)
 
   -- a local has an open end exactly where it is live
   pub scan-live : (v : ℕ) (os : List ℕ) → v < length (exitSet w b) → not (eqb (scanned v os .open′) 0) ≡ has (live os) v
-  scan-live v [] h = ended (has (exitSet w b) v || mem v (condition w b ++ returned w b)) ∙ sym (has-addAll (exitSet w b) (condition w b ++ returned w b) v h)
+  scan-live v [] h = ended (has (exitSet w b) v || mem v (endReads w b)) ∙ sym (has-addAll (exitSet w b) (endReads w b) v h)
   scan-live v (o ∷ os) h =
       let l : v < length (live os) = rw (length-live os) h in
       let k : v < length (removeAll (live os) (outs w o)) = rw (length-removeAll (live os) (outs w o)) l in
@@ -116,7 +116,7 @@ module _ (w : List ℕ) (b : ℕ) where
   scan-steps v o os = scan-step b o (mem v (outs w o)) (mem v (ins w o)) (scanned v os) .0
 
   scan-ahead : (v k p : ℕ) → p + k ≤ blockEnd → Ahead p (scanned v (count p k))
-  scan-ahead v zero p h = end-ahead p (has (exitSet w b) v || mem v (condition w b ++ returned w b)) (omega arith)
+  scan-ahead v zero p h = end-ahead p (has (exitSet w b) v || mem v (endReads w b)) (omega arith)
   scan-ahead v (suc k) p h = step-ahead (scan-steps v p (count (suc p) k)) (scan-ahead v k (suc p) (omega arith))
 
   module _ (r : Set) (size : length r ≡ length (exitSet w b)) where
@@ -125,7 +125,7 @@ module _ (w : List ℕ) (b : ℕ) where
 
     -- the set of the sweep is the live set, cut down to r
     pub sweep-live : (os : List ℕ) → state os .live ≡ meet r (live os)
-    sweep-live [] = sym (meet-add r (exitSet w b) (condition w b ++ returned w b) size)
+    sweep-live [] = sym (meet-add r (exitSet w b) (endReads w b) size)
     sweep-live (o ∷ os) =
         let l : length r ≡ length (live os) = size ∙ sym (length-live os) in
         ap (liveBefore w r o) (sweep-live os)
@@ -170,7 +170,7 @@ module _ (w : List ℕ) (b : ℕ) where
     module _ {d m n : ℕ} (le : n ≤ suc m) where
       end-out : (p : ℕ) → Covers b d m n p (state [] .spans) → (v : ℕ) × (has r v ≡ true) × Covers b d m n p (scanned v [])
       end-out p (inside s) = absurd (nothing-spans s)
-      end-out p (onwards q h k l) = let x = open-some [] h in (x .0, x .1, onwards q (x .2) k (go (nonempty (liveAtEnd w r b)) (has (exitSet w b) (x .0) || mem (x .0) (condition w b ++ returned w b)) (x .2) l))
+      end-out p (onwards q h k l) = let x = open-some [] h in (x .0, x .1, onwards q (x .2) k (go (nonempty (liveAtEnd w r b)) (has (exitSet w b) (x .0) || mem (x .0) (endReads w b)) (x .2) l))
         where
           go : (t u : Bool) → ¬ (cond u blockEnd 0 ≡ 0) → n ≤ cond t blockEnd 0 → n ≤ cond u blockEnd 0
           go true true h l = l
@@ -179,7 +179,7 @@ module _ (w : List ℕ) (b : ℕ) where
 
       end-in : (p v : ℕ) → has r v ≡ true → Covers b d m n p (scanned v []) → Covers b d m n p (state [] .spans)
       end-in p v t (inside s) = absurd (nothing-spans s)
-      end-in p v t (onwards q h k l) = let x = some-open [] v t h in onwards q x k (go (nonempty (liveAtEnd w r b)) (has (exitSet w b) v || mem v (condition w b ++ returned w b)) x l)
+      end-in p v t (onwards q h k l) = let x = some-open [] v t h in onwards q x k (go (nonempty (liveAtEnd w r b)) (has (exitSet w b) v || mem v (endReads w b)) x l)
         where
           go : (t u : Bool) → ¬ (cond t blockEnd 0 ≡ 0) → n ≤ cond u blockEnd 0 → n ≤ cond t blockEnd 0
           go true true h l = l

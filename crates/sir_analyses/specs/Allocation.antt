@@ -39,7 +39,7 @@ rule12 w = not (distinct (map (base w) (allocs w)))
 abbrev pub carried : List ℕ → Use → List ℕ
 carried w u =
     cond (eqb (u .kind) 0) (cond (derives (code w (u .place))) (outs w (u .place)) [])
-    (cond (eqb (u .kind) 2 && not (eqb (control w (u .block)) 1)) (map (λ s. getD (inputs w s) (u .place) 0) (successors w (u .block)))
+    (cond (eqb (u .kind) 2) (map (λ s. getD (inputs w s) (u .place) 0) (successors w (u .block)))
     [])
 
 -- what all uses of a local bring, and all uses of a set
@@ -64,13 +64,25 @@ reach w a = spread w (nextOf w) (base w a)
 
 -- ---- marks
 
+-- is local v in an escaping operand of operation o?
+abbrev pub escapesBy : List ℕ → ℕ → ℕ → Bool
+escapesBy w o v = any (escaping (code w o)) (positions v (ins w o) 0)
+
+-- is this use of v by an operation, and in an escaping operand?
+abbrev pub escapesAt : List ℕ → ℕ → Use → Bool
+escapesAt w v u = eqb (u .kind) 0 && escapesBy w (u .place) v
+
+-- is this use an `InternalReturn` output?
+abbrev pub returnedAt : List ℕ → Use → Bool
+returnedAt w u = eqb (u .kind) 2 && eqb (control w (u .block)) 1
+
 -- used in an escaping operand
 abbrev pub escapes : List ℕ → ℕ → Bool
-escapes w v = any (λ u. eqb (u .kind) 0 && any (escaping (code w (u .place))) (positions v (ins w (u .place)) 0)) (uses w v)
+escapes w v = any (escapesAt w v) (uses w v)
 
 -- an `InternalReturn` output
 abbrev pub isReturned : List ℕ → ℕ → Bool
-isReturned w v = any (λ u. eqb (u .kind) 2 && eqb (control w (u .block)) 1) (uses w v)
+isReturned w v = any (returnedAt w) (uses w v)
 
 -- reached by another allocation too
 abbrev pub reachedByOther : List ℕ → ℕ → ℕ → Bool
@@ -84,7 +96,7 @@ marked w a = any (λ v. escapes w v || isReturned w v || reachedByOther w a v) (
 
 -- what nobody has yet of what comes next
 abbrev pub unowned : List ℕ → List ℕ → Set → List ℕ
-unowned w owner s = keep (λ v. eqb (getD owner v 0) 0 && not (has s v)) (nextOf w s)
+unowned w owner s = keep (λ v. eqb (getD owner v 0) 0) (nextOf w s)
 
 -- a new owner replaces the old one
 abbrev pub give : List ℕ → List ℕ → ℕ → List ℕ

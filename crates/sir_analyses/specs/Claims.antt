@@ -1,17 +1,20 @@
 -- What is claimed of the answers beyond their definitions: that the order visits exactly what can be reached, that the sets are
--- the least solution of the equations, that the round number counts passes and is bounded, and that marks follow the reach rule. The
--- claim on walks is in Walk. Definitions and statements only; each record is a claim on the payload words of an accepted image.
+-- the least solution of the equations, that the round number counts passes and is bounded, that marks follow the reach rule, and that
+-- the source's own steps come to the same marks, owners and intervals. The claim on walks is in Walk. Definitions and statements
+-- only; each record is a claim on the payload words of an accepted image.
 use mathlib.Core.Path.{_≡_}
 use mathlib.Core.Logic.{_↔_}
-use mathlib.Core.Bool.{true, not, _&&_, _||_}
+use mathlib.Core.Bool.{true, false, not, _&&_, _||_}
 use Prim.Native.Nat.{ℕ, zero, suc, _+_, _≤_, _<_}
 use mathlib.Core.List.{List, [], map, List·Memᴰ}
-use lib.ListN.{length}
+use lib.ListN.{length, getD}
+use lib.Dec.{eqb}
 use Rattle.plank_core.specs.Lists.{distinct, upto, sum, _∈_}
-use Rattle.sir_data.specs.Records.{blocks, initFunction, mainPlusOne, entryBlock, ops, successors, callees}
+use Rattle.sir_data.specs.Records.{blocks, locals, initFunction, mainPlusOne, entryBlock, ops, successors, callees}
 use Rattle.sir_analyses.specs.Order.{functionsRpo, blocksRpo, predecessors}
 use Rattle.sir_analyses.specs.Liveness.{Use, uses, Set, has, members, useSet, defSet, entryFrom, exitFrom, rowOf, noExits, pass, entrySet, exitSet, rounds}
-use Rattle.sir_analyses.specs.Allocation.{allocs, allocAt, base, carried, escapes, isReturned, reach, marked}
+use Rattle.sir_analyses.specs.Allocation.{allocs, allocAt, base, carried, escapes, isReturned, reach, marked, owners, merged}
+use Rattle.sir_analyses.specs.Source.{sourceAfter, sourceState, sourceMarked, sourceIntervals}
 
 pub data Item : Type 0 where
   function : ℕ → Item
@@ -54,8 +57,10 @@ module _ (w : List ℕ) where
   pub record LivenessRule : Type 0 where
     pub exits : Least (exitSet w)
     pub entries : (b : ℕ) → Visited (block b) → entrySet w b ≡ entryFrom w b (exitSet w b)
-    -- the same in the form of the Dragon Book: entry = use ∪ (exit − def)
-    pub use-def : (b v : ℕ) → Visited (block b) → has (entrySet w b) v ≡ (has (useSet w b) v || (has (exitSet w b) v && not (has (defSet w b) v)))
+    -- an exit set has a place for each local
+    pub sized : (b : ℕ) → Visited (block b) → length (exitSet w b) ≡ locals w
+    -- the equations are those of the Dragon Book, whatever the exit set: entry = use ∪ (exit − def)
+    pub use-def : (b : ℕ) (x : Set) (v : ℕ) → length x ≡ locals w → has (entryFrom w b x) v ≡ (has (useSet w b) v || (has x v && not (has (defSet w b) v)))
     -- an unvisited block has empty sets
     pub unvisited-entry : (b : ℕ) → ¬ Visited (block b) → members (entrySet w b) ≡ []
     pub unvisited-exit : (b : ℕ) → ¬ Visited (block b) → members (exitSet w b) ≡ []
@@ -84,3 +89,14 @@ module _ (w : List ℕ) where
   pub record MarkRule : Type 0 where
     pub reach-exact : (a v : ℕ) → a < length (allocs w) → (has (reach w (allocAt w a)) v ≡ true) ↔ Reached a v
     pub mark-exact : (a : ℕ) → a < length (allocs w) → (marked w a ≡ true) ↔ Marked a
+
+  -- ---- the source's own marks, owners and owned locals
+
+  pub record SourceRule : Type 0 where
+    -- behind each allocation its work list is empty: the bound in `drain` cuts nothing off
+    pub drained : (n : ℕ) → n ≤ length (allocs w) → sourceAfter w n .work ≡ []
+    pub marks : (a : ℕ) → a < length (allocs w) → sourceMarked w a ≡ marked w a
+    pub owners-same : sourceState w .owner ≡ owners w
+    -- the locals that it gives to an unmarked allocation are the reach, so that it merges their intervals
+    pub owned : (a v : ℕ) → a < length (allocs w) → marked w a ≡ false → has (reach w (allocAt w a)) v ≡ eqb (getD (owners w) v 0) (suc a)
+    pub intervals-same : (a : ℕ) → a < length (allocs w) → sourceIntervals w a ≡ merged w a

@@ -7,12 +7,13 @@ use Prim.Native.Nat.{ℕ, _+_, _-_, _≤_}
 use native.Mathlib.Omega.{arith}
 use lib.ListN.{length, replicate}
 use lib.Dec.{eqb}
-use Rattle.plank_core.specs.Lists.{all, bind, _∈_}
+use Rattle.plank_core.specs.Lists.{all, bind, oneIf, _∈_}
 use Rattle.sir_data.specs.Pages.{pageWord, checkOf, payload, bytesOf}
 use Rattle.sir_data.specs.Records.{blocks, ins}
 use Rattle.sir_data.specs.Rules.{first, recordRules, rule4, rule5, rule6, rule7, rule8, rule9, rule10, rule11}
 use Rattle.sir_analyses.specs.Liveness.{Interval, blockEnd}
 use Rattle.sir_analyses.specs.Allocation.{rule12, sort, merge, marked}
+use Rattle.sir_analyses.specs.Source.{sourceState, sourceMarked, sourceIntervals}
 use Rattle.sir_analyses.specs.Answers.{orderAnswer, predecessorsAnswer, entryAnswer, exitAnswer, usesAnswer, intervalsAnswer, intervalWords, allocationAnswer, ownerAnswer, roundsAnswer, Outcome, outcome}
 use Rattle.sir_analyses.specs.Walk.{Event, op, edge, Walk, enter, step, follow, Holds, given, kept, moved, Executed, now, before}
 
@@ -200,6 +201,9 @@ table =
     ∷ (allocationAnswer added 0, 0 ∷ 0 ∷ 1 ∷ 0 ∷ 32 ∷ 0 ∷ 1 ∷ 0 ∷ [])
     ∷ (allocationAnswer added 1, 0 ∷ 1 ∷ 2 ∷ 0 ∷ 32 ∷ 0 ∷ 1 ∷ 0 ∷ [])
     ∷ (ownerAnswer added 3, 2 ∷ [])
+    -- and so by the source's own steps
+    ∷ (sourceState added .owner, 0 ∷ 1 ∷ 2 ∷ 2 ∷ [])
+    ∷ (map (λ a. oneIf (sourceMarked added a)) (0 ∷ 1 ∷ []), 1 ∷ 1 ∷ [])
     -- pointer as branch condition: unmarked, block end
     ∷ (allocationAnswer tested 0, 0 ∷ 0 ∷ 0 ∷ 0 ∷ 32 ∷ 0 ∷ 0 ∷ 1 ∷ 0 ∷ 1 ∷ blockEnd ∷ [])
     -- unused allocation: unmarked, no interval
@@ -240,6 +244,7 @@ table =
     -- stopping after one pass of a loop
     ∷ (roundsAnswer looping, 3 ∷ [])
     ∷ (exitAnswer looping 1, 1 ∷ [])
+    ∷ (intervalWords (sourceIntervals looping 0), 0 ∷ 1 ∷ blockEnd ∷ 1 ∷ 0 ∷ blockEnd ∷ 2 ∷ 0 ∷ blockEnd ∷ [])
     ∷ (allocationAnswer looping 0, 0 ∷ 0 ∷ 0 ∷ 0 ∷ 32 ∷ 0 ∷ 0 ∷ 3 ∷ 0 ∷ 1 ∷ blockEnd ∷ 1 ∷ 0 ∷ blockEnd ∷ 2 ∷ 0 ∷ blockEnd ∷ [])
     ∷ []
 

@@ -8,6 +8,7 @@ pub mod Allocation
 pub mod Bases
 pub mod Pointers
 pub mod Propagation
+pub mod Source
 pub mod Discovery
 pub mod Answers
 pub mod Loading

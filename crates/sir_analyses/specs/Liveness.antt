@@ -53,19 +53,23 @@ members s = keep (has s) (upto (length s))
 
 -- ---- the equations
 
--- the entry set of b from its exit set: plus a branch or switch condition or an `InternalReturn` block's outputs, then operations
--- backwards, outputs removed before inputs are added
+-- what is read behind a block's operations: a branch or switch condition, or an `InternalReturn` block's outputs
+abbrev pub endReads : List ℕ → ℕ → List ℕ
+endReads w b = condition w b ++ returned w b
+
+-- the entry set of b from its exit set: plus what is read behind its operations, then operations backwards, outputs removed before
+-- inputs are added
 abbrev pub entryFrom : List ℕ → ℕ → Set → Set
 entryFrom w b exit =
-    foldr (λ o s. addAll (removeAll s (outs w o)) (ins w o)) (addAll exit (condition w b ++ returned w b)) (ops w b)
+    foldr (λ o s. addAll (removeAll s (outs w o)) (ins w o)) (addAll exit (endReads w b)) (ops w b)
 
--- use: the locals that b reads before it gives them; behind its operations it reads its condition and what it returns
+-- use: the locals that b reads before it gives them; `end` is read behind its operations
 abbrev pub readFirst : List ℕ → List ℕ → List ℕ → ℕ → Bool
 readFirst w end [] v = mem v end
 readFirst w end (o ∷ os) v = mem v (ins w o) || (not (mem v (outs w o)) && readFirst w end os v)
 
 abbrev pub useSet : List ℕ → ℕ → Set
-useSet w b = map (readFirst w (condition w b ++ returned w b) (ops w b)) (upto (locals w))
+useSet w b = map (readFirst w (endReads w b) (ops w b)) (upto (locals w))
 
 -- def: the locals that an operation of b gives
 abbrev pub defSet : List ℕ → ℕ → Set
@@ -99,13 +103,16 @@ back w e b =
 abbrev pub pass : List ℕ → List Set → List Set
 pass w e = foldl (back w) e (reverse (blocksRpo w))
 
+-- are two sets, and two tables of sets, the same lists?
 abbrev pub sameSet : Set → Set → Bool
-sameSet [] t = true
+sameSet [] [] = true
+sameSet [] (y ∷ t) = false
 sameSet (x ∷ s) [] = false
 sameSet (x ∷ s) (y ∷ t) = Bool·beq x y && sameSet s t
 
 abbrev pub sameRows : List Set → List Set → Bool
-sameRows [] t = true
+sameRows [] [] = true
+sameRows [] (y ∷ t) = false
 sameRows (x ∷ s) [] = false
 sameRows (x ∷ s) (y ∷ t) = sameSet x y && sameRows s t
 
@@ -161,7 +168,7 @@ abbrev pub blockIntervals : List ℕ → Set → ℕ → ℕ → List Interval
 blockIntervals w exit v b =
     close b 0
     (foldr (scanOp w b v)
-    (record { open′ = cond (has exit v || mem v (condition w b ++ returned w b)) blockEnd 0; closed = [] })
+    (record { open′ = cond (has exit v || mem v (endReads w b)) blockEnd 0; closed = [] })
     (ops w b))
     .closed
 

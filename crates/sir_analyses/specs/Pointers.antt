@@ -7,10 +7,9 @@ use lib.ListN.{length, getD}
 use lib.Dec.{eqb}
 use Rattle.plank_core.specs.Lists.{upto, any, mem}
 use Rattle.plank_core.specs.DenseIndexSet.{contains}
-use Rattle.sir_data.specs.Records.{ops, code, ins, outs, inputs, outputs, successors, returned}
-use Rattle.sir_data.specs.Codes.{derives, escaping}
+use Rattle.sir_data.specs.Records.{ops, code, ins, outs, inputs, outputs}
+use Rattle.sir_data.specs.Codes.{derives}
 use Rattle.sir_analyses.specs.Order.{blocksRpo}
-use Rattle.sir_analyses.specs.Liveness.{positions}
 use Rattle.sir_analyses.specs.Allocation.{next, escapes, isReturned}
 use Rattle.sir_analyses.specs.Tables.{Rows}
 
@@ -21,10 +20,6 @@ isMet w o = any (λ b. mem o (ops w b)) (blocksRpo w)
 -- does operation o derive local u from local v?
 abbrev pub derivesBy : List ℕ → ℕ → ℕ → ℕ → Bool
 derivesBy w o v u = derives (code w o) && (mem v (ins w o) && mem u (outs w o))
-
--- is local v in an escaping operand of operation o?
-abbrev pub escapesBy : List ℕ → ℕ → ℕ → Bool
-escapesBy w o v = any (escaping (code w o)) (positions v (ins w o) 0)
 
 -- does the edge from block b to block s pass local v on as local u?
 abbrev pub passesBy : List ℕ → ℕ → ℕ → ℕ → ℕ → Bool

@@ -2,12 +2,12 @@
 -- backwards, with the live set cut down to the reach. Assumes nothing.
 use mathlib.Core.Bool.{Bool, _&&_, cond}
 use Prim.Native.Nat.{ℕ, suc}
-use mathlib.Core.List.{List, [], _∷_, _++_, foldr}
+use mathlib.Core.List.{List, [], _∷_, foldr}
 use lib.Dec.{eqb}
 use Rattle.plank_core.specs.Lists.{keep, upto, any}
-use Rattle.sir_data.specs.Records.{blocks, ops, condition, returned, ins, outs}
+use Rattle.sir_data.specs.Records.{blocks, ops, ins, outs}
 use Rattle.sir_analyses.specs.Order.{isVisited}
-use Rattle.sir_analyses.specs.Liveness.{Set, has, addAll, removeAll, exitSet, blockEnd, Interval, Scan}
+use Rattle.sir_analyses.specs.Liveness.{Set, has, addAll, removeAll, endReads, exitSet, blockEnd, Interval, Scan}
 use Rattle.sir_analyses.specs.Allocation.{allocAt, reach}
 
 -- what is in both
@@ -21,7 +21,7 @@ nonempty s = any (λ x. x) s
 
 -- the locals of r that are live at the end of b, and those live before operation o, from those live behind it
 abbrev pub liveAtEnd : List ℕ → Set → ℕ → Set
-liveAtEnd w r b = addAll (meet r (exitSet w b)) (keep (has r) (condition w b ++ returned w b))
+liveAtEnd w r b = addAll (meet r (exitSet w b)) (keep (has r) (endReads w b))
 
 abbrev pub liveBefore : List ℕ → Set → ℕ → Set → Set
 liveBefore w r o s = addAll (removeAll s (outs w o)) (keep (has r) (ins w o))

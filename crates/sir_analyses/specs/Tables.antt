@@ -2,15 +2,15 @@
 -- Assumes nothing.
 use mathlib.Core.Path.{_≡_}
 use mathlib.Core.Bool.{Bool, true, not, _&&_, _||_}
-use mathlib.Core.List.{List, [], _++_, map}
+use mathlib.Core.List.{List, [], map}
 use Prim.Native.Nat.{ℕ, _+_, _*_, _≤_, _<_}
 use lib.ListN.{length, getD}
 use Rattle.plank_core.specs.Lists.{upto, any, keep, mem, _∈_}
 use Rattle.plank_core.specs.DenseIndexSet.{contains}
 use Rattle.plank_core.specs.DenseIndexSet as Words
-use Rattle.sir_data.specs.Records.{blocks, operations, locals, inputs, outputs, condition, returned, ins, outs}
+use Rattle.sir_data.specs.Records.{blocks, operations, locals, inputs, outputs, ins, outs}
 use Rattle.sir_analyses.specs.Order.{isVisited, predecessors}
-use Rattle.sir_analyses.specs.Liveness.{Set, has, rowOf, readFirst, useSet, defSet, renamed, settled}
+use Rattle.sir_analyses.specs.Liveness.{Set, has, rowOf, endReads, readFirst, useSet, defSet, renamed, settled}
 use Rattle.sir_analyses.specs.Answers.{entryAnswer, exitAnswer}
 
 -- words that show a set
@@ -52,10 +52,7 @@ pub record RunSets (w os exposed given : List ℕ) : Type 0 where
   pub reads-first : (v : ℕ) → v < 512 → contains exposed v ≡ readFirst w [] os v
   pub gives : (v : ℕ) → v < 512 → contains given v ≡ any (λ o. mem v (outs w o)) os
 
--- what is read behind a block's operations: its condition, and what it returns
-abbrev pub endReads : List ℕ → ℕ → List ℕ
-endReads w b = condition w b ++ returned w b
-
+-- what is read behind each block's operations
 pub record EndRows (w ends : List ℕ) : Type 0 where
   pub ends-long : length ends ≡ 2048
   pub ended : Rows ends (blocks w) (λ b v. mem v (endReads w b))
@@ -66,10 +63,6 @@ pub record BlockRows (w uses defs : List ℕ) : Type 0 where
   pub defs-long : length defs ≡ 2048
   pub used : Rows uses (blocks w) (λ b v. has (useSet w b) v)
   pub defined : Rows defs (blocks w) (λ b v. has (defSet w b) v)
-
--- the blocks seen, as row 1 of the order's table
-abbrev pub BlocksSeen : List ℕ → List ℕ → Type 0
-BlocksSeen w seen = (p : ℕ) → p < blocks w → contains seen (512 + p) ≡ isVisited w p
 
 -- the predecessors of each block, each once
 pub record PredecessorRows (w preds : List ℕ) : Type 0 where

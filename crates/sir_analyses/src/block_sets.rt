@@ -27,8 +27,9 @@ ghost use Rattle.plank_core.specs.Lists.{range, mem, _∈_};
 ghost use Rattle.plank_core.specs.DenseIndexSet.{contains};
 ghost use Rattle.sir_data.specs.Records.{blocks, ops, successors, condition};
 ghost use Rattle.sir_data.specs.WellFormed.{WellFormed};
-ghost use Rattle.sir_analyses.specs.Liveness.{has, useSet, defSet};
-ghost use Rattle.sir_analyses.specs.Tables.{Adds, endReads, EndRows, OperandRows, RunSets, BlockRows, BlocksSeen, PredecessorRows};
+ghost use Rattle.sir_analyses.specs.Liveness.{has, endReads, useSet, defSet};
+ghost use Rattle.sir_analyses.specs.Visiting.{SeenBlocks};
+ghost use Rattle.sir_analyses.specs.Tables.{Adds, EndRows, OperandRows, RunSets, BlockRows, PredecessorRows};
 
 // Adds the locals of a run to a row.
 pub fn add_run(table: &mut [u64], row: usize, run: &[u32])
@@ -228,7 +229,7 @@ fn add_to_successors(words: &[u32], p: BlockId, preds: &mut [u64])
 // The predecessors of each block: the visited blocks that have it among their successors.
 pub fn predecessor_sets(words: &[u32], seen: &[u64], preds: &mut [u64])
     requires { ⌜ WellFormed (now words) ⌝ }
-    requires { ⌜ (length (now seen) ≡ 16) × BlocksSeen (now words) (now seen) ⌝ }
+    requires { ⌜ SeenBlocks (now words) (now seen) ⌝ }
     requires { ⌜ now preds ≡ replicate 2048 0 ⌝ }
     ensures { λ _. ⌜ PredecessorRows (now (words .entry)) (now (preds .exit)) ⌝ }
 {

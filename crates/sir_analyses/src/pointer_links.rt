@@ -28,7 +28,8 @@ ghost use Rattle.sir_data.specs.Records.{blocks, operations, ops, successors, r
 ghost use Rattle.sir_data.specs.WellFormed.{WellFormed};
 ghost use Rattle.sir_analyses.specs.Order.{blocksRpo};
 ghost use Rattle.sir_analyses.specs.Tables.{Adds};
-ghost use Rattle.sir_analyses.specs.Pointers.{isMet, derivesBy, escapesBy, passesBy, PointerRows};
+ghost use Rattle.sir_analyses.specs.Allocation.{escapesBy};
+ghost use Rattle.sir_analyses.specs.Pointers.{isMet, derivesBy, passesBy, PointerRows};
 
 // Adds the operations of block b to those met: operation o is number o of a table of two rows.
 fn add_operations(words: &[u32], b: BlockId, met: &mut [u64])

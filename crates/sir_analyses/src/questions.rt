@@ -29,7 +29,7 @@ ghost use Rattle.sir_analyses.specs.Visiting.{orderIn};
 ghost use Rattle.sir_analyses.specs.Discovery.{allocKeys};
 ghost use Rattle.sir_analyses.specs.Answers.{refusal, orderAnswer, predecessorsAnswer, usesAnswer, entryAnswer, exitAnswer, roundsAnswer, intervalsAnswer, allocationAnswer, ownerAnswer, made, answered, asked, outcome};
 ghost use Rattle.sir_analyses.specs.Allocation.{allocs, rule12};
-ghost use Rattle.sir_analyses.specs.Claims.{OrderRule, LivenessRule, MarkRule};
+ghost use Rattle.sir_analyses.specs.Claims.{OrderRule, LivenessRule, MarkRule, SourceRule};
 ghost use Rattle.sir_analyses.specs.Walk.{Lifetimes};
 ghost use Rattle.sir_analyses.specs.Loading.{Ready};
 ghost use Rattle.sir_analyses.specs.Questions.{blockWords, localWords, idOf, idCount, answerWords};
@@ -201,8 +201,13 @@ pub extern "C" fn sir_rounds(image: &[u8], out: &mut [u8]) -> Answer
 #[no_mangle]
 pub extern "C" fn sir_predecessors(image: &[u8], block: u32, out: &mut [u8]) -> Answer
     ensures { λ r. ⌜ made (r .number) (r .length) (now (out .exit)) ≡ outcome blocks predecessorsAnswer (now (image .entry)) block (now (out .entry)) ⌝ }
+    ensures { λ r. ⌜ (refusal (now (image .entry)) ≡ 0 → OrderRule (payload (now (image .entry)))) ⌝ }
 {
-    ask(image, Question::OfBlock(BlockQuestion::Predecessors, BlockId(block)), out)
+    ask(
+        image,
+        Question::OfBlock(BlockQuestion::Predecessors, BlockId(block)),
+        out,
+    )
 }
 
 #[no_mangle]
@@ -210,7 +215,11 @@ pub extern "C" fn sir_entry_set(image: &[u8], block: u32, out: &mut [u8]) -> Ans
     ensures { λ r. ⌜ made (r .number) (r .length) (now (out .exit)) ≡ outcome blocks entryAnswer (now (image .entry)) block (now (out .entry)) ⌝ }
     ensures { λ r. ⌜ (refusal (now (image .entry)) ≡ 0 → LivenessRule (payload (now (image .entry)))) ⌝ }
 {
-    ask(image, Question::OfBlock(BlockQuestion::EntrySet, BlockId(block)), out)
+    ask(
+        image,
+        Question::OfBlock(BlockQuestion::EntrySet, BlockId(block)),
+        out,
+    )
 }
 
 #[no_mangle]
@@ -218,28 +227,45 @@ pub extern "C" fn sir_exit_set(image: &[u8], block: u32, out: &mut [u8]) -> Answ
     ensures { λ r. ⌜ made (r .number) (r .length) (now (out .exit)) ≡ outcome blocks exitAnswer (now (image .entry)) block (now (out .entry)) ⌝ }
     ensures { λ r. ⌜ (refusal (now (image .entry)) ≡ 0 → LivenessRule (payload (now (image .entry)))) ⌝ }
 {
-    ask(image, Question::OfBlock(BlockQuestion::ExitSet, BlockId(block)), out)
+    ask(
+        image,
+        Question::OfBlock(BlockQuestion::ExitSet, BlockId(block)),
+        out,
+    )
 }
 
 #[no_mangle]
 pub extern "C" fn sir_uses(image: &[u8], local: u32, out: &mut [u8]) -> Answer
     ensures { λ r. ⌜ made (r .number) (r .length) (now (out .exit)) ≡ outcome locals usesAnswer (now (image .entry)) local (now (out .entry)) ⌝ }
 {
-    ask(image, Question::OfLocal(LocalQuestion::Uses, LocalId(local)), out)
+    ask(
+        image,
+        Question::OfLocal(LocalQuestion::Uses, LocalId(local)),
+        out,
+    )
 }
 
 #[no_mangle]
 pub extern "C" fn sir_intervals(image: &[u8], local: u32, out: &mut [u8]) -> Answer
     ensures { λ r. ⌜ made (r .number) (r .length) (now (out .exit)) ≡ outcome locals intervalsAnswer (now (image .entry)) local (now (out .entry)) ⌝ }
 {
-    ask(image, Question::OfLocal(LocalQuestion::Intervals, LocalId(local)), out)
+    ask(
+        image,
+        Question::OfLocal(LocalQuestion::Intervals, LocalId(local)),
+        out,
+    )
 }
 
 #[no_mangle]
 pub extern "C" fn sir_owner(image: &[u8], local: u32, out: &mut [u8]) -> Answer
     ensures { λ r. ⌜ made (r .number) (r .length) (now (out .exit)) ≡ outcome locals ownerAnswer (now (image .entry)) local (now (out .entry)) ⌝ }
+    ensures { λ r. ⌜ (refusal (now (image .entry)) ≡ 0 → SourceRule (payload (now (image .entry)))) ⌝ }
 {
-    ask(image, Question::OfLocal(LocalQuestion::Owner, LocalId(local)), out)
+    ask(
+        image,
+        Question::OfLocal(LocalQuestion::Owner, LocalId(local)),
+        out,
+    )
 }
 
 #[no_mangle]
@@ -247,6 +273,7 @@ pub extern "C" fn sir_allocation(image: &[u8], allocation: u32, out: &mut [u8]) 
     ensures { λ r. ⌜ made (r .number) (r .length) (now (out .exit)) ≡ outcome (λ w. length (allocs w)) allocationAnswer (now (image .entry)) allocation (now (out .entry)) ⌝ }
     ensures { λ r. ⌜ (refusal (now (image .entry)) ≡ 0 → MarkRule (payload (now (image .entry)))) ⌝ }
     ensures { λ r. ⌜ (refusal (now (image .entry)) ≡ 0 → Lifetimes (payload (now (image .entry)))) ⌝ }
+    ensures { λ r. ⌜ (refusal (now (image .entry)) ≡ 0 → SourceRule (payload (now (image .entry)))) ⌝ }
 {
     ask(image, Question::Allocation(AllocId(allocation)), out)
 }

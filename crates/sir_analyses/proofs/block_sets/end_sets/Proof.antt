@@ -4,7 +4,7 @@ use Prim.Native.Nat.{_-_, _≤_}
 use lib.ListN.{length}
 use Rattle.plank_core.specs.Lists.{mem}
 use Rattle.sir_data.specs.Records.{blocks}
-use Rattle.sir_analyses.specs.Tables.{endReads}
+use Rattle.sir_analyses.specs.Liveness.{endReads}
 use Rattle.sir_analyses.proofs.Tables.{Filled, filled-starts, filled-more, filled-ends, cleared-long}
 use borrow.Author.Needs.{needs}
 use native.Mathlib.Omega.{arith}

@@ -32,7 +32,7 @@ loop-holds c = let a = c .before .before .before .before .args in
     (omega arith, cleared-long (a .preds .now) 2048 e, λ b i l h. cleared-row (a .preds .now) 2048 b i e ∙ rw (le-ltb i 0 (omega arith)))
 
 row-contains-requires : tie.Need-row-contains-requires Inv-loop μ-loop
-row-contains-requires c κs = (omega arith, omega (arith, c .before .before .before .before .before .before .pre .0 .sized .blocks-most, c .before .before .block-count .ensures))
+row-contains-requires c κs = (omega (arith, c .before .before .before .before .before .before .pre .1 .0 .wide), omega (arith, c .before .before .before .before .before .before .pre .0 .sized .blocks-most, c .before .before .block-count .ensures))
 
 add-to-successors-requires : tie.Need-add-to-successors-requires Inv-loop μ-loop
 add-to-successors-requires c κs = (c .before .before .before .before .before .before .before .before .before .pre .0, (omega (arith, c .before .before .before .before .before .block-count .ensures), c .before .before .before .before .loop .inv .1))
@@ -48,7 +48,7 @@ loop-again c = let s = c .before .before .before .before .before .before .before
     let w = s .args .words .now in
     let l = c .before .before .before .loop in
     let h : l .p < blocks w = omega (arith, c .before .before .before .before .block-count .ensures) in
-    let seen : c .before .row-contains .result ≡ isVisited w (l .p) = c .before .row-contains .ensures ∙ s .pre .1 .0 .1 (l .p) h in
+    let seen : c .before .row-contains .result ≡ isVisited w (l .p) = c .before .row-contains .ensures ∙ s .pre .1 .0 .visited-is (l .p) h in
     let a : Adds (l .preds) (λ b i. eqb i (l .p) && (isVisited w (l .p) && mem b (successors w (l .p)))) (c .if1 .preds) =
     ⊎-elim
     (λ x. rw (x .5) (adds-as (λ b i k. rw (sym seen ∙ x .0 .taken)) (x .2 .ensures)))

@@ -8,7 +8,8 @@ use Rattle.plank_core.specs.Lists.{upto, any}
 use Rattle.plank_core.specs.DenseIndexSet.{contains}
 use Rattle.sir_data.specs.Records.{operations}
 use Rattle.sir_analyses.specs.Tables.{Adds}
-use Rattle.sir_analyses.specs.Pointers.{isMet, derivesBy, escapesBy}
+use Rattle.sir_analyses.specs.Allocation.{escapesBy}
+use Rattle.sir_analyses.specs.Pointers.{isMet, derivesBy}
 use Rattle.sir_analyses.proofs.Tables.{adds-as, adds-none}
 use Rattle.sir_analyses.proofs.PointerLinks.{adds-counted}
 use borrow.Author.Needs.{needs}

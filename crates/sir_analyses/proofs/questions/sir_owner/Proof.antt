@@ -1,0 +1,17 @@
+-- `sir_owner` meets its contract.
+use Rattle.sir_analyses.proofs.Proved.{source}
+use borrow.Author.Needs.{needs}
+use Rattle.sir_analyses.proofs.questions.sir_owner.Statement.{statement}
+use Rattle.sir_analyses.proofs.questions.sir_owner.Tie as tie
+
+ask-requires : tie.Need-ask-requires
+ask-requires c κs = search needs
+
+same-length : tie.Need-same-length
+same-length c = search needs
+
+returns : tie.Need-returns
+returns c = (c .before .before .ask .ensures, source (c .before .before .before .before .before .before .args .image .now))
+
+pub sir-owner-spec : {M : Type 1} → statement M
+sir-owner-spec = tie.close (tie.spec ask-requires same-length returns)

@@ -1,0 +1,67 @@
+-- Marks, owners and intervals as the source makes them: `discover_allocations`, `propagate_pointers_and_mark_escapes` and
+-- `populate_intervals_from_local_liveness` of allocation_liveness.rs, with its work list and use by use. The numbers are its lines.
+-- `link_local_to_alloc` (276 to 293) is `linkLocal` of Propagation. Assumes nothing.
+use mathlib.Core.Bool.{Bool, cond}
+use Prim.Native.Nat.{ℕ, zero, suc}
+use mathlib.Core.List.{List, [], _∷_, map}
+use lib.ListN.{length, getD}
+use lib.Dec.{eqb}
+use Rattle.plank_core.specs.Lists.{foldl, bind, keep, upto}
+use Rattle.sir_data.specs.Records.{locals, control, inputs, successors, code, outs}
+use Rattle.sir_data.specs.Codes.{derives}
+use Rattle.sir_analyses.specs.Liveness.{Use, uses, has, Interval, intervals}
+use Rattle.sir_analyses.specs.Allocation.{allocs, allocAt, base, escapesBy, sort, merge}
+use Rattle.sir_analyses.specs.Propagation.{State, linkLocal, mark, start}
+
+-- 264 to 271, operation o uses local v: `can_derive_pointer` links its outputs, then `operation_causes_ptr_escape` marks
+abbrev pub followOperation : List ℕ → ℕ → ℕ → ℕ → State → State
+followOperation w a v o s =
+    let t = cond (derives (code w o)) (foldl (linkLocal a) s (outs w o)) s in
+    cond (escapesBy w o v) (mark a t) t
+
+-- 249 to 260, an output of block b at place k: `InternalReturn` marks, else the input at that place of each successor is linked
+abbrev pub followOutput : List ℕ → ℕ → ℕ → ℕ → State → State
+followOutput w a b k s =
+    cond (eqb (control w b) 1) (mark a s)
+    (foldl (linkLocal a) s (map (λ c. getD (inputs w c) k 0) (successors w b)))
+
+-- 247 to 271, one use of local v by its kind; `Control` goes on to the next
+abbrev pub followUse : List ℕ → ℕ → ℕ → State → Use → State
+followUse w a v s u =
+    cond (eqb (u .kind) 0) (followOperation w a v (u .place) s)
+    (cond (eqb (u .kind) 2) (followOutput w a (u .block) (u .place) s)
+    s)
+
+-- 245, `worklist.pop()`: the latest local, and the state without it
+abbrev pub pop : (ℕ → State → State) → List ℕ → State → State
+pop f [] s = s
+pop f (v ∷ vs) s = f v (record { owner = s .owner; marks = s .marks; work = vs })
+
+-- 245 to 273, the `while` loop; n bounds how many locals are followed
+abbrev pub drain : ℕ → List ℕ → ℕ → State → State
+drain zero w a s = s
+drain (suc n) w a s = pop (λ v t. drain n w a (foldl (followUse w a v) t (uses w v))) (s .work) s
+
+-- `propagate_pointers_and_mark_escapes` (234 to 274) from the base of allocation a
+abbrev pub propagate : List ℕ → State → ℕ → State
+propagate w s a = drain (suc (locals w)) w a (record { owner = s .owner; marks = s .marks; work = base w (allocAt w a) ∷ [] })
+
+-- `discover_allocations` (181 to 232) with the first n allocations propagated: 187 to 219 give `allocs`, and `start` with every base
+-- for its own; 222 to 231 take the allocations in turn
+abbrev pub sourceAfter : List ℕ → ℕ → State
+sourceAfter w n = foldl (propagate w) (start w) (upto n)
+
+abbrev pub sourceState : List ℕ → State
+sourceState w = sourceAfter w (length (allocs w))
+
+-- `escapes` of allocation a
+abbrev pub sourceMarked : List ℕ → ℕ → Bool
+sourceMarked w a = has (sourceState w .marks) a
+
+-- the locals that `local_to_alloc` gives to allocation a, ids ascending
+abbrev pub sourceOwned : List ℕ → ℕ → List ℕ
+sourceOwned w a = keep (λ v. eqb (getD (sourceState w .owner) v 0) (suc a)) (upto (locals w))
+
+-- `populate_intervals_from_local_liveness` (295 to 311): where a does not escape, the intervals of these locals, merged
+abbrev pub sourceIntervals : List ℕ → ℕ → List Interval
+sourceIntervals w a = cond (sourceMarked w a) [] (merge (sort (bind (sourceOwned w a) (intervals w))))
