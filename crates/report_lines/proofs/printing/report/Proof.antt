@@ -1,18 +1,11 @@
 -- `report` meets its contract.
-use mathlib.Core.Path.{sym, ap, _∙_, subst}
-use mathlib.Core.List.{List}
-use Prim.Native.Nat.{ℕ}
+use mathlib.Core.Path.{sym, _∙_}
 use native.Mathlib.Omega.{arith}
-use lib.ListN.{length}
 use lib.Seq.{length-take-le}
 use borrow.Author.Tests.{eq-eqb, ne-eqb}
 use Rattle.report_lines.specs.Counting.{someTooLong, reported}
-use Rattle.report_lines.proofs.TooLong.{take-most, seen-as}
-use Rattle.sir_data.specs.WellFormed.{WellFormed}
-use Rattle.sir_analyses.specs.Order.{blocksRpo}
-use Rattle.sir_analyses.specs.Allocation.{rule12}
+use Rattle.report_lines.proofs.TooLong.{take-most}
 use Rattle.sir_analyses.specs.Answers.{refusal}
-use Rattle.sir_analyses.specs.Discovery.{allocKeys}
 use borrow.Author.Needs.{needs}
 use Rattle.report_lines.proofs.printing.report.Statement.{statement}
 use Rattle.report_lines.proofs.printing.report.Tie as tie
@@ -59,8 +52,8 @@ slice-aggregate-report-words-3 c = let p = c .before .before .before .before .be
 
 report-words-requires : tie.Need-report-words-requires
 report-words-requires c κs = let p = c .before .before .before .before .before .before .before .before .load .ensures .accepted (sym (c .before .before .before .before .before .before .before .before .load .ensures .number-is) ∙ c .before .before .before .if1 .left) in
-    let e = sym (p .words-are) in
-    (subst WellFormed e (p .well-formed), ((seen-as e (p .seen-are), p .rpo-is ∙ ap blocksRpo e, take-most _ 256 _ (p .rpo-fit) (omega (arith, p .rpo-fit))), (ap rule12 (sym e) ∙ p .bases-differ, omega (arith, ap (λ (w : List ℕ). length (allocKeys w)) e, p .keys-few))))
+    let r = p .ready in
+    (r .well-formed, ((r .seen-are, r .rpo-is, take-most _ 256 _ (p .rpo-fit) (omega (arith, p .rpo-fit))), (r .bases-differ, r .keys-few)))
 
 returns-2 : tie.Need-returns-2
 unfolding reported someTooLong
