@@ -1,11 +1,12 @@
 -- Whether one of some answers is too long, one by one. Assumes nothing.
 use mathlib.Core.Path.{_≡_, refl, sym, ap, _∙_}
-use mathlib.Core.Bool.{Bool, true, false}
+use mathlib.Core.Bool.{Bool, true, false, cond}
 use mathlib.Core.List.{List, [], _∷_, _++_, map}
 use Prim.Native.Nat.{ℕ, suc, _*_, _≤_, _<_}
 use native.Mathlib.Omega.{arith}
 use lib.ListN.{length, take, drop}
 use lib.Seq.{take-at, length-take-le}
+use lib.Dec.{ltb}
 use borrow.Author.Tests.{lt-ltb, le-ltb, ltb-false}
 use Rattle.plank_core.specs.Lists.{bind, any, range}
 use Rattle.plank_core.specs.laws.Lists.{any-not}
@@ -13,7 +14,7 @@ use Rattle.plank_core.specs.laws.Loops.{range-all}
 use Rattle.sir_data.specs.Pages.{bytesOf}
 use Rattle.sir_data.specs.Records.{locals}
 use Rattle.sir_analyses.specs.Allocation.{allocs}
-use Rattle.sir_analyses.specs.Answers.{intervalsAnswer, allocationAnswer}
+use Rattle.sir_analyses.specs.Answers.{intervalsAnswer, allocationAnswer, Outcome, made, refused, answered}
 use Rattle.sir_analyses.specs.Discovery.{allocKey, allocKeys}
 use Rattle.sir_analyses.specs.Visiting.{SeenBlocks}
 use Rattle.sir_analyses.specs.Writing.{Puts}
@@ -37,6 +38,32 @@ stands xs {out} {out′} {r} l e p =
     let f : 4 * length xs ≤ length out = omega (arith, short xs e) in
     ap (take (4 * r)) (w .left ∙ puts-all xs out f)
     ∙ take-at (bind xs bytesOf) (drop (4 * length xs) out) (4 * r) (omega (arith, length-bytes xs, p .next))
+
+-- the same of an answer that was asked for: 14 tells that it is too long
+module _ (xs out : List ℕ) {n l : ℕ} {out′ : List ℕ} (long : length out ≡ 65536) (e : made n l out′ ≡ answered (bind xs bytesOf) out) where
+  told : (t : Bool) → tooLong xs ≡ t → made n l out′ ≡ cond t (refused 14 out) (made 0 (length (bind xs bytesOf)) (bind xs bytesOf ++ drop (length (bind xs bytesOf)) out))
+  told t q =
+      let same : ltb (length out) (length (bind xs bytesOf)) ≡ tooLong xs = rw (long, length-bytes xs) refl in
+      e ∙ ap (λ (t : Bool). cond t (refused 14 out) (made 0 (length (bind xs bytesOf)) (bind xs bytesOf ++ drop (length (bind xs bytesOf)) out))) (same ∙ q)
+
+  pub refused-long : n ≡ 14 → tooLong xs ≡ true
+  refused-long h = go (tooLong xs) refl
+    where
+      go : (t : Bool) → tooLong xs ≡ t → t ≡ true
+      go true q = refl
+      go false q = let z : n ≡ 0 = ap (λ (o : Outcome). o .number) (told false q) in absurd (omega arith)
+
+  pub answered-short : (n ≡ 14 → ⊥) → tooLong xs ≡ false
+  answered-short h = go (tooLong xs) refl
+    where
+      go : (t : Bool) → tooLong xs ≡ t → t ≡ false
+      go true q = absurd (h (ap (λ (o : Outcome). o .number) (told true q)))
+      go false q = refl
+
+  pub answer-stands : tooLong xs ≡ false → (l ≡ 4 * length xs) × (take l out′ ≡ bind xs bytesOf)
+  answer-stands q =
+      let z : l ≡ length (bind xs bytesOf) = ap (λ (o : Outcome). o .len) (told false q) in
+      (z ∙ length-bytes xs, ap (take l) (ap (λ (o : Outcome). o .result) (told false q)) ∙ take-at (bind xs bytesOf) (drop (length (bind xs bytesOf)) out) l (sym z))
 
 -- ---- all of some answers
 

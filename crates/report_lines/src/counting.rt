@@ -1,7 +1,7 @@
 // Whether an answer that a report prints is longer than its result slice. Order, rounds and sets are never that long.
 use plank_core::index::AllocId;
 use plank_core::index::LocalId;
-use sir_analyses::allocation_words::put_allocation;
+use sir_analyses::allocation_answers::tables_answer;
 use sir_analyses::local_intervals::put_intervals;
 use sir_data::records::local_count;
 ghost use mathlib.Core.Path.{_≡_};
@@ -43,7 +43,7 @@ pub fn local_too_long(
     false
 }
 
-// Whether some allocation needs more than 65,536 bytes.
+// Whether some allocation needs more than 65,536 bytes, the length of the slice.
 pub fn allocation_too_long(
     words: &[u32],
     seen: &[u64],
@@ -61,11 +61,12 @@ pub fn allocation_too_long(
     requires { ⌜ (length (now exits) ≡ 2048) × SameRows (now exits) (settled (now words) .1) (blocks (now words)) × EndRows (now words) (now ends) ⌝ }
     requires { ⌜ (now keys ≡ allocKeys (now words)) × (length (now keys) ≤ 512) ⌝ }
     requires { ⌜ (length (now owner) ≡ 512) × (length (now marks) ≡ 8) × Discovered (now words) (now owner) (now marks) ⌝ }
+    requires { ⌜ length (now out) ≡ 65536 ⌝ }
     ensures { λ r. ⌜ r ≡ allocationTooLong (now (words .entry)) ⌝ }
 {
     let mut a: usize = 0;
     while a < keys.len() {
-        let n = put_allocation(
+        let r = tables_answer(
             words,
             seen,
             reads,
@@ -77,9 +78,8 @@ pub fn allocation_too_long(
             marks,
             AllocId(a as u32),
             out,
-            0,
         );
-        if 16384 < n {
+        if r.number == 14 {
             return true;
         }
         a += 1;

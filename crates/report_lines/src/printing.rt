@@ -14,9 +14,9 @@ use plank_core::index::BlockId;
 use plank_core::index::LocalId;
 use plank_core::rows::row_contains;
 use plank_core::rows::row_of;
+use sir_analyses::allocation_answers::tables_answer;
 use sir_analyses::allocation_liveness::discover_allocations;
 use sir_analyses::allocation_liveness::find_allocations;
-use sir_analyses::allocation_words::put_allocation;
 use sir_analyses::block_sets::end_sets;
 use sir_analyses::block_sets::operand_sets;
 use sir_analyses::loading::load;
@@ -193,7 +193,7 @@ fn allocation_text(
     requires { ⌜ (length (now out) ≡ 65536) × (196608 ≤ length (now line)) ⌝ }
     ensures { λ r. ⌜ Put (allocationText (now (words .entry)) (a .0)) 0 (now (line .entry)) (now (line .exit)) r ⌝ }
 {
-    let n = put_allocation(
+    let r = tables_answer(
         words,
         seen,
         reads,
@@ -205,9 +205,8 @@ fn allocation_text(
         marks,
         a,
         out,
-        65536,
     );
-    let end = 4 * n;
+    let end = r.length as usize;
     allocation_line(a.0, &out[..end], line)
 }
 

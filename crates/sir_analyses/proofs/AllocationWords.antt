@@ -1,26 +1,26 @@
 -- The locals that an allocation owns as a set, and the words of its answer. Assumes nothing.
 use mathlib.Core.Path.{_≡_, refl, sym, ap, _∙_}
-use mathlib.Core.Bool.{Bool, true, false, _&&_, _||_, cond}
+use mathlib.Core.Bool.{Bool, true, false, _&&_, _||_}
 use mathlib.Core.List.{List, [], _∷_, _++_, append-nil}
-use Prim.Native.Nat.{ℕ, suc, _+_, _-_, _*_, _/_, _%_, _≤_, _<_}
+use Prim.Native.Nat.{ℕ, _+_, _-_, _*_, _/_, _%_, _≤_, _<_}
 use native.Mathlib.Omega.{arith}
 use native.Mathlib.Numerals.{add-one}
-use lib.ListN.{length, getD, replicate, length-append}
+use lib.ListN.{length, getD, replicate}
 use lib.Dec.{eqb, ltb}
-use borrow.Author.Tests.{eqb-true, eqb-false, lt-ltb, le-ltb, ltb-true, ltb-false, ne-eqb, eq-eqb}
-use Rattle.plank_core.specs.Lists.{bind, upto, oneIf}
+use borrow.Author.Tests.{eqb-true, eqb-false, lt-ltb, le-ltb, ltb-true, ltb-false}
+use Rattle.plank_core.specs.Lists.{upto, oneIf}
 use Rattle.plank_core.specs.DenseIndexSet.{contains, added}
 use Rattle.plank_core.specs.laws.DenseIndexSet.{contains-added, contains-cleared}
-use Rattle.sir_data.specs.Records.{blocks, operations, locals, code, ins, outs, extra}
+use Rattle.sir_data.specs.Records.{blocks, operations, locals, code, outs}
 use Rattle.sir_data.specs.Codes.{isAlloc}
 use Rattle.sir_data.specs.WellFormed.{WellFormed}
 use Rattle.sir_analyses.specs.Liveness.{Set, has, Interval}
-use Rattle.sir_analyses.specs.Allocation.{allocs, allocAt, base, reach, marked, merged}
-use Rattle.sir_analyses.specs.Answers.{intervalWords, allocationAnswer}
-use Rattle.sir_analyses.specs.Kinds.{kindOf, headWords}
+use Rattle.sir_analyses.specs.Allocation.{allocs, allocAt, reach, marked, merged}
+use Rattle.sir_analyses.specs.Answers.{intervalWords, kindOf, allocationAnswer}
+use Rattle.sir_analyses.specs.Kinds.{headWords}
 use Rattle.sir_analyses.specs.Tables.{Same}
-use Rattle.sir_analyses.specs.Discovery.{allocKeys, Discovered}
-use Rattle.sir_analyses.specs.Sweep.{sweep, sweepFrom}
+use Rattle.sir_analyses.specs.Discovery.{allocKeys, Discovered, Unmarked}
+use Rattle.sir_analyses.specs.Sweep.{sweepFrom}
 use Rattle.sir_analyses.specs.Writing.{Puts}
 use Rattle.sir_analyses.proofs.GenKill.{beyond}
 use Rattle.sir_analyses.proofs.Marks.{reach-length}
@@ -62,14 +62,21 @@ module _ (own : ℕ → Bool) (set : List ℕ) (v : ℕ) (b : Below own v set) w
 -- ---- the reach of an unmarked allocation, and its merged intervals
 
 module _ {w owner marks : List ℕ} (good : WellFormed w) (d : Discovered w owner marks) {a : ℕ} (l : a < length (allocs w)) (u : marked w a ≡ false) where
-  pub owned-reach : (set : List ℕ) → Below (λ v. eqb (getD owner v 0) (a + 1)) (locals w) set → Same set (reach w (allocAt w a))
+  owned-reach : (set : List ℕ) → Below (λ v. eqb (getD owner v 0) (a + 1)) (locals w) set → Same set (reach w (allocAt w a))
   owned-reach set b v h = b v h ∙ go (ltb v (locals w)) refl
     where
       go : (t : Bool) → ltb v (locals w) ≡ t → (t && eqb (getD owner v 0) (a + 1)) ≡ has (reach w (allocAt w a)) v
       go true e = ap (eqb (getD owner v 0)) (add-one a) ∙ sym (d .reach-is a v l u (ltb-true v (locals w) e))
       go false e = sym (beyond (reach w (allocAt w a)) v (omega (arith, reach-length w good a, ltb-false v (locals w) e)))
 
-pub interval-count : (is : List Interval) → length (intervalWords is) ≡ 3 * length is
+  pub owned-unmarked : {key : ℕ} {set : List ℕ} → key ≡ getD (allocKeys w) a 0 → (length set ≡ 8) × Below (λ v. eqb (getD owner v 0) (a + 1)) (locals w) set → Unmarked w key set a
+  owned-unmarked {key} {set} e b = record { known = l; key-is = e; unmarked = u; long = b .0; same = owned-reach set (b .1) }
+
+-- the table of marks tells
+pub mark-told : {w owner marks : List ℕ} → Discovered w owner marks → {a : ℕ} → a < length (allocs w) → {told t : Bool} → told ≡ contains marks (0 + a) → told ≡ t → marked w a ≡ t
+mark-told {marks = marks} d {a} l p q = let z : a ≡ 0 + a = omega arith in sym (d .mark-is a l) ∙ ap (contains marks) z ∙ sym p ∙ q
+
+interval-count : (is : List Interval) → length (intervalWords is) ≡ 3 * length is
 interval-count [] = refl
 interval-count (i ∷ is) = let h = interval-count is in omega arith
 
@@ -92,19 +99,22 @@ module _ (w : List ℕ) {k a : ℕ} (good : WellFormed w) (l : a < length (alloc
       none : merged w a ≡ []
       none = rw t refl
 
-  module _ (u : marked w a ≡ false) where
-    swept : intervalWords (sweepFrom w (reach w (allocAt w a)) (upto (blocks w))) ≡ intervalWords (merged w a)
-    swept = ap intervalWords (sweep-merged w good a u)
+-- what a sweep for some locals puts behind the head
+abbrev Sweeps : List ℕ → List ℕ → ℕ → List ℕ → List ℕ → ℕ → Type 0
+Sweeps w set limit out out′ r = (s : Set) → length s ≡ locals w → Same set s → Puts limit 8 (intervalWords (sweepFrom w s (upto (blocks w)))) out out′ r
 
-    pub unmarked-answer : {limit n m r : ℕ} {out counted headed left : List ℕ}
-        → Puts 0 8 (intervalWords (sweepFrom w (reach w (allocAt w a)) (upto (blocks w)))) out counted n
-        → Puts limit 0 (headWords w k 0 ((n - 8) / 3)) counted headed m
-        → Puts limit 8 (intervalWords (sweepFrom w (reach w (allocAt w a)) (upto (blocks w)))) headed left r
-        → Puts limit 0 (allocationAnswer w a) out left r
-    unmarked-answer {limit} {n} {m} {r} {out} {counted} {headed} {left} p q s =
-        let c : counted ≡ out = p .left ∙ puts-past 0 8 _ out (omega arith) in
-        let z : (n - 8) / 3 ≡ length (merged w a) = omega (arith, p .next, ap length swept, interval-count (merged w a)) in
-        let g : m ≡ 8 = q .next in
-        let q′ : Puts limit 0 (headWords w k 0 ((n - 8) / 3)) out headed 8 = rw (c, g) at q in
-        let s′ : Puts limit 8 (intervalWords (merged w a)) headed left r = rw swept at s in
-        puts-as (head-is 0 ((n - 8) / 3) (rw u refl) z) (puts-then q′ s′)
+module _ {w set : List ℕ} {k a : ℕ} (good : WellFormed w) (x : Unmarked w k set a) where
+  swept : {limit r : ℕ} {out out′ : List ℕ} → Sweeps w set limit out out′ r → Puts limit 8 (intervalWords (merged w a)) out out′ r
+  swept p = puts-as (ap intervalWords (sweep-merged w good a (x .unmarked))) (p (reach w (allocAt w a)) (reach-length w good a) (x .same))
+
+  -- counting gives the number of words, and leaves the slice alone
+  pub swept-count : {n : ℕ} {out counted : List ℕ} → Sweeps w set 0 out counted n → (n ≡ length (allocationAnswer w a)) × (counted ≡ out)
+  swept-count {n} {out} {counted} p = let q = swept p in (omega (arith, q .next), q .left ∙ puts-past 0 8 _ out (omega arith))
+
+  pub swept-answer : {limit n m r : ℕ} {out headed left : List ℕ} → n ≡ length (allocationAnswer w a)
+      → Puts limit 0 (headWords w k 0 ((n - 8) / 3)) out headed m → Sweeps w set limit headed left r → Puts limit 0 (allocationAnswer w a) out left r
+  swept-answer {limit} {n} {m} {r} {out} {headed} {left} e p q =
+      let z : (n - 8) / 3 ≡ length (merged w a) = omega (arith, e, interval-count (merged w a)) in
+      let g : m ≡ 8 = p .next in
+      let p′ : Puts limit 0 (headWords w k 0 ((n - 8) / 3)) out headed 8 = rw g at p in
+      puts-as (head-is w good (x .known) (x .key-is) 0 ((n - 8) / 3) (rw (x .unmarked) refl) z) (puts-then p′ (swept q))

@@ -46,16 +46,18 @@ intervalWords is = bind is (λ i. i .block ∷ i .from ∷ i .to ∷ [])
 abbrev pub intervalsAnswer : List ℕ → ℕ → List ℕ
 intervalsAnswer w v = intervalWords (intervals w v)
 
--- an allocation: defining block, operation, base local, kind (0 static, 1 dynamic), size or size local, static id (0 if dynamic), mark,
--- interval count, intervals
+-- kind (0 static, 1 dynamic), size or size local, static id (0 if dynamic), of operation o
+abbrev pub kindOf : List ℕ → ℕ → List ℕ
+kindOf w o =
+    let dynamic = isDynamicAlloc (code w o) in
+    oneIf dynamic ∷ cond dynamic (getD (ins w o) 0 0) (extra w o 0) ∷ cond dynamic 0 (extra w o 1) ∷ []
+
+-- an allocation: defining block, operation, base local, its three words of kind, mark, interval count, intervals
 abbrev pub allocationAnswer : List ℕ → ℕ → List ℕ
 allocationAnswer w a =
     let x = allocAt w a in
-    let dynamic = isDynamicAlloc (code w (x .op)) in
-    x .block ∷ x .op ∷ base w x ∷ oneIf dynamic
-    ∷ cond dynamic (getD (ins w (x .op)) 0 0) (extra w (x .op) 0)
-    ∷ cond dynamic 0 (extra w (x .op) 1)
-    ∷ oneIf (marked w a) ∷ length (merged w a) ∷ intervalWords (merged w a)
+    x .block ∷ x .op ∷ base w x
+    ∷ (kindOf w (x .op) ++ (oneIf (marked w a) ∷ length (merged w a) ∷ intervalWords (merged w a)))
 
 -- owner of a local: allocation + 1, or 0
 abbrev pub ownerAnswer : List ℕ → ℕ → List ℕ

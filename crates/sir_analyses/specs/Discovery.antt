@@ -80,3 +80,11 @@ pub record Discovered (w owner marks : List ℕ) : Type 0 where
   pub owner-is : (v : ℕ) → v < locals w → getD owner v 0 ≡ getD (owners w) v 0
   pub mark-is : (a : ℕ) → a < length (allocs w) → contains marks a ≡ marked w a
   pub reach-is : (a v : ℕ) → a < length (allocs w) → marked w a ≡ false → v < locals w → has (reach w (allocAt w a)) v ≡ eqb (getD owner v 0) (suc a)
+
+-- allocation a, which is unmarked, has this key, and this set of words shows its reach
+pub record Unmarked (w : List ℕ) (key : ℕ) (set : List ℕ) (a : ℕ) : Type 0 where
+  pub known : a < length (allocs w)
+  pub key-is : key ≡ getD (allocKeys w) a 0
+  pub unmarked : marked w a ≡ false
+  pub long : length set ≡ 8
+  pub same : Same set (reach w (allocAt w a))

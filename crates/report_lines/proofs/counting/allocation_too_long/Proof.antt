@@ -8,7 +8,7 @@ use Rattle.plank_core.specs.laws.Loops.{any-step, any-stop, any-end}
 use Rattle.sir_analyses.specs.Allocation.{allocs}
 use Rattle.sir_analyses.specs.Answers.{allocationAnswer}
 use Rattle.report_lines.specs.Counting.{allocationTooLong}
-use Rattle.report_lines.proofs.TooLong.{is-long, not-long, keys-long, longAllocation, allocations-start}
+use Rattle.report_lines.proofs.TooLong.{refused-long, answered-short, keys-long, longAllocation, allocations-start}
 use Rattle.report_lines.proofs.counting.allocation_too_long.Statement.{statement}
 use Rattle.report_lines.proofs.counting.allocation_too_long.Tie as tie
 
@@ -24,29 +24,32 @@ loop-holds c = (omega arith, refl, allocations-start (c .before .before .before 
 cast-t15 : tie.Need-cast-t15 Inv-loop μ-loop
 cast-t15 c = omega (arith, c .loop-test .taken, c .before .before .before .before .before .before .before .before .before .before .before .before .pre .1 .1 .1 .0 .1)
 
-put-allocation-requires : tie.Need-put-allocation-requires Inv-loop μ-loop
-put-allocation-requires c κs = let P = c .before .before .before .before .before .before .before .before .before .before .before .before .before .pre in (P .0, (P .1 .0, (P .1 .1 .0, ((P .1 .1 .1 .0 .0, P .1 .1 .1 .0 .1, c .before .loop-test .taken), (P .1 .1 .1 .1, omega arith)))))
+tables-answer-requires : tie.Need-tables-answer-requires Inv-loop μ-loop
+tables-answer-requires c κs = let s = c .before .before .before .before .before .before .before .before .before .before .before .before .before in
+    (s .pre .0, (s .pre .1 .0, (s .pre .1 .1 .0, ((s .pre .1 .1 .1 .0 .0, s .pre .1 .1 .1 .0 .1, c .before .loop-test .taken), s .pre .1 .1 .1 .1 .0))))
 
 same-length : tie.Need-same-length Inv-loop μ-loop
-same-length c = omega (arith, c .before .before .before .put-allocation .kept, c .before .before .before .before .before .before .loop .inv .1)
+same-length c = omega (arith, c .before .before .before .before .tables-answer .kept, c .before .before .before .before .before .before .before .loop .inv .1)
 
 returns : tie.Need-returns Inv-loop μ-loop
-returns c = let w = c .before .before .before .before .before .before .before .before .before .before .before .before .before .before .before .before .before .args .words .now in
-    let a = c .before .before .before .before .before .before .loop .a in
-    let l : a < length (allocs w) = omega (arith, c .before .before .before .before .before .loop-test .taken, keys-long w, ap length (c .before .before .before .before .before .before .before .before .before .before .before .before .before .before .before .before .before .pre .1 .1 .1 .0 .0)) in
-    sym (any-stop (longAllocation w) a (length (allocs w)) l (is-long (allocationAnswer w a) (c .before .before .before .put-allocation .ensures .1) (c .if1 .taken))) ∙ c .before .before .before .before .before .before .loop .inv .2
+returns c = let s = c .before .before .before .before .before .before .before .before .before .before .before .before .before .before .before .before .before .before in
+    let w = s .args .words .now in
+    let L = c .before .before .before .before .before .before .before .loop in
+    let l : L .a < length (allocs w) = omega (arith, c .before .before .before .before .before .before .loop-test .taken, keys-long w, ap length (s .pre .1 .1 .1 .0 .0)) in
+    sym (any-stop (longAllocation w) (L .a) (length (allocs w)) l (refused-long (allocationAnswer w (L .a)) (L .out) (L .inv .1 ∙ s .pre .1 .1 .1 .1 .1) (c .before .before .before .before .tables-answer .ensures) (c .if1 .taken))) ∙ L .inv .2
 
 add-a : tie.Need-add-a Inv-loop μ-loop
-add-a c = omega arith
+add-a c = omega (arith, c .before .before .before .before .before .before .loop-test .taken, c .before .before .before .before .before .before .before .before .before .before .before .before .before .before .before .before .before .before .pre .1 .1 .1 .0 .1)
 
 loop-less : tie.Need-loop-less Inv-loop μ-loop
 loop-less c = omega arith
 
 loop-again : tie.Need-loop-again Inv-loop μ-loop
-loop-again c = let w = c .before .before .before .before .before .before .before .before .before .before .before .before .before .before .before .before .before .args .words .now in
-    let a = c .before .before .before .before .before .before .loop .a in
-    let l : a < length (allocs w) = omega (arith, c .before .before .before .before .before .loop-test .taken, keys-long w, ap length (c .before .before .before .before .before .before .before .before .before .before .before .before .before .before .before .before .before .pre .1 .1 .1 .0 .0)) in
-    (omega arith, omega (arith, c .before .before .before .put-allocation .kept, c .before .before .before .before .before .before .loop .inv .1), any-step (longAllocation w) a (length (allocs w)) l (not-long (allocationAnswer w a) (c .before .before .before .put-allocation .ensures .1) (c .if1 .left)) ∙ c .before .before .before .before .before .before .loop .inv .2)
+loop-again c = let s = c .before .before .before .before .before .before .before .before .before .before .before .before .before .before .before .before .before .before in
+    let w = s .args .words .now in
+    let L = c .before .before .before .before .before .before .before .loop in
+    let l : L .a < length (allocs w) = omega (arith, c .before .before .before .before .before .before .loop-test .taken, keys-long w, ap length (s .pre .1 .1 .1 .0 .0)) in
+    (omega arith, omega (arith, c .before .before .before .before .tables-answer .kept, L .inv .1), any-step (longAllocation w) (L .a) (length (allocs w)) l (answered-short (allocationAnswer w (L .a)) (L .out) (L .inv .1 ∙ s .pre .1 .1 .1 .1 .1) (c .before .before .before .before .tables-answer .ensures) (c .if1 .left)) ∙ L .inv .2)
 
 same-length-2 : tie.Need-same-length-2 Inv-loop μ-loop
 same-length-2 c = c .before .loop .inv .1
@@ -63,7 +66,7 @@ allocation-too-long-spec =
     μ-loop
     loop-holds
     cast-t15
-    put-allocation-requires
+    tables-answer-requires
     same-length
     returns
     add-a

@@ -38,7 +38,7 @@ slice-aggregate-allocation-too-long-2 : tie.Need-slice-aggregate-allocation-too-
 slice-aggregate-allocation-too-long-2 c = search needs
 
 allocation-too-long-requires : tie.Need-allocation-too-long-requires
-allocation-too-long-requires c κs = let P = c .before .before .before .before .before .before .before .before .before .before .before .before .before .before .before .before .before .before .before .before .before .pre in (P .0, ((P .1 .0 .0, P .1 .0 .2), ((P .1 .1 .0 .1 .exits-long, P .1 .1 .0 .1 .exit-rows, c .before .before .before .before .before .before .before .before .end-sets .ensures), (P .1 .1 .1 .0, P .1 .1 .1 .1))))
+allocation-too-long-requires c κs = let P = c .before .before .before .before .before .before .before .before .before .before .before .before .before .before .before .before .before .before .before .before .before .pre in (P .0, ((P .1 .0 .0, P .1 .0 .2), ((P .1 .1 .0 .1 .exits-long, P .1 .1 .0 .1 .exit-rows, c .before .before .before .before .before .before .before .before .end-sets .ensures), (P .1 .1 .1 .0, (P .1 .1 .1 .1, search needs)))))
 
 slice-aggregate-say-refused-2 : tie.Need-slice-aggregate-say-refused-2
 slice-aggregate-say-refused-2 c = search needs

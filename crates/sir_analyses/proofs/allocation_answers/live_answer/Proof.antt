@@ -1,15 +1,8 @@
 -- `live_answer` meets its contract.
 use mathlib.Core.Path.{refl}
 use borrow.Author.Needs.{needs}
-use borrow.Author.Needs.{needs}
 use Rattle.sir_analyses.proofs.allocation_answers.live_answer.Statement.{statement}
 use Rattle.sir_analyses.proofs.allocation_answers.live_answer.Tie as tie
-use Rattle.sir_analyses.proofs.allocation_answers.live_answer.Reads as reads
-use Rattle.sir_analyses.proofs.allocation_answers.live_answer.Lts as lts
-use Rattle.sir_analyses.proofs.allocation_answers.record_answer.Reads as record-answer-reads
-use Rattle.sir_analyses.proofs.block_sets.end_sets.Reads as end-sets-reads
-use Rattle.sir_analyses.proofs.block_sets.operand_sets.Reads as operand-sets-reads
-use Rattle.sir_analyses.proofs.local_liveness.live_sets.Reads as live-sets-reads
 
 slice-aggregate-operand-sets : tie.Need-slice-aggregate-operand-sets
 slice-aggregate-operand-sets c = search needs
@@ -36,7 +29,8 @@ slice-aggregate-live-sets-5 : tie.Need-slice-aggregate-live-sets-5
 slice-aggregate-live-sets-5 c = search needs
 
 live-sets-requires : tie.Need-live-sets-requires
-live-sets-requires c κs = (c .before .before .before .before .before .before .before .before .before .before .before .before .before .before .before .before .before .pre .0, (c .before .before .before .before .before .before .before .before .before .before .before .before .before .before .before .before .before .pre .1 .0, (c .before .before .before .before .before .before .before .operand-sets .ensures, (refl, refl, refl))))
+live-sets-requires c κs = let s = c .before .before .before .before .before .before .before .before .before .before .before .before .before .before .before in
+    (s .pre .0, (s .pre .1 .0, (c .before .before .before .before .before .before .before .operand-sets .ensures, (refl, refl, refl))))
 
 slice-aggregate-end-sets : tie.Need-slice-aggregate-end-sets
 slice-aggregate-end-sets c = search needs
@@ -57,9 +51,9 @@ slice-aggregate-record-answer-4 : tie.Need-slice-aggregate-record-answer-4
 slice-aggregate-record-answer-4 c = search needs
 
 record-answer-requires : tie.Need-record-answer-requires
-record-answer-requires c κs = let s = c .before .before .before .before .before .before .before .before .before .before .before .before .before .before .before .before .before .before .before .before .before .before .before .before .before .before .before .before .before in
+record-answer-requires c κs = let s = c .before .before .before .before .before .before .before .before .before .before .before .before .before .before .before .before .before .before .before .before .before .before .before .before .before .before .before in
     let l = c .before .before .before .before .before .before .before .before .before .before .before .live-sets .ensures .1 in
-    (s .pre .0, ((s .pre .1 .0 .0, c .before .before .before .before .before .before .before .before .before .before .before .before .before .before .before .before .before .before .before .operand-sets .ensures), ((l .exits-long, l .exit-rows, c .before .before .before .before .before .before .end-sets .ensures), (s .pre .1 .1 .0, s .pre .1 .1 .1))))
+    (s .pre .0, ((s .pre .1 .0 .0, c .before .before .before .before .before .before .before .before .before .before .before .before .before .before .before .before .before .before .before .operand-sets .ensures), ((l .exits-long, l .exit-rows, c .before .before .before .before .before .before .end-sets .ensures), s .pre .1 .1)))
 
 same-length : tie.Need-same-length
 same-length c = search needs

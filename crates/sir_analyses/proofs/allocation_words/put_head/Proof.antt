@@ -1,21 +1,10 @@
 -- `put_head` meets its contract.
-use mathlib.Core.Path.{refl, ap, _∙_}
-use mathlib.Core.List.{List, [], _∷_, _++_}
-use Prim.Native.Nat.{ℕ, _/_, _%_}
-use lib.ListN.{getD}
-use borrow.Author.Needs.{needs}
-use Rattle.sir_data.specs.Records.{outs}
+use mathlib.Core.Path.{_∙_}
 use Rattle.sir_analyses.proofs.Writing.{puts-as}
 use Rattle.sir_analyses.proofs.AllocationWords.{head-made}
 use borrow.Author.Needs.{needs}
 use Rattle.sir_analyses.proofs.allocation_words.put_head.Statement.{statement}
 use Rattle.sir_analyses.proofs.allocation_words.put_head.Tie as tie
-use Rattle.sir_analyses.proofs.allocation_words.put_head.Reads as reads
-use Rattle.sir_analyses.proofs.allocation_words.put_head.Lts as lts
-use Rattle.sir_analyses.proofs.allocation_liveness.base_ptr.Reads as base-ptr-reads
-use Rattle.sir_analyses.proofs.allocation_words.alloc_kind.Reads as alloc-kind-reads
-use Rattle.sir_analyses.proofs.allocation_words.kind_words.Reads as kind-words-reads
-use Rattle.sir_analyses.proofs.answers.put_words.Reads as put-words-reads
 
 base-ptr-requires : tie.Need-base-ptr-requires
 base-ptr-requires c κs = search needs

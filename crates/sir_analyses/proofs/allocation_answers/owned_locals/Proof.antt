@@ -1,9 +1,8 @@
 -- `owned_locals` meets its contract. The invariant: those below v are added.
-use mathlib.Core.Path.{_≡_, refl, sym, ap, _∙_, subst}
+use mathlib.Core.Path.{_≡_, sym, ap, _∙_, subst}
 use mathlib.Core.Logic.{⊎-elim}
-use mathlib.Core.Bool.{Bool, true, false}
-use mathlib.Core.List.{List}
-use Prim.Native.Nat.{ℕ, _+_, _-_, _≤_, _<_}
+use mathlib.Core.Bool.{Bool}
+use Prim.Native.Nat.{ℕ, _+_, _-_, _≤_}
 use native.Mathlib.Omega.{arith}
 use lib.ListN.{length, getD}
 use lib.Dec.{eqb}
@@ -11,9 +10,8 @@ use borrow.Author.Tests.{eq-eqb, ne-eqb}
 use Rattle.sir_data.specs.Records.{locals}
 use Rattle.plank_core.specs.DenseIndexSet.{added}
 use Rattle.sir_analyses.proofs.AllocationWords.{Below, below-none, below-more, below-on}
-use borrow.Author.Needs.{needs}
-use Rattle.sir_analyses.proofs.allocation_words.owned_locals.Statement.{statement}
-use Rattle.sir_analyses.proofs.allocation_words.owned_locals.Tie as tie
+use Rattle.sir_analyses.proofs.allocation_answers.owned_locals.Statement.{statement}
+use Rattle.sir_analyses.proofs.allocation_answers.owned_locals.Tie as tie
 
 abbrev Inv-loop : tie.InvT-loop
 Inv-loop words owner a set₀ count v₀ set v = (v ≤ count) × (length set ≡ 8) × Below (λ u. eqb (getD owner u 0) (a .0 + 1)) v set
