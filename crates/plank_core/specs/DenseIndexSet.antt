@@ -1,14 +1,14 @@
 -- Sets of numbers below 512 in eight words of 64 digits, and tables of such sets, one row of eight words after the other.
 -- A set is what `contains` says of each number; row r of a table holds i where the table holds 512 * r + i.
--- Assumes nothing.
-use mathlib.Core.Bool.{Bool, true, false, not, _&&_, _||_, cond}
-use mathlib.Core.List.{List, [], _∷_, map}
+-- Used by inner contracts; no exported promise speaks of it.
+use mathlib.Core.Bool.{Bool, false, not, _&&_, _||_, cond}
+use mathlib.Core.List.{List, map}
 use Prim.Native.Nat.{ℕ, zero, suc, _+_, _*_, _/_, _%_, _^_}
 use lib.ListN.{length, getD, take, drop}
 use lib.Dec.{eqb}
-use Rattle.plank_core.specs.Lists.{upto, any, keep}
+use Rattle.plank_core.specs.Lists.{upto, all, any, keep, distinct}
 
--- binary digit k of a word
+-- is binary digit k of a word 1?
 unfoldable pub bit : ℕ → ℕ → Bool
 bit w k = eqb (w / 2 ^ k % 2) 1
 
@@ -29,20 +29,23 @@ setOf m p = map (λ j. wordOf 64 (λ k. p (64 * j + k))) (upto m)
 unfoldable pub emptySet : List ℕ
 emptySet = setOf 8 (λ n. false)
 
+-- a set or table with the number i added
 unfoldable pub added : List ℕ → ℕ → List ℕ
 added ws i = setOf (length ws) (λ n. eqb n i || contains ws n)
 
+-- a set or table with the number i taken out
 unfoldable pub removed : List ℕ → ℕ → List ℕ
 removed ws i = setOf (length ws) (λ n. not (eqb n i) && contains ws n)
 
--- what row r of a table has to do with: the numbers 512 * r to 512 * r + 511
+-- is n one of the numbers of row r, 512 * r to 512 * r + 511?
 abbrev pub inRow : ℕ → ℕ → Bool
 inRow r n = eqb (n / 512) r
 
--- a table with the members of the set s added to its row r, and with them taken out of it
+-- a table with the members of the set s added to its row r
 unfoldable pub rowUnion : List ℕ → ℕ → List ℕ → List ℕ
 rowUnion ws r s = setOf (length ws) (λ n. contains ws n || (inRow r n && contains s (n % 512)))
 
+-- a table with the members of the set s taken out of its row r
 unfoldable pub rowDifference : List ℕ → ℕ → List ℕ → List ℕ
 rowDifference ws r s = setOf (length ws) (λ n. contains ws n && not (inRow r n && contains s (n % 512)))
 
@@ -54,6 +57,7 @@ grows ws r s = any (λ n. contains s n && not (contains ws (512 * r + n))) (upto
 unfoldable pub rowOf : List ℕ → ℕ → List ℕ
 rowOf ws r = take 8 (drop (8 * r) ws)
 
+-- has the set no member?
 unfoldable pub isEmpty : List ℕ → Bool
 isEmpty s = not (any (contains s) (upto 512))
 
@@ -69,6 +73,10 @@ members s = keep (contains s) (upto 512)
 unfoldable pub lowest : List ℕ → ℕ
 lowest s = getD (members s) 0 512
 
--- how many members a table has in all
-unfoldable pub size : List ℕ → ℕ
-size ws = length (keep (contains ws) (upto (64 * length ws)))
+-- is none of these numbers in the set s?
+abbrev pub outside : List ℕ → List ℕ → Bool
+outside s xs = all (λ x. not (contains s x)) xs
+
+-- is none of these numbers in the set s, and no two of them equal?
+abbrev pub fresh : List ℕ → List ℕ → Bool
+fresh s xs = outside s xs && distinct xs

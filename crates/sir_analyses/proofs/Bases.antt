@@ -8,11 +8,11 @@ use native.Mathlib.Omega.{arith}
 use lib.ListN.{length, getD, replicate}
 use lib.Dec.{eqb}
 use Rattle.plank_core.specs.Lists.{range, bind, keep, all, mem, distinct, _∈_}
-use Rattle.plank_core.specs.DenseIndexSet.{contains, wordOf, setOf, emptySet, added}
+use Rattle.plank_core.specs.DenseIndexSet.{contains, wordOf, setOf, emptySet, added, fresh}
 use Rattle.plank_core.specs.laws.DenseIndexSet.{contains-added, length-added}
 use Rattle.plank_core.specs.laws.Lists.{map-each, keep-out, bind-out, getD-mem, none}
 use Rattle.plank_core.specs.laws.Loops.{range-next, range-none, map-append}
-use Rattle.plank_core.specs.laws.Distinct.{fresh, fresh-all, fresh-step}
+use Rattle.plank_core.specs.laws.Distinct.{fresh-all, fresh-step}
 use Rattle.sir_data.specs.Records.{blocks, operations, ops, code, outs}
 use Rattle.sir_data.specs.Codes.{isAlloc}
 use Rattle.sir_data.specs.WellFormed.{WellFormed}

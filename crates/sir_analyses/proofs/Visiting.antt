@@ -16,7 +16,8 @@ use Rattle.plank_core.specs.laws.Loops.{range-next, range-none, bind-snoc}
 use Rattle.plank_core.specs.DenseIndexSet.{bit, contains, added}
 use Rattle.plank_core.specs.laws.Bits.{bit-of-zero}
 use Rattle.plank_core.specs.laws.DenseIndexSet.{contains-added, length-added}
-use Rattle.sir_data.specs.Records.{functions, blocks, operations, optional, initFunction, mainPlusOne, entryBlock, ops, successors, code, extra, isCall, callees}
+use Rattle.sir_data.specs.Records.{functions, blocks, operations, optional, initFunction, mainPlusOne, entryBlock, ops, successors, code, extra, callees}
+use Rattle.sir_data.specs.Codes.{isCall}
 use Rattle.sir_data.specs.WellFormed.{Sized, InRange, WellFormed}
 use Rattle.sir_analyses.specs.Order.{Visit, start, seeFunction, seeBlock, finishFunction, finishBlock, visitFunction, visitBlock}
 use Rattle.sir_analyses.specs.Visiting.{blockKey, keyedBlock, keyedFunction, Shows, missing, unseen, Held, Went, VisitedAll}

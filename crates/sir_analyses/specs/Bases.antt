@@ -6,8 +6,7 @@ use mathlib.Core.List.{List, map}
 use Prim.Native.Nat.{ℕ, _<_}
 use lib.ListN.{length, getD}
 use Rattle.plank_core.specs.Lists.{keep, mem}
-use Rattle.plank_core.specs.DenseIndexSet.{contains}
-use Rattle.plank_core.specs.laws.Distinct.{fresh}
+use Rattle.plank_core.specs.DenseIndexSet.{contains, fresh}
 use Rattle.sir_data.specs.Records.{ops, code, outs}
 use Rattle.sir_data.specs.Codes.{isAlloc}
 

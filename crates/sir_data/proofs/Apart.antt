@@ -5,7 +5,6 @@
 --     view, read       a method's parameters and the callee's, at the result's slot R
 --     through c        the method's clauses, by the callee's
 --     method-spec      the method meets them, where the callee meets c
--- Assumes nothing.
 use mathlib.Core.Path.{_≡_, refl, subst}
 use mathlib.Core.List.{List, [], _∷_}
 use lib.Dec.{T as Holds}

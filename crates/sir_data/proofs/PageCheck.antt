@@ -1,4 +1,4 @@
--- The page check by two running sums. Assumes nothing.
+-- The page check by two running sums.
 use mathlib.Core.Path.{_≡_, refl, sym, ap, _∙_}
 use Prim.Native.Nat.{ℕ, zero, suc, _+_, _-_, _*_, _%_, _^_, _≤_, _<_}
 use mathlib.Core.List.{map}

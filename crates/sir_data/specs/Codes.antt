@@ -1,15 +1,37 @@
--- What document 01 says of each operation code. Assumes nothing.
-use mathlib.Core.Bool.{Bool, true, false, not, _&&_, _||_, cond}
-use Prim.Native.Nat.{ℕ, zero, suc, _+_, _-_, _*_, _/_, _%_}
-use mathlib.Core.List.{List, [], _∷_, _++_, map}
-use lib.ListN.{length, getD}
-use lib.Dec.{eqb, leb, ltb}
+-- The tables by operation code (document 01, "The image" and "Rules of the analyses"): calls, allocations, operand counts,
+-- deriving codes, escaping inputs.
+use mathlib.Core.Bool.{Bool, true, _&&_, _||_, cond}
+use Prim.Native.Nat.{ℕ, _+_, _-_}
+use mathlib.Core.List.{[], _∷_}
+use lib.Dec.{eqb, leb}
 use Rattle.plank_core.specs.Lists.{mem}
 
+-- is c one of the codes lo to hi, both counted?
 abbrev pub between : ℕ → ℕ → ℕ → Bool
 between lo hi c = leb lo c && leb c hi
 
--- the operand counts of a code, (inputs, outputs), where they are fixed
+-- a call: `InternalCall` 25, `InternalCallNever` 26
+abbrev pub isCall : ℕ → Bool
+isCall c = eqb c 25 || eqb c 26
+
+-- a static allocation: `StaticAllocZeroed` 82, `StaticAllocAnyBytes` 83
+abbrev pub isStaticAlloc : ℕ → Bool
+isStaticAlloc c = eqb c 82 || eqb c 83
+
+-- a dynamic allocation: `DynamicAllocZeroed` 21, `DynamicAllocAnyBytes` 22
+abbrev pub isDynamicAlloc : ℕ → Bool
+isDynamicAlloc c = eqb c 21 || eqb c 22
+
+-- an allocation operation, static or dynamic
+abbrev pub isAlloc : ℕ → Bool
+isAlloc c = isStaticAlloc c || isDynamicAlloc c
+
+-- the codes that take nothing and give one local (0→1)
+abbrev pub noneToOne : ℕ → Bool
+noneToOne c = between 53 70 c || between 81 83 c || between 86 88 c || between 90 92 c
+
+-- the operand counts of a code, inputs and outputs, where they are fixed: 71 to 75 are Log0 to Log4, and the last line is for
+-- 25, 26 and numbers that are no code
 abbrev pub arity : ℕ → ℕ × ℕ
 arity c =
     cond (eqb c 0 || between 27 33 c || between 36 42 c || between 44 46 c || between 48 51 c) (2, 1)
@@ -24,28 +46,21 @@ arity c =
     (cond (between 71 75 c) (2 + (c - 71), 0)
     (cond (eqb c 80) (1, 0)
     (cond (mem c (77 ∷ 79 ∷ 89 ∷ [])) (0, 0)
-    (0, 1))))))))))))
+    (cond (noneToOne c) (0, 1)
+    (0, 0)))))))))))))
 
--- are these operand counts right for the code? 25 takes any to any, 26 any to 0
+-- are these operand counts right for the code? any→any for 25, any→0 for 26
 abbrev pub arityOk : ℕ → ℕ → ℕ → Bool
 arityOk c i o =
     cond (eqb c 25) true
     (cond (eqb c 26) (eqb o 0)
     (eqb i (arity c .0) && eqb o (arity c .1)))
 
-abbrev pub isStaticAlloc : ℕ → Bool
-isStaticAlloc c = eqb c 82 || eqb c 83
-
-abbrev pub isDynamicAlloc : ℕ → Bool
-isDynamicAlloc c = eqb c 21 || eqb c 22
-
-abbrev pub isAlloc : ℕ → Bool
-isAlloc c = isStaticAlloc c || isDynamicAlloc c
-
+-- the deriving codes: 27 to 37, 44 to 51, `SetCopy` 85
 abbrev pub derives : ℕ → Bool
 derives c = between 27 37 c || between 44 51 c || eqb c 85
 
--- is input position k of the code an escaping operand?
+-- is the input at position k, from 0, an escaping operand of the code? The last line has the codes with all inputs escaping
 abbrev pub escaping : ℕ → ℕ → Bool
 escaping c k =
     cond (eqb c 0 || eqb c 24) (eqb k 1)

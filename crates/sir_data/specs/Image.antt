@@ -1,4 +1,4 @@
--- What reading an image into words gives: the lowest refusal of 1 to 11, and the payload words. Assumes nothing.
+-- What reading an image into words gives. Used by inner contracts; no exported promise speaks of it.
 use mathlib.Core.Path.{_≡_}
 use mathlib.Core.List.{List, _++_}
 use Prim.Native.Nat.{ℕ}
@@ -6,6 +6,7 @@ use lib.ListN.{length, drop}
 use Rattle.sir_data.specs.Pages.{payload}
 use Rattle.sir_data.specs.Rules.{first, pageRules, recordRules}
 
+-- image s read into the slice `old`, which is `new` after it: r is the lowest refusal of 1 to 11, or 0
 pub record Read (s old new : List ℕ) (r : ℕ) : Type 0 where
   pub number : r ≡ first (pageRules s ++ recordRules (payload s))
   -- pages in order: the payload stands at the front

@@ -1,6 +1,5 @@
--- What acceptance gives the readers of an image: `Sized` holds where rules 5 and 6 are kept, `InRange` where 7 and 8 are kept
--- too, and `WellFormed` where no record rule is broken (laws.WellFormed).
--- Assumes nothing.
+-- What acceptance gives the readers of an image, as laws.WellFormed proves it. Used by inner contracts; no exported promise
+-- speaks of it.
 use mathlib.Core.Path.{_≡_}
 use mathlib.Core.Bool.{true}
 use mathlib.Core.List.{List}
@@ -10,7 +9,7 @@ use Rattle.plank_core.specs.Lists.{distinct, _∈_}
 use Rattle.sir_data.specs.Records.{functions, blocks, operations, operandWords, caseTargets, locals, initFunction, mainPlusOne, wordCount, entryBlock, blockWord, opWord, operand, target, inputs, outputs, ops, control, field, successors, condition, code, ins, outs, callees}
 use Rattle.sir_data.specs.Codes.{arityOk}
 
--- counts within their limits, and all the words that they call for
+-- where refusals 5 and 6 do not apply: counts within their limits, and all the words that they call for
 pub record Sized (w : List ℕ) : Type 0 where
   pub functions-most : functions w ≤ 64
   pub blocks-most : blocks w ≤ 256
@@ -22,7 +21,7 @@ pub record Sized (w : List ℕ) : Type 0 where
   pub blocks-some : 0 < blocks w
   pub size : wordCount w ≤ length w
 
--- known kinds and codes, ranges inside their lists, ids below their counts
+-- where 7 and 8 do not apply either: known kinds and codes, ranges inside their lists, ids below their counts
 pub record InRange (w : List ℕ) : Type 0 where
   pub init : initFunction w < functions w
   pub main : (m : ℕ) → mainPlusOne w ≡ suc m → m < functions w
@@ -46,6 +45,7 @@ pub record InRange (w : List ℕ) : Type 0 where
   pub read : (o v : ℕ) → o < operations w → v ∈ ins w o → v < locals w
   pub written : (o v : ℕ) → o < operations w → v ∈ outs w o → v < locals w
 
+-- where none of 4 to 11 applies
 pub record WellFormed (w : List ℕ) : Type 0 where
   pub sized : Sized w
   pub in-range : InRange w

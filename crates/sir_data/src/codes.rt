@@ -1,8 +1,7 @@
 // What each operation code says of its operation, in tables by code.
 ghost use mathlib.Core.Path.{_≡_};
 ghost use Prim.Native.Nat.{_<_, _≤_};
-ghost use Rattle.sir_data.specs.Codes.{arityOk, isStaticAlloc, isDynamicAlloc, isAlloc, derives, escaping};
-ghost use Rattle.sir_data.specs.Records.{isCall};
+ghost use Rattle.sir_data.specs.Codes.{arityOk, isCall, isStaticAlloc, isDynamicAlloc, isAlloc, derives, escaping};
 
 // How many inputs the code takes, where that is fixed.
 const INPUTS: [usize; 93] = [
@@ -128,8 +127,8 @@ const OUTPUTS: [usize; 93] = [
     1, // DynamicAllocAnyBytes
     0, // MemoryCopy
     0, // MemoryStore
-    1, // InternalCall
-    1, // InternalCallNever
+    0, // InternalCall
+    0, // InternalCallNever
     1, // Add
     1, // Mul
     1, // Sub

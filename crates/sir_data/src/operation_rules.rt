@@ -16,8 +16,8 @@ ghost use Prim.Native.Nat.{_+_, _<_};
 ghost use lib.Dec.{eqb, ltb};
 ghost use lib.ListN.{length};
 ghost use Rattle.plank_core.specs.Lists.{all, upto};
-ghost use Rattle.sir_data.specs.Records.{operations, operandWords, functions, opWord, code, ins, outs, extra, isCall};
-ghost use Rattle.sir_data.specs.Codes.{arityOk, isStaticAlloc};
+ghost use Rattle.sir_data.specs.Records.{operations, operandWords, functions, opWord, code, ins, outs, extra};
+ghost use Rattle.sir_data.specs.Codes.{arityOk, isCall, isStaticAlloc};
 ghost use Rattle.sir_data.specs.Rules.{rangeOk, opFieldsOk, opIdsOk, rule9};
 ghost use Rattle.sir_data.specs.WellFormed.{Sized, InRange};
 

@@ -1,7 +1,7 @@
 // An image's pages: 512 bytes each, word 0 the page number, words 1 to 126 payload, word 127 the check.
 ghost use mathlib.Core.Path.{_≡_};
 ghost use mathlib.Core.List.{_++_, map};
-ghost use Prim.Native.Nat.{ℕ, _+_, _*_, _≤_, _<_};
+ghost use Prim.Native.Nat.{_+_, _*_, _≤_, _<_};
 ghost use lib.ListN.{length, drop};
 ghost use Rattle.plank_core.specs.Lists.{upto};
 ghost use Rattle.sir_data.specs.Pages.{wordAt, pages, pageWord, checkOf, payload, badLength, badNumber, badCheck};
@@ -14,15 +14,15 @@ fn wide(x: u8) -> u32
     x as u32
 }
 
-// Word i, little-endian.
-fn word_at(image: &[u8], i: usize) -> u32
-    requires { ⌜ 4 * i + 4 ≤ length (now image) ⌝ }
-    ensures { λ r. ⌜ r ≡ wordAt (now (image .entry)) i ⌝ }
+// Word i of some bytes, little-endian.
+pub fn word_at(bytes: &[u8], i: usize) -> u32
+    requires { ⌜ 4 * i + 4 ≤ length (now bytes) ⌝ }
+    ensures { λ r. ⌜ r ≡ wordAt (now (bytes .entry)) i ⌝ }
 {
-    wide(image[4 * i])
-        + 256 * wide(image[4 * i + 1])
-        + 65536 * wide(image[4 * i + 2])
-        + 16777216 * wide(image[4 * i + 3])
+    wide(bytes[4 * i])
+        + 256 * wide(bytes[4 * i + 1])
+        + 65536 * wide(bytes[4 * i + 2])
+        + 16777216 * wide(bytes[4 * i + 3])
 }
 
 // The check of a page by two running sums: twice the sum of the sums so far, less the sum, weighs the words 253, 251, .., 1.

@@ -1,5 +1,4 @@
 // The records of an image, read from its payload words.
-use crate::codes::is_call;
 use plank_core::index::BlockId;
 use plank_core::index::FunctionId;
 use plank_core::index::LocalId;
@@ -10,19 +9,13 @@ ghost use Prim.Native.Nat.{_<_, _≤_};
 ghost use mathlib.Core.Bool.{_||_};
 ghost use lib.Dec.{eqb};
 ghost use lib.ListN.{length, getD};
-ghost use Rattle.sir_data.specs.Records.{functions, blocks, operations, operandWords, caseTargets, locals, initFunction, mainPlusOne, blocksAt, operationsAt, operandsAt, targetsAt, entryBlock, blockWord, opWord, operand, target, run, inputs, outputs, control, successors, condition, returned, ins, outs, callees};
-ghost use Rattle.sir_data.specs.Cases.{testedLocals, calledFunctions};
+ghost use Rattle.sir_data.specs.Records.{functions, blocks, operations, operandWords, caseTargets, locals, initFunction, mainPlusOne, blocksAt, operationsAt, operandsAt, targetsAt, entryBlock, blockWord, opWord, target, run, inputs, outputs, control, successors, condition, returned, ins, outs};
+ghost use Rattle.sir_data.specs.Cases.{testedLocals};
 ghost use Rattle.sir_data.specs.WellFormed.{Sized, InRange};
 
 // The local that a block's control tests, if it tests one.
 pub enum Tested {
     Local(LocalId),
-    Nothing,
-}
-
-// The function that an operation calls, if it calls one.
-pub enum Called {
-    Function(FunctionId),
     Nothing,
 }
 
@@ -151,15 +144,6 @@ pub fn op_word(words: &[u32], o: OpIdx, k: usize) -> u32
     words[operations_at(words) + 7 * (o.0 as usize) + k]
 }
 
-// Operand word i.
-pub fn operand(words: &[u32], i: usize) -> u32
-    requires { ⌜ Sized (now words) ⌝ }
-    requires { ⌜ i < operandWords (now words) ⌝ }
-    ensures { λ r. ⌜ r ≡ operand (now (words .entry)) i ⌝ }
-{
-    words[operands_at(words) + i]
-}
-
 // Case target i.
 pub fn target(words: &[u32], i: usize) -> u32
     requires { ⌜ Sized (now words) ⌝ }
@@ -228,10 +212,7 @@ pub fn block_operations(words: &[u32], b: BlockId) -> Span
     requires { ⌜ b .0 < blocks (now words) ⌝ }
     ensures { λ r. ⌜ (r .start ≡ blockWord (now (words .entry)) (b .0) 4) × (r .end ≡ blockWord (now (words .entry)) (b .0) 5) ⌝ }
 {
-    Span {
-        start: block_word(words, b, 4),
-        end: block_word(words, b, 5),
-    }
+    Span::new(block_word(words, b, 4), block_word(words, b, 5))
 }
 
 // The kind of a block's control.
@@ -308,19 +289,6 @@ pub fn tested_local(words: &[u32], b: BlockId) -> Tested
         Tested::Local(LocalId(block_word(words, b, 7)))
     } else {
         Tested::Nothing
-    }
-}
-
-// The function that an operation calls.
-pub fn called_function(words: &[u32], o: OpIdx) -> Called
-    requires { ⌜ Sized (now words) ⌝ }
-    requires { ⌜ o .0 < operations (now words) ⌝ }
-    ensures { λ r. ⌜ calledFunctions r ≡ callees (now (words .entry)) (o .0) ⌝ }
-{
-    if is_call(op_word(words, o, 0)) {
-        Called::Function(FunctionId(op_word(words, o, 5)))
-    } else {
-        Called::Nothing
     }
 }
 

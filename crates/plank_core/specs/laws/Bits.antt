@@ -1,5 +1,5 @@
--- Laws of the binary digits of a number. Assumes nothing.
-use mathlib.Core.Path.{_≡_, refl, sym, ap, ap₂, _∙_}
+-- Laws of the binary digits of a number.
+use mathlib.Core.Path.{_≡_, refl, sym, ap, _∙_}
 use mathlib.Core.Logic.{_⊎_, inl, inr, ⊎-elim}
 use mathlib.Core.Bool.{Bool, true, false, not, _&&_, _||_, cond}
 use Prim.Native.Nat.{ℕ, zero, suc, _+_, _-_, _*_, _/_, _%_, _^_, _≤_, _<_, min, max}
@@ -8,9 +8,8 @@ use native.Mathlib.Omega.{arith}
 use lib.Dec.{eqb, lit<, eqb·zero-suc, eqb·suc-zero, eqb·suc-suc}
 use lib.Arith.{digits-mod, digits-div}
 use lib.Bits.{bitAnd, bitOr, and-mask, and-step, or-step, and-le-r}
-use lib.Count.{trailingZeros, under}
+use lib.Count.{trailingZeros}
 use lib.Pow.{pow-lt}
-use borrow.Author.Tests.{eq-eqb, ne-eqb, eqb-true, eqb-false}
 use Rattle.plank_core.specs.DenseIndexSet.{bit, wordOf}
 
 -- ---- one digit: bit w k is digit k of w, as a test
@@ -173,17 +172,6 @@ tz-set (suc k) w p l =
     ⊎-elim
     (λ (e : w % 2 ≡ 0). let q : 2 ^ suc k ≡ 2 ^ k * 2 = pow-suc 2 k in rw (e, bit-suc) (tz-set k (w / 2) (omega arith) (omega arith)))
     (λ (e : w % 2 ≡ 1). rw (e, bit-zero, e))
-    (two (w % 2) (omega arith))
-
-pub tz-clear : (k w j : ℕ) → j < trailingZeros k w → bit w j ≡ false
-unfolding trailingZeros
-tz-clear zero w j h = absurd (omega arith)
-tz-clear (suc k) w zero h =
-    ⊎-elim (λ (e : w % 2 ≡ 0). rw (bit-zero, e)) (λ (e : w % 2 ≡ 1). absurd (let g : 0 < 0 = rw e at h in omega arith)) (two (w % 2) (omega arith))
-tz-clear (suc k) w (suc j) h =
-    ⊎-elim
-    (λ (e : w % 2 ≡ 0). let g : suc j < suc (trailingZeros k (w / 2)) = rw e at h in rw bit-suc (tz-clear k (w / 2) j (omega arith)))
-    (λ (e : w % 2 ≡ 1). absurd (let g : suc j < 0 = rw e at h in omega arith))
     (two (w % 2) (omega arith))
 
 pub tz-lt : (k m w : ℕ) → 0 < w → w < 2 ^ m → m ≤ k → trailingZeros k w < m

@@ -1,23 +1,23 @@
--- Laws of sets and of tables of sets: what each contains after an operation, other rows untouched, growth. Assumes nothing.
-use mathlib.Core.Path.{_≡_, refl, sym, ap, ap₂, _∙_, subst}
-use mathlib.Core.Logic.{_⊎_, inl, inr, ⊎-elim}
+-- Laws of sets and of tables of sets: what each contains after an operation, other rows untouched, whether a row grows.
+use mathlib.Core.Path.{_≡_, refl, sym, ap, ap₂, _∙_}
+use mathlib.Core.Logic.{⊎-elim}
 use mathlib.Core.Bool.{Bool, true, false, not, _&&_, _||_, cond, or-false, or-comm, and-comm}
-use mathlib.Core.List.{List, [], _∷_, map}
+use mathlib.Core.List.{List}
 use Prim.Native.Nat.{ℕ, zero, suc, _+_, _-_, _*_, _/_, _%_, _^_, _≤_, _<_}
 use native.Mathlib.Nat.{pos-of-ne-zero, le-refl}
 use native.Mathlib.Numerals.{add-one}
 use native.Mathlib.Omega.{arith}
-use lib.ListN.{length, getD, set, take, drop, replicate, length-set, length-drop, List·getD-eq-default}
+use lib.ListN.{length, getD, set, drop, replicate, length-set, length-drop, List·getD-eq-default}
 use lib.Seq.{getD-set-same, getD-set-other, getD-take, getD-drop, ext-getD, set-out, length-take-le}
 use lib.Dec.{eqb}
 use lib.Bits.{bitAnd, bitOr, or-lt, and-le-l}
 use lib.Pow.{pow-lt}
 use lib.Count.{trailingZeros}
 use borrow.Author.Tests.{eq-eqb, ne-eqb, eqb-true, eqb-false, not-true, not-false}
-use Rattle.plank_core.specs.Lists.{count, upto, any, keep}
-use Rattle.plank_core.specs.DenseIndexSet.{bit, contains, wordOf, setOf, emptySet, added, removed, inRow, rowUnion, rowDifference, grows, rowOf, isEmpty, size}
-use Rattle.plank_core.specs.laws.Lists.{split, bool-or, any-some, any-none, any-find, any-not, and-true-left, and-true-right, or-true-right, keep-most, keep-lt, count-mem, none}
-use Rattle.plank_core.specs.laws.Loops.{upto-more, any-append, length-map-upto, getD-map-upto, length-count}
+use Rattle.plank_core.specs.Lists.{upto, any}
+use Rattle.plank_core.specs.DenseIndexSet.{bit, contains, wordOf, setOf, emptySet, added, removed, inRow, rowUnion, rowDifference, grows, rowOf, isEmpty}
+use Rattle.plank_core.specs.laws.Lists.{split, bool-or, any-some, any-none, any-find, any-not}
+use Rattle.plank_core.specs.laws.Loops.{upto-more, any-append, length-map-upto, getD-map-upto}
 use Rattle.plank_core.specs.laws.Bits.{bit-or, bit-and, bit-not, bit-pow, bit-of-zero, bit-ext, wordOf-lt, bit-wordOf, tz-lt, tz-set}
 
 -- every word has at most 64 digits
@@ -419,50 +419,3 @@ module _ (ws : List ℕ) where
       let q : (512 * r + n) / 64 ≡ 8 * r + n / 64 = omega arith in
       let e : (512 * r + n) % 64 ≡ n % 64 = omega arith in
       rw (q, e, getD-take 8 (drop (8 * r) ws) (n / 64) 0 (omega arith), getD-drop (8 * r) ws (n / 64) 0)
-
--- ---- growth, so that a loop that adds comes to an end
-
-pub size-most : (ws : List ℕ) → size ws ≤ 64 * length ws
-unfolding size
-size-most ws = omega (arith, keep-most (contains ws) (upto (64 * length ws)), length-count 0 (64 * length ws))
-
-more : (ws vs : List ℕ) (i : ℕ) → length vs ≡ length ws → i < 64 * length ws → ((n : ℕ) → contains ws n ≡ true → contains vs n ≡ true) → contains ws i ≡ false → contains vs i ≡ true → size ws < size vs
-unfolding size
-more ws vs i l h up a b = rw l (keep-lt (contains ws) (contains vs) i up a b (count-mem i 0 (64 * length ws) (omega arith) (omega arith)))
-
--- a member lies within the words
-within : (ws : List ℕ) (n : ℕ) → contains ws n ≡ true → n < 64 * length ws
-within ws n h = ⊎-elim (λ (l : n < 64 * length ws). l) (λ (l : 64 * length ws ≤ n). none (contains ws n) h (contains-past ws n l)) (split n (64 * length ws))
-
-pub added-grows : (ws : List ℕ) (i : ℕ) → i < 64 * length ws → contains ws i ≡ false → size ws < size (added ws i)
-added-grows ws i h a =
-    more ws (added ws i) i (length-added ws i) h
-    (λ n t. contains-added ws i n (within ws n t) ∙ or-true-right (eqb n i) (contains ws n) t) a
-    (contains-added ws i i h ∙ rw (eq-eqb i i refl))
-
-pub union-keeps : (ws : List ℕ) (r : ℕ) (s : List ℕ) (n : ℕ) → contains ws n ≡ true → contains (rowUnion ws r s) n ≡ true
-unfolding rowUnion
-union-keeps ws r s n t = contains-setOf (length ws) n _ (within ws n t) ∙ rw t
-
-pub union-grows : (ws : List ℕ) (r : ℕ) (s : List ℕ) → 8 * r + 8 ≤ length ws → grows ws r s ≡ true → size ws < size (rowUnion ws r s)
-unfolding grows
-union-grows ws r s l g =
-    let w = any-find (lacked ws r s) 0 512 g in
-    let i : ℕ = w .0 in
-    let a : contains ws (512 * r + i) ≡ false = not-true _ (and-true-right (contains s i) _ (w .3)) in
-    more ws (rowUnion ws r s) (512 * r + i) (length-union ws r s) (omega (arith, w .2)) (union-keeps ws r s) a
-    (contains-union ws r s r i (w .2) l ∙ rw (a, eq-eqb r r refl, and-true-left (contains s i) (not (contains ws (512 * r + i))) (w .3)))
-
--- what does not grow stays as it was
-pub union-same : (ws : List ℕ) (r : ℕ) (s : List ℕ) → Fit ws → grows ws r s ≡ false → rowUnion ws r s ≡ ws
-unfolding rowUnion grows
-union-same ws r s fit g = sym (is-setOf ws (length ws) _ refl fit (λ n h. by n (inRow r n) refl))
-  where
-    by : (n : ℕ) (t : Bool) → inRow r n ≡ t → contains ws n ≡ (contains ws n || (inRow r n && contains s (n % 512)))
-    by n true e =
-        let q : n / 512 ≡ r = eqb-true (n / 512) r e in
-        let m : 512 * r + n % 512 ≡ n = omega arith in
-        let d : lacked ws r s (n % 512) ≡ false = any-not (lacked ws r s) 0 512 (n % 512) g (omega arith) (omega arith) in
-        let f : (contains s (n % 512) && not (contains ws n)) ≡ false = rw m at d in
-        rw e (sym (or-of-not (contains ws n) (contains s (n % 512)) f))
-    by n false e = rw e (sym (or-false (contains ws n)))

@@ -1,5 +1,5 @@
--- Whether numbers are distinct, found in one pass with a set of those passed: `fresh` says that those left are distinct and
--- not in the set, and a step moves the next number into the set. Assumes nothing.
+-- Laws of `fresh`: whether numbers are distinct, found in one pass with a set of those passed. Those left are fresh, and a step
+-- moves the next number into the set.
 use mathlib.Core.Path.{_≡_, refl, sym, _∙_}
 use mathlib.Core.Bool.{Bool, true, false, not, _&&_, _||_, and-assoc, and-false}
 use mathlib.Core.List.{List, [], _∷_, List·Memᴰ·head, List·Memᴰ·tail}
@@ -7,19 +7,11 @@ use Prim.Native.Nat.{ℕ, _+_, _*_, _≤_, _<_}
 use lib.ListN.{length, getD, drop, drop-of-length-le}
 use lib.Dec.{eqb}
 use borrow.Author.Tests.{eq-eqb, ne-eqb, eqb-true, eqb-false}
-use Rattle.plank_core.specs.Lists.{all, mem, distinct, _∈_}
-use Rattle.plank_core.specs.DenseIndexSet.{contains, emptySet, added}
+use Rattle.plank_core.specs.Lists.{mem, distinct, _∈_}
+use Rattle.plank_core.specs.DenseIndexSet.{contains, emptySet, added, outside, fresh}
 use Rattle.plank_core.specs.laws.Lists.{drop-mem}
 use Rattle.plank_core.specs.laws.Loops.{drop-next}
 use Rattle.plank_core.specs.laws.DenseIndexSet.{contains-empty, contains-added}
-
--- none of them is in the set s
-abbrev outside : List ℕ → List ℕ → Bool
-outside s xs = all (λ x. not (contains s x)) xs
-
--- none of them is in the set s, and no two of them are equal
-abbrev pub fresh : List ℕ → List ℕ → Bool
-fresh s xs = outside s xs && distinct xs
 
 outside-empty : (xs : List ℕ) → outside emptySet xs ≡ true
 outside-empty [] = refl

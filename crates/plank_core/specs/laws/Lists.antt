@@ -1,4 +1,4 @@
--- Laws of tests and of the small functions on lists. Assumes nothing.
+-- Laws of tests and of the small functions on lists.
 use mathlib.Core.Path.{_≡_, refl, sym, ap, _∙_, subst}
 use mathlib.Core.Logic.{_↔_, ⊎-elim, _⊎_, inl, inr}
 use mathlib.Core.Bool.{Bool, true, false, not, _&&_, _||_, cond}
@@ -363,28 +363,6 @@ pub any-not : (p : ℕ → Bool) (s n i : ℕ) → any p (count s n) ≡ false �
 any-not p s n i h a b = ⊎-elim (λ (e : p i ≡ true). none _ (any-some p s n i a b e) h) (λ (e : p i ≡ false). e) (bool-or (p i))
 
 -- ---- keeping some of a list
-
-keep-length : (t u : Bool) (x : ℕ) (xs ys : List ℕ) → (t ≡ true → u ≡ true) → length xs ≤ length ys → length (cond t (x ∷ xs) xs) ≤ length (cond u (x ∷ ys) ys)
-keep-length true u x xs ys h l = rw (h refl) (omega arith)
-keep-length false true x xs ys h l = omega arith
-keep-length false false x xs ys h l = l
-
--- what keeps more is no shorter, and is longer where it keeps a member that the other leaves
-pub keep-le : (p q : ℕ → Bool) (xs : List ℕ) → ((x : ℕ) → p x ≡ true → q x ≡ true) → length (keep p xs) ≤ length (keep q xs)
-keep-le p q [] h = omega arith
-keep-le p q (x ∷ xs) h = keep-length (p x) (q x) x (keep p xs) (keep q xs) (h x) (keep-le p q xs h)
-
-pub keep-lt : (p q : ℕ → Bool) (x : ℕ) {xs : List ℕ} → ((y : ℕ) → p y ≡ true → q y ≡ true) → p x ≡ false → q x ≡ true → List·Memᴰ x xs → length (keep p xs) < length (keep q xs)
-keep-lt p q x h n y (List·Memᴰ·head {x = z} {xs = xs} e) =
-    let a : p z ≡ false = ap p (sym e) ∙ n in
-    let b : q z ≡ true = ap q (sym e) ∙ y in
-    rw (a, b) (omega (arith, keep-le p q xs h))
-keep-lt p q x h n y (List·Memᴰ·tail {x = z} {xs = xs} m) = go (p z) (q z) (h z) (keep-lt p q x h n y m)
-  where
-    go : (t u : Bool) → (t ≡ true → u ≡ true) → length (keep p xs) < length (keep q xs) → length (cond t (z ∷ keep p xs) (keep p xs)) < length (cond u (z ∷ keep q xs) (keep q xs))
-    go true u g l = rw (g refl) (omega arith)
-    go false true g l = omega arith
-    go false false g l = l
 
 pub keep-most : (p : ℕ → Bool) (xs : List ℕ) → length (keep p xs) ≤ length xs
 keep-most p [] = omega arith

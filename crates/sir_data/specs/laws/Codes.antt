@@ -1,12 +1,11 @@
--- The entries of the tables of `codes`, as functions of the code. Assumes nothing.
+-- The entries of the tables of `codes`, as functions of the code.
 use mathlib.Core.Path.{_≡_}
 use mathlib.Core.Bool.{cond}
 use mathlib.Core.List.{map}
 use Prim.Native.Nat.{ℕ, _*_, _^_, _≤_}
 use native.Mathlib.Omega.{arith}
 use borrow.Author.Tests.{ne-eqb}
-use Rattle.plank_core.specs.Lists.{upto, sum}
-use Rattle.plank_core.specs.Lists.{oneIf}
+use Rattle.plank_core.specs.Lists.{upto, sum, oneIf}
 use Rattle.sir_data.specs.Codes.{isStaticAlloc, isDynamicAlloc, escaping}
 
 -- bit k of the mask for position k

@@ -1,4 +1,4 @@
--- Facts on an image that is accepted, by its pages or whole. Assumes nothing.
+-- Facts on an image that is accepted, by its pages or whole.
 use mathlib.Core.Path.{_≡_, refl, sym, _∙_}
 use mathlib.Core.Bool.{Bool, true, false, not, cond}
 use mathlib.Core.List.{List, [], _∷_, _++_}

@@ -1,4 +1,4 @@
--- What the readers of records share: runs as parts of the words, and successors by place. Assumes nothing.
+-- What the readers of records share: runs as parts of the words, and successors by place.
 use mathlib.Core.Path.{_≡_, refl, ap, _∙_}
 use mathlib.Core.Bool.{Bool, true, false}
 use mathlib.Core.List.{List, [], _∷_, _++_, map}

@@ -1,4 +1,4 @@
--- Tests of the rules in the forms that code takes, and the first rule that is broken. Assumes nothing.
+-- Tests of the rules in the forms that code takes, and the first rule that is broken.
 use mathlib.Core.Path.{_≡_, refl, sym}
 use mathlib.Core.Bool.{Bool, true, false, _||_, cond, and-true}
 use mathlib.Core.List.{List, [], _∷_, _++_}

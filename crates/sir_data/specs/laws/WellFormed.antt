@@ -1,8 +1,8 @@
--- Facts on numbers and lists, from rules that are not broken. Assumes nothing.
+-- Facts on numbers and lists, from rules that are not broken.
 use mathlib.Core.Path.{_≡_, refl}
 use mathlib.Core.Logic.{⊎-elim}
 use mathlib.Core.Bool.{Bool, true, false, not, _&&_, _||_, cond}
-use Prim.Native.Nat.{ℕ, zero, suc, _+_, _-_, _*_, _/_, _≤_, _<_}
+use Prim.Native.Nat.{ℕ, zero, suc, _+_, _*_, _/_, _≤_, _<_}
 use native.Mathlib.Omega.{arith}
 use mathlib.Core.List.{List, [], _∷_, _++_, map, List·Memᴰ, List·Memᴰ·head, List·Memᴰ·not-nil, List·Memᴰ·cases-cons, List·Memᴰ·eq-of-singleton, List·Memᴰ·append-cases}
 use lib.ListN.{length}
@@ -10,8 +10,8 @@ use lib.Dec.{eqb, leb, ltb}
 use borrow.Author.Tests.{ltb-true, ltb-false, leb-true, eqb-true, eqb-false, ne-eqb, not-false}
 use Rattle.plank_core.specs.Lists.{count, range, upto, all, distinct}
 use Rattle.plank_core.specs.laws.Lists.{or-false-left, or-false-right, and-true-left, and-true-right, mem-count, mem-range, map-each, all-mem, all-upto, none}
-use Rattle.sir_data.specs.Records.{functions, blocks, operations, operandWords, caseTargets, locals, initFunction, mainPlusOne, wordCount, entryBlock, blockWord, opWord, operand, target, run, inputs, outputs, ops, control, field, optional, successors, code, ins, outs, extra, isCall}
-use Rattle.sir_data.specs.Codes.{arityOk, isStaticAlloc}
+use Rattle.sir_data.specs.Records.{functions, blocks, operations, operandWords, caseTargets, locals, initFunction, mainPlusOne, wordCount, entryBlock, blockWord, opWord, operand, target, run, inputs, outputs, ops, control, field, optional, successors, code, ins, outs, extra}
+use Rattle.sir_data.specs.Codes.{arityOk, isCall, isStaticAlloc}
 use Rattle.sir_data.specs.Rules.{rule4, rule5, rule6, rule7, rule8, rule9, rule10, rule11, first, recordRules, zeroFrom, blockFieldsOk, opFieldsOk, rangeOk, optionalBelow, controlIdsOk, blockIdsOk, opIdsOk}
 use Rattle.sir_data.specs.WellFormed.{Sized, InRange, WellFormed}
 use Rattle.sir_data.specs.laws.Rules.{keeps}

@@ -1,6 +1,6 @@
 -- `first` meets its contract. The invariant: all members are in the words from k on.
 use mathlib.Core.Path.{_≡_, sym, _∙_}
-use Prim.Native.Nat.{ℕ, _-_, _≤_, _<_}
+use Prim.Native.Nat.{_-_, _≤_}
 use lib.ListN.{getD}
 use lib.Count.{trailing-le}
 use Rattle.plank_core.specs.DenseIndexSet.{members}

@@ -1,5 +1,5 @@
 -- `intersects` meets its contract. The invariant: no digit is in both of the words so far.
-use mathlib.Core.Path.{_≡_, sym, ap, _∙_}
+use mathlib.Core.Path.{_≡_, sym}
 use mathlib.Core.Bool.{_&&_}
 use Prim.Native.Nat.{ℕ, _-_, _≤_, _<_, _^_}
 use lib.ListN.{getD}

@@ -1,8 +1,7 @@
 -- `list` meets its contract. The invariants: what is written, the rest of the word and the words behind it are the members.
-use mathlib.Core.Path.{_≡_, sym, _∙_}
-use mathlib.Core.List.{List, _∷_, _++_}
-use Prim.Native.Nat.{ℕ, _+_, _*_, _-_, _^_, _<_, _≤_}
-use lib.ListN.{getD}
+use mathlib.Core.Path.{_≡_}
+use mathlib.Core.List.{_∷_, _++_}
+use Prim.Native.Nat.{_+_, _*_, _-_, _^_, _<_, _≤_}
 use lib.Bits.{bitAnd}
 use lib.Count.{trailingZeros, trailing-le}
 use Rattle.plank_core.specs.laws.Bits.{cleared-less}

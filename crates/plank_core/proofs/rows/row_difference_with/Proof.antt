@@ -1,10 +1,8 @@
 -- `row_difference_with` meets its contract. The invariant: the first k words of the row have lost those of the set.
-use mathlib.Core.Path.{_≡_, refl, sym, ap, _∙_}
-use mathlib.Core.Logic.{⊎-elim}
-use mathlib.Core.List.{List}
-use Prim.Native.Nat.{ℕ, zero, suc, _+_, _-_, _*_, _≤_, _<_}
+use mathlib.Core.Path.{_≡_, refl, _∙_}
+use Prim.Native.Nat.{_-_, _≤_, _<_}
 use native.Mathlib.Omega.{arith}
-use lib.ListN.{length, getD, length-set}
+use lib.ListN.{length, length-set}
 use Rattle.plank_core.specs.laws.DenseIndexSet.{Fit, rowTo, rowTo-next, rowTo-fit, minus, difference-words}
 use Rattle.plank_core.proofs.rows.row_difference_with.Statement.{statement}
 use Rattle.plank_core.proofs.rows.row_difference_with.Tie as tie

@@ -1,5 +1,5 @@
 -- `row_remove` meets its contract.
-use mathlib.Core.Path.{_≡_, _∙_}
+use mathlib.Core.Path.{_≡_}
 use Prim.Native.Nat.{_+_, _*_, _/_, _%_}
 use native.Mathlib.Omega.{arith}
 use Rattle.plank_core.specs.DenseIndexSet.{contains}

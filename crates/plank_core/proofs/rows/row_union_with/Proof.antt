@@ -1,10 +1,9 @@
 -- `row_union_with` meets its contract. The invariant: the first k words of the row have taken in those of the set, and `grew` tells whether one changed.
-use mathlib.Core.Path.{_≡_, refl, sym, ap, _∙_}
+use mathlib.Core.Path.{_≡_, refl, _∙_}
 use mathlib.Core.Logic.{⊎-elim}
-use mathlib.Core.List.{List}
-use Prim.Native.Nat.{ℕ, zero, suc, _+_, _-_, _*_, _≤_, _<_}
+use Prim.Native.Nat.{_-_, _≤_, _<_}
 use native.Mathlib.Omega.{arith}
-use lib.ListN.{length, getD, length-set}
+use lib.ListN.{length, length-set}
 use mathlib.Core.Bool.{true, false}
 use lib.Bits.{bitOr}
 use borrow.Author.Tests.{eq-eqb, ne-eqb}

@@ -9,8 +9,8 @@ use lib.ListN.{length, getD, drop, drop-of-length-le}
 use lib.Seq.{drop-cons}
 use borrow.Author.Tests.{not-true, not-false}
 use Rattle.plank_core.specs.Lists.{bind, _∈_}
+use Rattle.plank_core.specs.DenseIndexSet.{fresh}
 use Rattle.plank_core.specs.laws.Lists.{getD-mem, drop-mem}
-use Rattle.plank_core.specs.laws.Distinct.{fresh}
 use Rattle.sir_data.specs.Records.{blocks}
 use Rattle.sir_analyses.specs.Allocation.{rule12}
 use Rattle.sir_analyses.specs.Bases.{basesIn}

@@ -2,7 +2,8 @@
 use mathlib.Core.Path.{_≡_, sym, ap, _∙_}
 use mathlib.Core.Bool.{true, false}
 use native.Mathlib.Numerals.{add-one}
-use Rattle.sir_data.specs.Records.{code, isCall}
+use Rattle.sir_data.specs.Records.{code}
+use Rattle.sir_data.specs.Codes.{isCall}
 use Rattle.sir_analyses.proofs.Visiting.{call-below}
 use native.Mathlib.Omega.{arith}
 use borrow.Author.Needs.{needs}

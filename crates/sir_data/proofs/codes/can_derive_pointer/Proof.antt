@@ -1,4 +1,4 @@
--- `can_derive_pointer`: the table DERIVES against `derives`. Assumes nothing.
+-- `can_derive_pointer`: the table DERIVES against `derives`.
 use mathlib.Core.Path.{refl}
 use lib.Dec.{eqb}
 use Rattle.plank_core.specs.Lists.{oneIf}

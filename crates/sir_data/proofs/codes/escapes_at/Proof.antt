@@ -1,4 +1,4 @@
--- `escapes_at`: the table ESCAPING against `escaping`, eight positions of each code in one test. Assumes nothing.
+-- `escapes_at`: the table ESCAPING against `escaping`, eight positions of each code in one test.
 use mathlib.Core.Path.{refl}
 use mathlib.Core.Bool.{Bool}
 use mathlib.Core.List.{map}

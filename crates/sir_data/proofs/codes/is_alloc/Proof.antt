@@ -1,4 +1,4 @@
--- `is_alloc`: the table ALLOCATES against `isAlloc`. Assumes nothing.
+-- `is_alloc`: the table ALLOCATES against `isAlloc`.
 use mathlib.Core.Path.{refl}
 use mathlib.Core.Bool.{not}
 use lib.Dec.{eqb}

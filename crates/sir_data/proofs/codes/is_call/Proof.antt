@@ -1,4 +1,4 @@
--- `is_call` is the test of both call codes. Assumes nothing.
+-- `is_call` is the test of both call codes.
 use borrow.Author.Tests.{eq-eqb, ne-eqb}
 use Rattle.sir_data.proofs.codes.is_call.Statement.{statement}
 use Rattle.sir_data.proofs.codes.is_call.Tie as tie

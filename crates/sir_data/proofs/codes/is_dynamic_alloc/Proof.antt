@@ -1,4 +1,4 @@
--- `is_dynamic_alloc`: the table ALLOCATES against `isDynamicAlloc`. Assumes nothing.
+-- `is_dynamic_alloc`: the table ALLOCATES against `isDynamicAlloc`.
 use mathlib.Core.Path.{refl}
 use lib.Dec.{eqb}
 use Rattle.plank_core.specs.laws.Table.{table-rule}

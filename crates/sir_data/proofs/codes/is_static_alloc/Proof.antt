@@ -1,4 +1,4 @@
--- `is_static_alloc`: the table ALLOCATES against `isStaticAlloc`. Assumes nothing.
+-- `is_static_alloc`: the table ALLOCATES against `isStaticAlloc`.
 use mathlib.Core.Path.{refl}
 use lib.Dec.{eqb}
 use Rattle.plank_core.specs.laws.Table.{table-rule}

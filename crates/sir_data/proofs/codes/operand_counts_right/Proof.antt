@@ -1,4 +1,4 @@
--- `operand_counts_right`: the tables INPUTS and OUTPUTS against `arity`, and the two calls apart. Assumes nothing.
+-- `operand_counts_right`: the tables INPUTS and OUTPUTS against `arity`, and the two calls apart.
 use mathlib.Core.Path.{_∙_}
 use borrow.Author.Tests.{eq-eqb, ne-eqb}
 use Rattle.plank_core.specs.laws.Loops.{getD-map-upto}

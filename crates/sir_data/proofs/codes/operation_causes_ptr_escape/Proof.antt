@@ -1,4 +1,4 @@
--- `operation_causes_ptr_escape`: a bit for each position below 7, and bit 7 for all others. Assumes nothing.
+-- `operation_causes_ptr_escape`: a bit for each position below 7, and bit 7 for all others.
 use mathlib.Core.Path.{sym, _∙_}
 use Rattle.sir_data.specs.laws.Codes.{escaping-far}
 use borrow.Author.Needs.{needs}

@@ -1,4 +1,4 @@
--- `block_inputs` is the run that the block names, whose range is in bounds. Assumes nothing.
+-- `block_inputs` is the run that the block names, whose range is in bounds.
 use borrow.Author.Needs.{needs}
 use Rattle.sir_data.proofs.records.block_inputs.Statement.{statement}
 use Rattle.sir_data.proofs.records.block_inputs.Tie as tie

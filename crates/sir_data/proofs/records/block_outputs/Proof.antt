@@ -1,4 +1,4 @@
--- `block_outputs` is the run that the block names, whose range is in bounds. Assumes nothing.
+-- `block_outputs` is the run that the block names, whose range is in bounds.
 use borrow.Author.Needs.{needs}
 use Rattle.sir_data.proofs.records.block_outputs.Statement.{statement}
 use Rattle.sir_data.proofs.records.block_outputs.Tie as tie

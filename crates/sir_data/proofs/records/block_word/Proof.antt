@@ -1,4 +1,4 @@
--- `block_word` reads the word at its place. Assumes nothing.
+-- `block_word` reads the word at its place.
 use borrow.Author.Needs.{needs}
 use Rattle.sir_data.proofs.records.block_word.Statement.{statement}
 use Rattle.sir_data.proofs.records.block_word.Tie as tie

@@ -1,4 +1,4 @@
--- `op_inputs` is the run that the operation names, whose range is in bounds. Assumes nothing.
+-- `op_inputs` is the run that the operation names, whose range is in bounds.
 use borrow.Author.Needs.{needs}
 use Rattle.sir_data.proofs.records.op_inputs.Statement.{statement}
 use Rattle.sir_data.proofs.records.op_inputs.Tie as tie

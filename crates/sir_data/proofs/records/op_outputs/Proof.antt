@@ -1,4 +1,4 @@
--- `op_outputs` is the run that the operation names, whose range is in bounds. Assumes nothing.
+-- `op_outputs` is the run that the operation names, whose range is in bounds.
 use borrow.Author.Needs.{needs}
 use Rattle.sir_data.proofs.records.op_outputs.Statement.{statement}
 use Rattle.sir_data.proofs.records.op_outputs.Tie as tie

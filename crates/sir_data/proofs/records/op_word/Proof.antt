@@ -1,4 +1,4 @@
--- `op_word` reads the word at its place. Assumes nothing.
+-- `op_word` reads the word at its place.
 use borrow.Author.Needs.{needs}
 use Rattle.sir_data.proofs.records.op_word.Statement.{statement}
 use Rattle.sir_data.proofs.records.op_word.Tie as tie

@@ -1,4 +1,4 @@
--- `operand_run` is a part of the words, and a run is that part. Assumes nothing.
+-- `operand_run` is a part of the words, and a run is that part.
 use mathlib.Core.Path.{_≡_, sym}
 use Prim.Native.Nat.{_+_, _-_}
 use native.Mathlib.Omega.{arith}

@@ -1,4 +1,4 @@
--- `returned_outputs` gives the outputs of kind 1, and an empty part for another. Assumes nothing.
+-- `returned_outputs` gives the outputs of kind 1, and an empty part for another.
 use borrow.Author.Tests.{ne-eqb}
 use borrow.Author.Needs.{needs}
 use Rattle.sir_data.proofs.records.returned_outputs.Statement.{statement}

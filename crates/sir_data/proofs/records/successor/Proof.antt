@@ -1,4 +1,4 @@
--- `successor`, by control kind and place. Assumes nothing.
+-- `successor`, by control kind and place.
 use mathlib.Core.Path.{_≡_, sym, _∙_}
 use Prim.Native.Nat.{_-_, _<_}
 use native.Mathlib.Omega.{arith}

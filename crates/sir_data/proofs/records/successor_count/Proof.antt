@@ -1,4 +1,4 @@
--- `successor_count`, by control kind; a switch counts its targets and its fallback. Assumes nothing.
+-- `successor_count`, by control kind; a switch counts its targets and its fallback.
 use mathlib.Core.Path.{_≡_, sym, _∙_}
 use native.Mathlib.Omega.{arith}
 use lib.ListN.{length}

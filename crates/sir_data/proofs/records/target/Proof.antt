@@ -1,4 +1,4 @@
--- `target` reads the word at its place. Assumes nothing.
+-- `target` reads the word at its place.
 use borrow.Author.Needs.{needs}
 use Rattle.sir_data.proofs.records.target.Statement.{statement}
 use Rattle.sir_data.proofs.records.target.Tie as tie

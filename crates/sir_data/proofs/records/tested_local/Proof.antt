@@ -1,4 +1,4 @@
--- `tested_local` gives the condition of a branch or a switch, and nothing for another. Assumes nothing.
+-- `tested_local` gives the condition of a branch or a switch, and nothing for another.
 use borrow.Author.Needs.{needs}
 use Rattle.sir_data.proofs.records.tested_local.Statement.{statement}
 use Rattle.sir_data.proofs.records.tested_local.Tie as tie

@@ -1,4 +1,4 @@
--- `tests` is the test of both kinds. Assumes nothing.
+-- `tests` is the test of both kinds.
 use borrow.Author.Tests.{eq-eqb, ne-eqb}
 use Rattle.sir_data.proofs.records.tests.Statement.{statement}
 use Rattle.sir_data.proofs.records.tests.Tie as tie

@@ -1,5 +1,4 @@
 -- `view::block` meets its contract: a walk of its MIR, by hand. What the two parameters own together is what the view owns.
--- Assumes nothing.
 use mathlib.Core.Path.{refl}
 use Prim.Native.Nat.{ℕ}
 use mathlib.Core.List.{List, [], _∷_}

@@ -1,5 +1,4 @@
 -- `view::edge_ok` meets its contract: a walk of its MIR, by hand. Of `block` and of the view's methods it knows that each meets its contract.
--- Assumes nothing.
 use mathlib.Core.Path.{_≡_, refl, sym, subst, _∙_, ap}
 use mathlib.Core.Bool.{Bool}
 use Prim.Native.Nat.{ℕ, _<_, _^_}

@@ -1,5 +1,4 @@
 -- `contains` meets its contract: a set is a table of one row.
-use mathlib.Core.Path.{_≡_}
 use native.Mathlib.Nat.{zero-add}
 use borrow.Author.Needs.{needs}
 use Rattle.plank_core.proofs.dense_index_set.DenseIndexSet.contains.Statement.{statement}

@@ -1,5 +1,4 @@
 -- `BlockView::control` meets its contract: `Apart`'s walk of its MIR, which calls `block_control`.
--- Assumes nothing.
 use mathlib.Core.Path.{refl}
 use contract.Running.{givenOf}
 use mir.Syntax.{w32}

@@ -1,5 +1,4 @@
 -- `BlockView::inputs` meets its contract: `Apart`'s walk of its MIR, which calls `block_inputs`.
--- Assumes nothing.
 use mathlib.Core.Path.{refl}
 use contract.Running.{givenOf}
 use mir.Syntax.{named}

@@ -1,5 +1,4 @@
 -- `BlockView::operations` meets its contract: `Apart`'s walk of its MIR, which calls `block_operations`.
--- Assumes nothing.
 use mathlib.Core.Path.{refl}
 use contract.Running.{givenOf}
 use denote.Struct.Laws.{lawful}

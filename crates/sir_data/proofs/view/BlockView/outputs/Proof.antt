@@ -1,5 +1,4 @@
 -- `BlockView::outputs` meets its contract: `Apart`'s walk of its MIR, which calls `block_outputs`.
--- Assumes nothing.
 use mathlib.Core.Path.{refl}
 use contract.Running.{givenOf}
 use mir.Syntax.{named}

@@ -1,5 +1,4 @@
 -- `BlockView::successor` meets its contract: a walk of its MIR, by hand. As the methods of `Apart`, with a number passed on.
--- Assumes nothing.
 use mathlib.Core.Path.{_≡_, refl}
 use Prim.Native.Nat.{ℕ, _<_, _^_}
 use mathlib.Core.List.{[], _∷_}

@@ -1,5 +1,4 @@
 -- `BlockView::successor_count` meets its contract: `Apart`'s walk of its MIR, which calls `successor_count`.
--- Assumes nothing.
 use mathlib.Core.Path.{refl}
 use contract.Running.{givenOf}
 use mir.Syntax.{w64}
