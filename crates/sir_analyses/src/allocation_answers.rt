@@ -120,7 +120,7 @@ fn record_answer(
 }
 
 // The same, with the sets of liveness made here.
-fn live_answer(
+fn unmarked_answer(
     words: &[u32],
     seen: &[u64],
     rpo: &[u32],
@@ -180,7 +180,7 @@ pub fn allocation_answer(
     }
     let mut reach = [0u64; 8];
     owned_locals(words, &owner, AllocId(allocation), &mut reach);
-    live_answer(words, seen, rpo, key, &reach, out)
+    unmarked_answer(words, seen, rpo, key, &reach, out)
 }
 
 // The record of allocation a where every table is at hand, for a caller that asks for many.

@@ -73,11 +73,11 @@ owned-locals-requires : tie.Need-owned-locals-requires
 owned-locals-requires c κs = let s = c .before .before .before .before .before .before .before .before .before .before .before .before .before .before .before .before .before .before .before .before .before .before .before in
     (s .pre .0, (search needs, omega (arith, s .pre .1 .1 .2, keys-most (s .args .words .now) (s .pre .0) (s .pre .1 .1 .0)), refl))
 
-slice-aggregate-live-answer : tie.Need-slice-aggregate-live-answer
-slice-aggregate-live-answer c = search needs
+slice-aggregate-unmarked-answer : tie.Need-slice-aggregate-unmarked-answer
+slice-aggregate-unmarked-answer c = search needs
 
-live-answer-requires : tie.Need-live-answer-requires
-live-answer-requires c κs = let s = c .before .before .before .before .before .before .before .before .before .before .before .before .before .before .before .before .before .before .before .before .before .before .before .before .before .before .before in
+unmarked-answer-requires : tie.Need-unmarked-answer-requires
+unmarked-answer-requires c κs = let s = c .before .before .before .before .before .before .before .before .before .before .before .before .before .before .before .before .before .before .before .before .before .before .before .before .before .before .before in
     let u = mark-told (c .before .before .before .before .before .before .before .before .before .before .before .before .discover-allocations .ensures) (s .pre .1 .1 .2) (c .before .before .before .before .before .before .before .row-contains .ensures) (c .before .before .before .before .before .before .if1 .left) in
     (s .pre .0, (s .pre .1 .0, (s .args .allocation, owned-unmarked (s .pre .0) (c .before .before .before .before .before .before .before .before .before .before .before .before .discover-allocations .ensures) (s .pre .1 .1 .2) u (ap (λ (k : List ℕ). getD k (s .args .allocation) 0) (s .pre .1 .1 .1)) (c .before .before .before .owned-locals .ensures))))
 
@@ -87,7 +87,7 @@ same-length-2 c = search needs
 returns-2 : tie.Need-returns-2
 returns-2 c = let s = c .before .before .before .before .before .before .before .before .before .before .before .before .before .before .before .before .before .before .before .before .before .before .before .before .before .before .before .before .before .before in
     let u = mark-told (c .before .before .before .before .before .before .before .before .before .before .before .before .before .before .before .discover-allocations .ensures) (s .pre .1 .1 .2) (c .before .before .before .before .before .before .before .before .before .before .row-contains .ensures) (c .before .before .before .before .before .before .before .before .before .if1 .left) in
-    c .before .before .live-answer .ensures (s .args .allocation) (owned-unmarked (s .pre .0) (c .before .before .before .before .before .before .before .before .before .before .before .before .before .before .before .discover-allocations .ensures) (s .pre .1 .1 .2) u (ap (λ (k : List ℕ). getD k (s .args .allocation) 0) (s .pre .1 .1 .1)) (c .before .before .before .before .before .before .owned-locals .ensures))
+    c .before .before .unmarked-answer .ensures (s .args .allocation) (owned-unmarked (s .pre .0) (c .before .before .before .before .before .before .before .before .before .before .before .before .before .before .before .discover-allocations .ensures) (s .pre .1 .1 .2) u (ap (λ (k : List ℕ). getD k (s .args .allocation) 0) (s .pre .1 .1 .1)) (c .before .before .before .before .before .before .owned-locals .ensures))
 
 pub allocation-answer-spec : {M : Type 1} → statement M
 allocation-answer-spec =
@@ -111,7 +111,7 @@ allocation-answer-spec =
     slice-aggregate-owned-locals
     slice-aggregate-owned-locals-2
     owned-locals-requires
-    slice-aggregate-live-answer
-    live-answer-requires
+    slice-aggregate-unmarked-answer
+    unmarked-answer-requires
     same-length-2
     returns-2)

@@ -1,8 +1,8 @@
--- `live_answer` meets its contract.
+-- `unmarked_answer` meets its contract.
 use mathlib.Core.Path.{refl}
 use borrow.Author.Needs.{needs}
-use Rattle.sir_analyses.proofs.allocation_answers.live_answer.Statement.{statement}
-use Rattle.sir_analyses.proofs.allocation_answers.live_answer.Tie as tie
+use Rattle.sir_analyses.proofs.allocation_answers.unmarked_answer.Statement.{statement}
+use Rattle.sir_analyses.proofs.allocation_answers.unmarked_answer.Tie as tie
 
 slice-aggregate-operand-sets : tie.Need-slice-aggregate-operand-sets
 slice-aggregate-operand-sets c = search needs
@@ -61,8 +61,8 @@ same-length c = search needs
 returns : tie.Need-returns
 returns c = search needs
 
-pub live-answer-spec : {M : Type 1} → statement M
-live-answer-spec =
+pub unmarked-answer-spec : {M : Type 1} → statement M
+unmarked-answer-spec =
     tie.close
     (tie.spec
     slice-aggregate-operand-sets
