@@ -1,4 +1,4 @@
-// Layer 3: the analyses, one file for each of the source's, and the questions that can be put to an image.
+// Layer 3: the analyses, and the questions that can be put to an image.
 pub mod allocation_answers;
 pub mod allocation_liveness;
 pub mod allocation_words;
