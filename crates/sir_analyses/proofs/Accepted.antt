@@ -1,4 +1,4 @@
--- What acceptance gives, in the shapes that the proofs here use. Assumes nothing.
+-- What acceptance gives, in the shapes that the proofs here use.
 use mathlib.Core.Path.{_≡_}
 use mathlib.Core.Logic.{⊎-elim}
 use mathlib.Core.Bool.{Bool, true, false, _&&_, cond}

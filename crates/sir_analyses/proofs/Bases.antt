@@ -1,9 +1,9 @@
--- Rule 12 block by block and operation by operation. Assumes nothing.
+-- Rule 12 block by block and operation by operation.
 use mathlib.Core.Path.{_≡_, refl, sym, ap, ap₂, _∙_}
 use mathlib.Core.Logic.{⊎-elim}
-use mathlib.Core.Bool.{Bool, true, false, not, _&&_, _||_, cond, or-false, Bool·not-not}
+use mathlib.Core.Bool.{Bool, true, false, not, _&&_, _||_, or-false, Bool·not-not}
 use mathlib.Core.List.{List, [], _∷_, _++_, map, List·Memᴰ·head, List·Memᴰ·tail, List·Memᴰ·append-cases}
-use Prim.Native.Nat.{ℕ, zero, suc, _+_, _*_, _≤_, _<_}
+use Prim.Native.Nat.{ℕ, _+_, _≤_, _<_}
 use native.Mathlib.Omega.{arith}
 use lib.ListN.{length, getD, replicate}
 use lib.Dec.{eqb}

@@ -1,8 +1,8 @@
--- What the tables of operands, of use and def sets and of predecessors hold, step by step. Assumes nothing.
+-- What the tables of operands, of use and def sets and of predecessors hold, step by step.
 use mathlib.Core.Path.{_≡_, refl, sym, ap, _∙_}
 use mathlib.Core.Logic.{⊎-elim}
-use mathlib.Core.Bool.{Bool, true, false, not, _&&_, _||_, cond, or-true, or-false, or-comm, and-comm, and-or-distrib-left}
-use mathlib.Core.List.{List, [], _∷_, List·Memᴰ·head, List·Memᴰ·tail, List·Memᴰ·append-cases, List·Memᴰ·not-nil}
+use mathlib.Core.Bool.{Bool, true, false, not, _&&_, _||_, or-true, or-false, or-comm, and-comm, and-or-distrib-left}
+use mathlib.Core.List.{List, [], _∷_, List·Memᴰ·head, List·Memᴰ·tail, List·Memᴰ·append-cases}
 use Prim.Native.Nat.{ℕ, _+_, _*_, _≤_, _<_}
 use native.Mathlib.Omega.{arith}
 use lib.ListN.{length, replicate}
@@ -12,7 +12,7 @@ use Rattle.plank_core.specs.Lists.{mem, _∈_}
 use Rattle.plank_core.specs.laws.Lists.{split, mem-in, in-mem, mem-not, mem-append, same-tests, both-true, and-true-left, and-true-right}
 use Rattle.plank_core.specs.DenseIndexSet.{contains, rowOf, rowUnion, rowDifference}
 use Rattle.plank_core.specs.laws.DenseIndexSet.{contains-cleared, contains-union, contains-difference, contains-row, set-union, set-difference, length-union, length-difference}
-use Rattle.sir_data.specs.Records.{blocks, operations, locals, control, outputs, ops, successors, condition, returned, ins, outs}
+use Rattle.sir_data.specs.Records.{blocks, operations, locals, ops, successors, condition, returned, ins, outs}
 use Rattle.sir_data.specs.WellFormed.{WellFormed}
 use Rattle.sir_analyses.specs.Order.{isVisited, predecessors}
 use Rattle.sir_analyses.specs.Liveness.{has, endReads, readFirst, useSet, defSet}
@@ -20,6 +20,7 @@ use Rattle.sir_analyses.specs.Tables.{Adds, OperandRows, RunSets}
 use Rattle.sir_analyses.proofs.Tables.{cleared-long, adds-as, adds-then, adds-union}
 use Rattle.sir_analyses.proofs.GenKill.{given, read-behind, beyond, use-length, def-length, has-use, has-def}
 use Rattle.sir_analyses.proofs.OrderProof.{blocks-seen, blocks-below, predecessors-in, predecessors-out}
+use Rattle.sir_analyses.proofs.Accepted.{returned-below}
 
 -- ---- locals are small
 
@@ -30,15 +31,8 @@ module _ {w : List ℕ} (good : WellFormed w) where
   pub tested-small : (b v : ℕ) → b < blocks w → condition w b ≡ v ∷ [] → v < 512
   tested-small b v l e = small (good .in-range .tested b v l (rw e (List·Memᴰ·head refl)))
 
-  pub returned-below : (b v : ℕ) → b < blocks w → v ∈ returned w b → v < locals w
-  returned-below b v l m = go (eqb (control w b) 1) m
-    where
-      go : (t : Bool) → v ∈ cond t (outputs w b) [] → v < locals w
-      go true k = good .in-range .output b v l k
-      go false k = absurd (List·Memᴰ·not-nil k)
-
   end-below : (b v : ℕ) → b < blocks w → v ∈ endReads w b → v < locals w
-  end-below b v l m = ⊎-elim (good .in-range .tested b v l) (returned-below b v l) (List·Memᴰ·append-cases (condition w b) m)
+  end-below b v l m = ⊎-elim (good .in-range .tested b v l) (returned-below w good b v l) (List·Memᴰ·append-cases (condition w b) m)
 
   -- ---- no set has more than the locals
 

@@ -1,18 +1,14 @@
--- Allocations as numbers, block by block and read back, and their bases. Assumes nothing.
+-- Allocations as numbers, block by block and read back, and their bases.
 use mathlib.Core.Path.{_≡_, refl, sym, ap, ap₂, subst, _∙_}
-use mathlib.Core.Logic.{_⊎_, inl, inr}
-use mathlib.Core.Bool.{Bool, true, false, not, Bool·not-not}
+use mathlib.Core.Bool.{true, false, not, Bool·not-not}
 use mathlib.Core.List.{List, [], _∷_, _++_, map}
-use Prim.Native.Nat.{ℕ, zero, suc, _+_, _*_, _/_, _%_, _≤_, _<_}
+use Prim.Native.Nat.{ℕ, suc, _+_, _*_, _/_, _%_, _≤_, _<_}
 use native.Mathlib.Omega.{arith}
 use native.Mathlib.Numerals.{add-one}
-use lib.ListN.{length, getD, drop, set, replicate, length-set, length-replicate, drop-of-length-le}
-use lib.Seq.{drop-cons}
-use lib.Dec.{eqb}
-use borrow.Author.Tests.{eqb-true, not-true}
-use Rattle.plank_core.specs.Lists.{foldl, range, bind, keep, upto, mem, distinct, oneIf, _∈_}
-use Rattle.plank_core.specs.laws.Lists.{and-true-left, and-true-right, none, map-each, foldl-keeps, mem-place, times, times-mem, in-mem, split}
-use Rattle.plank_core.specs.laws.Loops.{upto-suc, range-next, range-none, map-append, once-most}
+use lib.ListN.{length, getD, drop, set, replicate, length-set, length-replicate, length-map, List·getD-map}
+use Rattle.plank_core.specs.Lists.{foldl, range, bind, keep, upto, distinct, _∈_}
+use Rattle.plank_core.specs.laws.Lists.{map-each, foldl-keeps, mem-place}
+use Rattle.plank_core.specs.laws.Loops.{upto-suc, range-next, range-none, map-append}
 use Rattle.sir_data.specs.Records.{operations, locals, blockWord, ops, code}
 use Rattle.sir_data.specs.Codes.{isAlloc}
 use Rattle.sir_data.specs.WellFormed.{WellFormed}
@@ -21,7 +17,9 @@ use Rattle.sir_analyses.specs.Allocation.{Alloc, allocs, noAlloc, allocA
 use Rattle.sir_analyses.specs.Discovery.{allocKey, allocKeys, blockKeys}
 use Rattle.sir_analyses.proofs.Accepted.{listed-op}
 use Rattle.sir_analyses.proofs.Marks.{allocOf, alloc-known, alloc-in, base-less}
+use Rattle.sir_analyses.proofs.Sending.{distinct-few}
 use Rattle.sir_analyses.proofs.Passes.{foldl-snoc}
+use Rattle.sir_analyses.proofs.SourceSteps.{zeros-at}
 use Rattle.sir_analyses.proofs.Linking.{set-both, set-most}
 
 -- ---- operation by operation
@@ -61,34 +59,18 @@ unfolding allocKeys
 all-keys w = listed-keys w (blocksRpo w)
 
 -- of an array that holds the order's sequence
-module _ (w rpo : List ℕ) (i : ℕ) where
-  pub keys-start : rpo ≡ blocksRpo w → allocKeys w ≡ bind (drop 0 rpo) (blockKeys w)
-  keys-start e = all-keys w ∙ ap (λ (l : List ℕ). bind l (blockKeys w)) (sym e)
-
-  pub keys-next : i < length rpo → bind (drop i rpo) (blockKeys w) ≡ blockKeys w (getD rpo i 0) ++ bind (drop (i + 1) rpo) (blockKeys w)
-  keys-next h = rw (add-one, drop-cons rpo i 0 h)
-
-  pub keys-end : length rpo ≤ i → bind (drop i rpo) (blockKeys w) ≡ []
-  keys-end h = rw (drop-of-length-le rpo {i = i} h)
+pub keys-start : (w rpo : List ℕ) → rpo ≡ blocksRpo w → allocKeys w ≡ bind (drop 0 rpo) (blockKeys w)
+keys-start w rpo e = all-keys w ∙ ap (λ (l : List ℕ). bind l (blockKeys w)) (sym e)
 
 -- ---- read back
 
-map-long : {A : Type 0} (f : A → ℕ) (xs : List A) → length (map f xs) ≡ length xs
-map-long f [] = refl
-map-long f (x ∷ xs) = ap suc (map-long f xs)
-
-map-at : {A : Type 0} (f : A → ℕ) (xs : List A) (i : ℕ) (d : A) → i < length xs → getD (map f xs) i 0 ≡ f (getD xs i d)
-map-at f [] i d h = absurd (omega arith)
-map-at f (x ∷ xs) zero d h = refl
-map-at f (x ∷ xs) (suc i) d h = map-at f xs i d (omega arith)
-
 pub keys-long : (w : List ℕ) → length (allocKeys w) ≡ length (allocs w)
 unfolding allocKeys
-keys-long w = map-long allocKey (allocs w)
+keys-long w = length-map (allocs w) allocKey
 
 pub key-at : (w : List ℕ) (a : ℕ) → a < length (allocs w) → getD (allocKeys w) a 0 ≡ 1024 * allocAt w a .block + allocAt w a .op
 unfolding allocKeys
-key-at w a h = map-at allocKey (allocs w) a noAlloc h
+key-at w a h = List·getD-map allocKey (allocs w) a noAlloc
 
 module _ (w : List ℕ) (good : WellFormed w) (a : ℕ) (h : a < length (allocs w)) where
   pub alloc-op : (allocAt w a .op < operations w) × (isAlloc (code w (allocAt w a .op)) ≡ true)
@@ -105,17 +87,6 @@ module _ (w : List ℕ) (good : WellFormed w) (a : ℕ) (h : a < length (allocs 
 
 -- ---- how many they are
 
-distinct-times : (x : ℕ) (ys : List ℕ) → distinct ys ≡ true → times x ys ≤ 1
-distinct-times x [] d = omega arith
-distinct-times x (y ∷ ys) d = go (eqb x y) refl (split 0 (times x ys)) (distinct-times x ys (and-true-right (not (mem y ys)) (distinct ys) d))
-  where
-    go : (t : Bool) → eqb x y ≡ t → (0 < times x ys) ⊎ (times x ys ≤ 0) → times x ys ≤ 1 → oneIf (eqb x y) + times x ys ≤ 1
-    go false e l r = rw e (omega arith)
-    go true e (inr l) r = rw e (omega arith)
-    go true e (inl l) r =
-        let q : x ≡ y = eqb-true x y e in
-        none (mem y ys) (in-mem y (subst (λ (z : ℕ). z ∈ ys) q (times-mem x ys l))) (not-true (mem y ys) (and-true-left (not (mem y ys)) (distinct ys) d))
-
 module _ (w : List ℕ) (good : WellFormed w) where
   base-listed : (v : ℕ) → v ∈ map (base w) (allocs w) → v < locals w
   base-listed = map-each (λ (v : ℕ). v < locals w) (base w) (allocs w) (λ x m.
@@ -125,7 +96,7 @@ module _ (w : List ℕ) (good : WellFormed w) where
   pub keys-most : rule12 w ≡ false → length (allocs w) ≤ 512
   keys-most r =
       let d : distinct (map (base w) (allocs w)) ≡ true = sym (Bool·not-not (distinct (map (base w) (allocs w)))) ∙ ap not r in
-      omega (arith, map-long (base w) (allocs w), once-most (map (base w) (allocs w)) (locals w) (λ x. distinct-times x (map (base w) (allocs w)) d) base-listed, good .sized .locals-most)
+      omega (arith, length-map (allocs w) (base w), distinct-few (locals w) (map (base w) (allocs w)) d base-listed, good .sized .locals-most)
 
 -- ---- every base for its own
 
@@ -143,11 +114,6 @@ bases-long w a =
     foldl-keeps (λ (l : List ℕ). length l ≡ locals w) (λ owner k. set owner (base w (allocAt w k)) (suc k)) (upto a)
     (λ owner k m e. length-set owner (base w (allocAt w k)) (suc k) ∙ e)
     (replicate (locals w) 0) (length-replicate (locals w) 0)
-
-zeros-at : (n v : ℕ) → _≡_ {A = ℕ} (getD (replicate n 0) v 0) 0
-zeros-at zero v = refl
-zeros-at (suc n) zero = refl
-zeros-at (suc n) (suc v) = zeros-at n v
 
 module _ (w : List ℕ) where
   pub owned-none : {owner : List ℕ} → owner ≡ replicate 512 0 → OwnedTo w owner 0

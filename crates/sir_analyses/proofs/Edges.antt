@@ -1,4 +1,4 @@
--- Edges and predecessors, one by one. Assumes nothing.
+-- Edges and predecessors, one by one.
 use mathlib.Core.Path.{_≡_, refl, sym, ap, _∙_}
 use mathlib.Core.Bool.{Bool, true, false, cond}
 use mathlib.Core.List.{List, [], _∷_, _++_, map, List·Memᴰ·head, List·Memᴰ·tail}

@@ -1,5 +1,5 @@
 -- Passes that send each block's entry set to the exits of its predecessors, over any entry function that keeps lengths and
--- grows with its argument: they end at the least solution. Assumes nothing.
+-- grows with its argument: they end at the least solution.
 use mathlib.Core.Path.{_≡_, refl, sym, ap, subst, _∙_}
 use mathlib.Core.Logic.{_≢_, ⊎-elim}
 use mathlib.Core.Bool.{Bool, true, false}

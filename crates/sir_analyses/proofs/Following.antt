@@ -1,16 +1,15 @@
--- The work list, run to its end: what the arrays show on the way. Assumes nothing.
-use mathlib.Core.Path.{_≡_, refl, sym, ap, _∙_}
+-- The work list, run to its end: what the arrays show on the way.
+use mathlib.Core.Path.{_≡_, refl, ap, _∙_}
 use mathlib.Core.List.{List, [], _∷_, _++_, reverse}
-use Prim.Native.Nat.{ℕ, suc, _+_, _-_, _≤_, _<_}
+use Prim.Native.Nat.{ℕ, suc, _-_, _≤_, _<_}
 use native.Mathlib.Omega.{arith}
-use native.Mathlib.Numerals.{add-one}
 use lib.ListN.{length, getD, set, take, length-set}
 use lib.Seq.{getD-set-same, take-suc}
 use Rattle.plank_core.specs.Lists.{_∈_}
 use Rattle.plank_core.specs.DenseIndexSet.{contains}
 use Rattle.plank_core.specs.laws.Loops.{reverse-snoc}
 use Rattle.sir_analyses.specs.Propagation.{State, follow, Runs, begun, more}
-use Rattle.sir_analyses.specs.Discovery.{zeros, Room, ShowsState, StepTaken, SameWidth, linksIn, Reaches, Propagated}
+use Rattle.sir_analyses.specs.Discovery.{Room, ShowsState, StepTaken, SameWidth, linksIn, Reaches, Propagated}
 use Rattle.sir_analyses.proofs.SourceSteps.{zeros-most}
 use Rattle.sir_analyses.proofs.Linking.{taken-set, width-then, follow-width}
 

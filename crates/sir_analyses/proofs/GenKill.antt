@@ -1,18 +1,17 @@
--- The entry set of a block from its use and def sets, each made once from the block: entry = use ∪ (exit − def). Assumes nothing.
+-- The entry set of a block from its use and def sets, each made once from the block: entry = use ∪ (exit − def).
 use mathlib.Core.Path.{_≡_, refl, sym, ap, _∙_}
 use mathlib.Core.Logic.{⊎-elim}
 use mathlib.Core.Bool.{Bool, true, false, not, _&&_, _||_, or-true, or-false, and-true, and-false}
-use Prim.Native.Nat.{ℕ, zero, suc, _<_, _≤_}
+use Prim.Native.Nat.{ℕ, _<_, _≤_}
 use native.Mathlib.Omega.{arith}
 use mathlib.Core.List.{List, [], _∷_, foldr}
-use lib.ListN.{length, replicate, length-replicate, List·getD-eq-default}
-use lib.Seq.{ext-getD}
+use lib.ListN.{length, List·getD-eq-default}
 use Rattle.plank_core.specs.Lists.{mem, any}
 use Rattle.plank_core.specs.laws.Lists.{or-true-left, or-true-right, or-cases, both-true, and-true-left, and-true-right, split}
 use Rattle.plank_core.specs.laws.Loops.{length-map-upto, getD-map-upto}
 use Rattle.sir_data.specs.Records.{locals, ops, ins, outs}
 use Rattle.sir_analyses.specs.Liveness.{Set, has, addAll, removeAll, endReads, readFirst, useSet, defSet, entryFrom}
-use Rattle.sir_analyses.proofs.SetLaws.{has-less, none-in, length-addAll, length-removeAll, has-addAll, has-removeAll, Within}
+use Rattle.sir_analyses.proofs.SetLaws.{has-less, length-addAll, length-removeAll, has-addAll, has-removeAll, Within}
 
 module _ (w : List ℕ) where
   -- the operations os backwards, behind which the locals c are read
@@ -63,25 +62,6 @@ module _ (w : List ℕ) where
       ap (λ (a : Bool). mem v (ins w o) || (not (mem v (outs w o)) && a)) (read-behind c os v)
       ∙ behind (readFirst w [] os v) (mem v c) (given os v) (mem v (outs w o)) (mem v (ins w o))
 
-  abbrev pub given-set : List ℕ → Set
-  given-set os = foldr (λ o s. addAll s (outs w o)) (replicate (locals w) false) os
-
-  length-given : (os : List ℕ) → length (given-set os) ≡ locals w
-  length-given [] = length-replicate (locals w) false
-  length-given (o ∷ os) = length-addAll (given-set os) (outs w o) ∙ length-given os
-
-  given-has : (os : List ℕ) (v : ℕ) → v < locals w → has (given-set os) v ≡ given os v
-  given-has [] v h = none-in (locals w) v
-  given-has (o ∷ os) v h =
-      has-addAll (given-set os) (outs w o) v (rw length-given h)
-      ∙ ap (λ (a : Bool). a || mem v (outs w o)) (given-has os v h) ∙ go (given os v) (mem v (outs w o))
-    where
-      go : (a m : Bool) → (a || m) ≡ (m || a)
-      go true true = refl
-      go true false = refl
-      go false true = refl
-      go false false = refl
-
 pub beyond : (s : Set) (v : ℕ) → length s ≤ v → has s v ≡ false
 beyond s v h = List·getD-eq-default s false {n = v} h
 
@@ -121,45 +101,3 @@ module _ (w : List ℕ) (b : ℕ) where
       (λ (h : locals w ≤ v).
       rw (beyond (useSet w b) v (rw use-length h), beyond x v (omega arith)) (beyond (entryFrom w b x) v (rw entry-length (omega arith))))
       (split v (locals w))
-
-  -- the two sets as a block's operations give them, taken backwards
-  pub use-fold : entryFrom w b (replicate (locals w) false) ≡ useSet w b
-  use-fold =
-      ext-getD false (entryFrom w b (replicate (locals w) false)) (useSet w b)
-      (entry-length w b (replicate (locals w) false) ∙ length-replicate (locals w) false ∙ sym use-length)
-      (λ v h. gen-kill (replicate (locals w) false) (length-replicate (locals w) false) v ∙ rw (none-in (locals w) v) (simp or-false))
-
-  pub def-fold : given-set w (ops w b) ≡ defSet w b
-  def-fold =
-      ext-getD false (given-set w (ops w b)) (defSet w b) (length-given w (ops w b) ∙ sym def-length)
-      (λ v h. let l : v < locals w = rw length-given at h in given-has w (ops w b) v l ∙ sym (has-def v l))
-
--- use ∪ (x − def), as one list
-unfoldable pub blend : Set → Set → Set → Set
-blend [] x d = []
-blend (u ∷ us) [] d = []
-blend (u ∷ us) (x ∷ xs) [] = []
-blend (u ∷ us) (x ∷ xs) (d ∷ ds) = (u || (x && not d)) ∷ blend us xs ds
-
-blend-length : (u x d : Set) → length u ≡ length x → length u ≡ length d → length (blend u x d) ≡ length u
-unfolding blend
-blend-length [] x d e f = refl
-blend-length (u ∷ us) [] d e f = absurd (omega arith)
-blend-length (u ∷ us) (x ∷ xs) [] e f = absurd (omega arith)
-blend-length (u ∷ us) (x ∷ xs) (d ∷ ds) e f = ap suc (blend-length us xs ds (omega arith) (omega arith))
-
-pub has-blend : (u x d : Set) (v : ℕ) → length u ≡ length x → length u ≡ length d → has (blend u x d) v ≡ (has u v || (has x v && not (has d v)))
-unfolding blend
-has-blend [] [] d v e f = refl
-has-blend [] (x ∷ xs) d v e f = absurd (omega arith)
-has-blend (u ∷ us) [] d v e f = absurd (omega arith)
-has-blend (u ∷ us) (x ∷ xs) [] v e f = absurd (omega arith)
-has-blend (u ∷ us) (x ∷ xs) (d ∷ ds) zero e f = refl
-has-blend (u ∷ us) (x ∷ xs) (d ∷ ds) (suc v) e f = has-blend us xs ds v (omega arith) (omega arith)
-
-pub entry-blend : (w : List ℕ) (b : ℕ) (x : Set) → length x ≡ locals w → entryFrom w b x ≡ blend (useSet w b) x (defSet w b)
-entry-blend w b x e =
-    let p : length (useSet w b) ≡ length x = use-length w b ∙ sym e in
-    let q : length (useSet w b) ≡ length (defSet w b) = use-length w b ∙ sym (def-length w b) in
-    ext-getD false (entryFrom w b x) (blend (useSet w b) x (defSet w b)) (entry-length w b x ∙ sym (blend-length (useSet w b) x (defSet w b) p q ∙ p))
-    (λ v h. gen-kill w b x e v ∙ sym (has-blend (useSet w b) x (defSet w b) v p q))

@@ -1,4 +1,4 @@
--- Laws of tables that grow: whether a step, or several one after the other, add a member. Assumes nothing.
+-- Laws of tables that grow: whether a step, or several one after the other, add a member.
 use mathlib.Core.Path.{_≡_, refl, sym, ap, ap₂, _∙_}
 use mathlib.Core.Logic.{⊎-elim}
 use mathlib.Core.Bool.{Bool, true, false, not, _&&_, _||_, or-false}

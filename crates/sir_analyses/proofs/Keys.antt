@@ -1,13 +1,13 @@
--- Lists written into arrays one behind the other, and the order read off the keys of a visit. Assumes nothing.
+-- Lists written into arrays one behind the other, and the order read off the keys of a visit.
 use mathlib.Core.Path.{_≡_, refl, sym, ap, ap₂, _∙_, subst}
-use mathlib.Core.Bool.{Bool, true, false, _&&_, cond}
+use mathlib.Core.Bool.{Bool, true, false, cond}
 use mathlib.Core.List.{List, [], _∷_, _++_, map, reverse, reverse-append, reverse-cons, append-assoc, append-nil}
-use Prim.Native.Nat.{ℕ, zero, suc, _+_, _-_, _*_, _/_, _%_, _≤_, _<_}
+use Prim.Native.Nat.{ℕ, suc, _+_, _-_, _*_, _/_, _%_, _≤_, _<_}
 use native.Mathlib.Numerals.{add-one}
 use native.Mathlib.Omega.{arith}
-use lib.ListN.{length, getD, take, drop, set, length-append, length-set}
+use lib.ListN.{length, getD, take, set, length-append, length-set}
 use lib.Seq.{take-suc, take-suc-set, take-set-lt, set-at, take-all, length-take-le}
-use lib.Dec.{eqb, leb, ltb}
+use lib.Dec.{eqb, leb}
 use borrow.Author.Tests.{eqb-true, eqb-false, eq-eqb, ne-eqb, leb-true, leb-false, le-ltb, lt-ltb}
 use Rattle.plank_core.specs.Lists.{bind, keep, _∈_}
 use Rattle.plank_core.specs.laws.Loops.{map-append, keep-append, bind-bind, bind-same, bind-snoc, reverse-snoc, once-most}

@@ -1,7 +1,7 @@
--- The claim on walks: the merged intervals of an unmarked allocation have every operation between it and a read. Assumes nothing.
+-- The claim on walks: the merged intervals of an unmarked allocation have every operation between it and a read.
 use mathlib.Core.Path.{_≡_, refl, sym, _∙_, ap}
 use mathlib.Core.Logic.{_↔_, _⊎_, inl, inr}
-use mathlib.Core.Bool.{Bool, true, false, cond}
+use mathlib.Core.Bool.{true, false}
 use Prim.Native.Nat.{ℕ, suc, _+_, _≤_, _<_}
 use native.Mathlib.Omega.{arith}
 use mathlib.Core.List.{List, [], _∷_, map, List·Memᴰ, List·Memᴰ·head, List·Memᴰ·tail, List·Memᴰ·not-nil, Memᴰ·append-left, List·Memᴰ·append-cases, Memᴰ·map, Memᴰ·cast}
@@ -22,7 +22,7 @@ use Rattle.sir_analyses.proofs.GenKill.{length-through}
 use Rattle.sir_analyses.proofs.LivenessProof.{live-solves, exit-size}
 use Rattle.sir_analyses.proofs.Accepted.{one-out, returned-below, listed-op}
 use Rattle.sir_analyses.proofs.Marks.{allocOf, Link, derive, pass, link-carried, alloc-known, mark-rule}
-use Rattle.sir_analyses.proofs.Merging.{Point, Gap, Proper, Normal, empty, merged-normal, merge-lies, merge-unique}
+use Rattle.sir_analyses.proofs.Merging.{Point, Gap, Proper, Normal, merge-lies, merge-unique}
 use Rattle.sir_analyses.proofs.Scans.{Suffix, whole, behind, suffix-mem, suffix-ascends, Behind, piece, close-out, scan-emits, scan-out, Live, leaves, tests, reads, later, scan, liveIn, live-end, ends-behind, ends-at, ops-ascend, grows, emitted}
 
 pub executed-before : {τ : List Event} {u b o : ℕ} → Executed τ u b o → u < steps τ
@@ -222,13 +222,6 @@ module _ (w : List ℕ) (good : WellFormed w) where
 
   pub pieces-proper : (a : ℕ) → Proper (pieces w a)
   pieces-proper a i m = let r = bind-out (intervals w) (members (reach w (allocAt w a))) m in intervals-proper (r .0) i (r .2)
-
-  pub merged-in-normal-form : (a : ℕ) → Normal (merged w a)
-  merged-in-normal-form a = go (marked w a)
-    where
-      go : (t : Bool) → Normal (cond t [] (merge (sort (pieces w a))))
-      go true = empty
-      go false = merged-normal (pieces w a) (pieces-proper a)
 
   -- what any other way of merging has to show
   pub merged-unique : (a : ℕ) (is : List Interval) → marked w a ≡ false → Normal is

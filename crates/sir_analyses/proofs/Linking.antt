@@ -1,8 +1,8 @@
--- What linking one local, and marking one allocation, does to the arrays and to the state that they show. Assumes nothing.
+-- What linking one local, and marking one allocation, does to the arrays and to the state that they show.
 use mathlib.Core.Path.{_≡_, refl, sym, ap, _∙_}
 use mathlib.Core.Bool.{Bool, true, false, _||_, cond, or-comm, or-false}
 use mathlib.Core.List.{List, [], _∷_, _++_, reverse, List·Memᴰ·head, List·Memᴰ·not-nil, Memᴰ·append-left, Memᴰ·append-right}
-use Prim.Native.Nat.{ℕ, suc, _+_, _-_, _*_, _≤_, _<_}
+use Prim.Native.Nat.{ℕ, suc, _+_, _-_, _≤_, _<_}
 use native.Mathlib.Omega.{arith}
 use native.Mathlib.Numerals.{add-one}
 use native.Mathlib.Decide.{ℕ-discrete, decLt}
@@ -10,14 +10,14 @@ use lib.ListN.{length, getD, set, take, length-set, List·getD-eq-default, List�
 use lib.Seq.{getD-set-same, getD-set-other, take-suc, take-suc-set, take-all}
 use lib.Dec.{eqb}
 use borrow.Author.Tests.{eq-eqb, ne-eqb}
-use Rattle.plank_core.specs.Lists.{foldl, mem, _∈_}
+use Rattle.plank_core.specs.Lists.{foldl}
 use Rattle.plank_core.specs.DenseIndexSet.{contains, added, members}
 use Rattle.plank_core.specs.laws.Loops.{reverse-snoc}
 use Rattle.plank_core.specs.laws.DenseIndexSet.{contains-added, length-added}
 use Rattle.sir_analyses.specs.Liveness.{Set, has, addAll}
 use Rattle.sir_analyses.specs.Tables.{Same}
 use Rattle.sir_analyses.specs.Propagation.{State, linkLocal, mark, follow}
-use Rattle.sir_analyses.specs.Discovery.{zeros, Room, ShowsState, StepTaken, SameWidth}
+use Rattle.sir_analyses.specs.Discovery.{zeros, Room, StepTaken, SameWidth}
 use Rattle.sir_analyses.proofs.SetLaws.{has-addAll, length-addAll}
 use Rattle.sir_analyses.proofs.Passes.{foldl-snoc}
 use Rattle.sir_analyses.proofs.SourceSteps.{zeros-fewer, zeros-no-more}

@@ -1,5 +1,4 @@
 -- The liveness claim: the settled sets are the least solution of the equations, and the round number counts passes and is bounded.
--- Assumes nothing.
 use mathlib.Core.Path.{_≡_, refl, sym, ap, subst, _∙_}
 use mathlib.Core.Bool.{Bool, true, cond}
 use Prim.Native.Nat.{ℕ, zero, suc, _+_, _*_, _≤_, _<_}

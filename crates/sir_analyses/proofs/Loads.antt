@@ -1,8 +1,8 @@
--- What reading an image and the visit of its blocks give every question. Assumes nothing.
+-- What reading an image and the visit of its blocks give every question.
 use mathlib.Core.Path.{_≡_, refl, sym, ap, _∙_, subst}
-use mathlib.Core.Bool.{Bool, true, false, not, cond}
+use mathlib.Core.Bool.{Bool, true, false, cond}
 use mathlib.Core.List.{List, [], _∷_, _++_}
-use Prim.Native.Nat.{ℕ, _+_, _*_, _/_, _≤_, _<_}
+use Prim.Native.Nat.{ℕ, _*_, _/_, _≤_}
 use native.Mathlib.Omega.{arith}
 use lib.ListN.{length, take, drop, length-append}
 use lib.Seq.{take-at, length-take-le}
@@ -16,8 +16,7 @@ use Rattle.sir_analyses.specs.Order.{blocksRpo}
 use Rattle.sir_analyses.specs.Allocation.{rule12}
 use Rattle.sir_analyses.specs.Answers.{refusal, orderAnswer}
 use Rattle.sir_analyses.specs.Visiting.{VisitedAll, SeenBlocks, blocksIn, orderIn, Listed}
-use Rattle.sir_analyses.specs.Loading.{Prepared, Loaded}
-use Rattle.sir_analyses.specs.Discovery.{allocKeys}
+use Rattle.sir_analyses.specs.Loading.{Prepared}
 use Rattle.sir_analyses.proofs.Discovery.{keys-long, keys-most}
 use Rattle.sir_analyses.proofs.Keys.{blocks-rpo, order-answer, blocks-most, order-most}
 

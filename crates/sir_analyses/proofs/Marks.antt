@@ -1,4 +1,4 @@
--- The reach and the marks that are computed are those of the rule. Assumes nothing.
+-- The reach and the marks that are computed are those of the rule.
 use mathlib.Core.Path.{_≡_, refl, sym, _∙_, ap, subst}
 use mathlib.Core.Logic.{_⊎_, inl, inr, ⊎-elim}
 use mathlib.Core.Bool.{Bool, true, false, not, _&&_, _||_, cond}
@@ -198,6 +198,10 @@ module _ (w : List ℕ) (good : WellFormed w) where
   link-less {u} {v} (pass {b} {s} k mb ms e d) =
       let l : k < length (inputs w s) = omega (arith, elem-less (outputs w b) k u e, good .passed b s (blocks-below w good b mb) ms) in
       rw d (good .in-range .input s (getD (inputs w s) k 0) (blocks-below w good s (next-listed w good mb ms)) (getD-mem (inputs w s) k 0 l))
+
+  -- what a use brings is a local
+  pub next-less : (u v : ℕ) → v ∈ next w u → v < locals w
+  next-less u v m = link-less (next-link w m)
 
   pub alloc-in : (a : ℕ) → a < length (allocs w) → List·Memᴰ (allocAt w a) (allocs w)
   alloc-in a h = getD-mem (allocs w) a noAlloc h

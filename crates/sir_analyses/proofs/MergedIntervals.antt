@@ -1,4 +1,4 @@
--- The sweep over words: the live set is kept whole, and met with the reach at each operation. Assumes nothing.
+-- The sweep over words: the live set is kept whole, and met with the reach at each operation.
 use mathlib.Core.Path.{_≡_, refl, sym, ap, ap₂, _∙_}
 use mathlib.Core.Bool.{Bool, true, false, not, _&&_, _||_, cond}
 use mathlib.Core.List.{List, [], _∷_, _++_, foldr, append-assoc}
@@ -6,23 +6,21 @@ use Prim.Native.Nat.{ℕ, suc, _+_, _-_, _*_, _≤_, _<_}
 use native.Mathlib.Omega.{arith}
 use native.Mathlib.Numerals.{add-one}
 use lib.ListN.{length, take, drop, set, replicate, length-take, length-drop, drop-of-length-le}
-use lib.Seq.{sets-eq, drop-at, take-all, length-take-le}
+use lib.Seq.{sets-eq, drop-at, length-take-le}
 use lib.Dec.{eqb}
-use borrow.Author.Tests.{eqb-true}
 use Rattle.plank_core.specs.Lists.{bind, keep, range, upto, mem, any}
 use Rattle.plank_core.specs.laws.Lists.{and-true-left, and-true-right, both-true, same-tests, any-some, any-find}
-use Rattle.plank_core.specs.laws.Loops.{range-next, range-none, range-all, bind-bind}
+use Rattle.plank_core.specs.laws.Loops.{range-next, range-none, range-all, bind-bind, lent-end}
 use Rattle.plank_core.specs.DenseIndexSet.{contains, meets}
 use Rattle.plank_core.specs.DenseIndexSet as Words
 use Rattle.plank_core.specs.laws.DenseIndexSet.{contains-row, contains-cleared, set-union, set-difference, length-union, length-difference}
 use Rattle.sir_data.specs.Records.{blocks, operations, locals, ops, ins, outs}
 use Rattle.sir_data.specs.WellFormed.{WellFormed}
 use Rattle.sir_analyses.specs.Order.{isVisited}
-use Rattle.sir_analyses.specs.Liveness.{Set, has, removeAll, endReads, settled, exitSet, Scan}
+use Rattle.sir_analyses.specs.Liveness.{Set, has, removeAll, endReads, settled, exitSet, Scan, endOpen, closing}
 use Rattle.sir_analyses.specs.Answers.{intervalWords}
 use Rattle.sir_analyses.specs.Writing.{Puts}
 use Rattle.sir_analyses.specs.Tables.{Same, SameRows, OperandRows, EndRows}
-use Rattle.sir_analyses.specs.Scanning.{closing, endOpen}
 use Rattle.sir_analyses.specs.Sweep.{meet, nonempty, liveBefore, shut, note, Sweep, sweepEnd, sweepOp, sweepBlock, sweepFrom}
 use Rattle.sir_analyses.proofs.Writing.{Putting, putting-none, putting-as, putting-more, putting-all, puts-as, puts-length}
 use Rattle.sir_analyses.proofs.SetLaws.{has-less, has-addAll, has-removeAll, length-removeAll}
@@ -94,19 +92,15 @@ module _ (b o : ℕ) (t : Bool) (c : Scan) where
   note-till : note b o t c .open′ ≡ cond t (cond (eqb (c .open′) 0) (o + 1) (c .open′)) 0
   note-till = go t ∙ ap (λ (k : ℕ). cond t (cond (eqb (c .open′) 0) k (c .open′)) 0) (sym (add-one o))
     where
-      closes : (z : Bool) → eqb (c .open′) 0 ≡ z → cond z c (record { open′ = 0; closed = record { block = b; from = suc o; to = c .open′ } ∷ c .closed }) .open′ ≡ 0
-      closes true e = eqb-true (c .open′) 0 e
-      closes false e = refl
-
       go : (t : Bool) → note b o t c .open′ ≡ cond t (cond (eqb (c .open′) 0) (suc o) (c .open′)) 0
       go true = refl
-      go false = closes (eqb (c .open′) 0) refl
+      go false = refl
 
 -- an interval that is closed goes in front
 shut-words : (b from : ℕ) (c : Scan) → intervalWords (shut b from c .closed) ≡ intervalWords (closing b from (c .open′)) ++ intervalWords (c .closed)
 shut-words b from c = go (eqb (c .open′) 0)
   where
-    go : (z : Bool) → intervalWords (cond z c (record { open′ = 0; closed = record { block = b; from = from; to = c .open′ } ∷ c .closed }) .closed) ≡ intervalWords (cond z [] (record { block = b; from = from; to = c .open′ } ∷ [])) ++ intervalWords (c .closed)
+    go : (z : Bool) → intervalWords (cond z [] (record { block = b; from = from; to = c .open′ } ∷ []) ++ c .closed) ≡ intervalWords (cond z [] (record { block = b; from = from; to = c .open′ } ∷ [])) ++ intervalWords (c .closed)
     go true = refl
     go false = refl
 
@@ -207,9 +201,6 @@ module _ (w : List ℕ) (s : Set) where
 pub lent-most : (run : List ℕ) (k r : ℕ) → length run ≡ k → length (take (k - r) (drop r run)) ≤ k
 lent-most run k r e = omega (arith, length-take (k - r) (drop r run), length-drop r run)
 
-lent-all : (run : List ℕ) (k r : ℕ) → length run ≡ k → take (k - r) (drop r run) ≡ drop r run
-lent-all run k r e = take-all (k - r) (drop r run) (omega (arith, length-drop r run))
-
 -- the blocks below b are put, the others are to come
 pub record Populating (w reach : List ℕ) (limit n : ℕ) (out₀ : List ℕ) (b : ℕ) (out : List ℕ) (m : ℕ) : Type 0 where
   pub long : length out ≡ length out₀
@@ -228,7 +219,7 @@ module _ {w reach : List ℕ} {limit n : ℕ} {out₀ : List ℕ} {b : ℕ} {out
       record {
         long = ap length (p .left) ∙ puts-length limit m (take (3075 - r) (drop r run)) out (omega (arith, g .long)) ∙ g .long;
         few = omega (arith, p .next, g .few);
-        puts = λ s e same. putting-more h (putting-as (left-in w s b l t) (g .puts s e same)) (puts-as (lent-all run 3075 r k ∙ f s e same) p);
+        puts = λ s e same. putting-more h (putting-as (left-in w s b l t) (g .puts s e same)) (puts-as (ap (λ (n : ℕ). take (n - r) (drop r run)) (sym k) ∙ lent-end r run ∙ f s e same) p);
       }
 
   pub populating-on : b < blocks w → isVisited w b ≡ false → Populating w reach limit n out₀ (b + 1) out m

@@ -1,5 +1,5 @@
 -- Merged intervals: merging changes no point and no gap that is covered, gives the normal form, and the normal form is
--- unique. Assumes nothing.
+-- unique.
 use mathlib.Core.Path.{_≡_, refl, sym, _∙_, ap}
 use mathlib.Core.Logic.{_↔_, _⊎_, inl, inr, ⊎-elim}
 use mathlib.Core.Bool.{Bool, true, false, _&&_, _||_, cond}

@@ -1,70 +1,81 @@
 -- Laws of the visit of functions and blocks: one form for both kinds of item, and the fuel law: with fuel for each function below
--- `functions w` and each block below `blocks w` that is not seen yet, more fuel changes nothing. Assumes nothing.
-use mathlib.Core.Path.{_≡_, refl, sym, ap, _∙_, subst}
+-- `functions w` and each block below `blocks w` that is not seen yet, the fuel does not run out.
+use mathlib.Core.Path.{_≡_, refl, sym, ap, ap₂, _∙_, subst}
 use mathlib.Core.Logic.{⊎-elim}
-use mathlib.Core.Bool.{Bool, true, false, _||_, cond}
+use mathlib.Core.Bool.{Bool, true, false, not, _||_, cond}
 use Prim.Native.Nat.{ℕ, zero, suc, _+_, _≤_, _<_}
-use native.Mathlib.Nat.{le-refl, le-trans, zero-add, suc-add}
+use native.Mathlib.Nat.{le-refl, le-trans}
 use native.Mathlib.Omega.{arith}
 use mathlib.Core.List.{List, [], _∷_, _++_, map, List·Memᴰ, List·Memᴰ·head, List·Memᴰ·tail, List·Memᴰ·eq-of-singleton, List·Memᴰ·append-cases}
 use lib.Dec.{eqb}
 use borrow.Author.Tests.{eqb-true, eqb-false, ne-eqb}
-use Rattle.plank_core.specs.Lists.{foldl, bind, mem}
+use Rattle.plank_core.specs.Lists.{foldl, bind, mem, oneIf}
 use Rattle.sir_data.specs.Records.{functions, blocks, entryBlock, ops, successors, callees}
 use Rattle.sir_analyses.specs.Order.{Visit, seeFunction, seeBlock, finishFunction, finishBlock, visitFunction, visitBlock}
+use Rattle.sir_analyses.specs.Visiting.{missing}
 use Rattle.sir_analyses.specs.Claims.{Item, function, block}
-use Rattle.plank_core.specs.laws.Lists.{or-true-right, bool-or, map-each, bind-out}
+use Rattle.plank_core.specs.laws.Lists.{or-true-right, none, bool-or, map-each, bind-out}
 use Rattle.sir_data.specs.WellFormed.{InRange}
 
--- ---- how many numbers below n are not in a list
+-- ---- how many numbers below n fail a test
 
-abbrev pub open′ : Bool → ℕ
-open′ true = 0
-open′ false = 1
+pub missing-same : (n : ℕ) (p q : ℕ → Bool) → ((i : ℕ) → i < n → q i ≡ p i) → missing n q ≡ missing n p
+unfolding missing
+missing-same zero p q h = refl
+missing-same (suc n) p q h = ap₂ (λ x y. oneIf (not x) + y) (h n (omega arith)) (missing-same n p q (λ i l. h i (omega arith)))
 
-abbrev pub free : ℕ → List ℕ → ℕ
-free zero xs = 0
-free (suc n) xs = open′ (mem n xs) + free n xs
-
-pub free-nil : (n : ℕ) → free n [] ≡ n
-free-nil zero = refl
-free-nil (suc n) = omega (arith, free-nil n)
-
-open-less : (a b : Bool) → open′ (a || b) ≤ open′ b
-open-less true true = omega arith
-open-less true false = omega arith
-open-less false b = le-refl _
-
-pub free-less : (n i : ℕ) (xs : List ℕ) → free n (i ∷ xs) ≤ free n xs
-free-less zero i xs = omega arith
-free-less (suc n) i xs = omega (arith, open-less (eqb n i) (mem n xs), free-less n i xs)
-
-free-other : (n i : ℕ) (xs : List ℕ) → n ≤ i → free n (i ∷ xs) ≡ free n xs
-free-other zero i xs l = refl
-free-other (suc n) i xs l = rw (ne-eqb n i (omega arith)) (omega (arith, free-other n i xs (omega arith)))
-
-pub free-new : (n i : ℕ) (xs : List ℕ) → i < n → mem i xs ≡ false → free n (i ∷ xs) + 1 ≡ free n xs
-free-new zero i xs l h = absurd (omega arith)
-free-new (suc n) i xs l h = go (eqb n i) refl (free-new n i xs)
+-- one more passes
+pub missing-one : (n k : ℕ) (p q : ℕ → Bool) → k < n → p k ≡ false → ((i : ℕ) → i < n → q i ≡ (eqb i k || p i)) → missing n q + 1 ≡ missing n p
+unfolding missing
+missing-one zero k p q l f h = absurd (omega arith)
+missing-one (suc n) k p q l f h = go (eqb n k) refl (missing-one n k p q)
   where
-    go : (t : Bool) → eqb n i ≡ t → (i < n → mem i xs ≡ false → free n (i ∷ xs) + 1 ≡ free n xs) → free (suc n) (i ∷ xs) + 1 ≡ free (suc n) xs
+    go : (t : Bool) → eqb n k ≡ t → (k < n → p k ≡ false → ((i : ℕ) → i < n → q i ≡ (eqb i k || p i)) → missing n q + 1 ≡ missing n p)
+        → oneIf (not (q n)) + missing n q + 1 ≡ oneIf (not (p n)) + missing n p
     go true e rest =
-        let s : n ≡ i = eqb-true n i e in
-        let m : mem n xs ≡ false = rw s h in
-        rw (e, m) (omega (arith, free-other n i xs (omega arith)))
+        let s : n ≡ k = eqb-true n k e in
+        let a : q n ≡ true = h n (omega arith) ∙ rw e in
+        let b : p n ≡ false = ap p s ∙ f in
+        let c : missing n q ≡ missing n p = missing-same n p q (λ i m. h i (omega arith) ∙ rw (ne-eqb i k (omega arith))) in
+        rw (a, b, c) (omega arith)
     go false e rest =
-        let ne : ¬ (n ≡ i) = eqb-false n i e in
-        rw e (omega (arith, rest (omega arith) h))
+        let ne : n ≡ k → ⊥ = eqb-false n k e in
+        let a : q n ≡ p n = h n (omega arith) ∙ rw e in
+        let ih = rest (omega arith) f (λ i m. h i (omega arith)) in
+        rw a (omega arith)
 
-open-most : (t : Bool) → open′ t ≤ 1
-open-most true = omega arith
-open-most false = omega arith
+pub missing-most : (n : ℕ) (p : ℕ → Bool) → missing n p ≤ n
+unfolding missing
+missing-most zero p = le-refl 0
+missing-most (suc n) p = go (p n) (missing-most n p)
+  where
+    go : (t : Bool) → missing n p ≤ n → oneIf (not t) + missing n p ≤ suc n
+    go true h = omega arith
+    go false h = omega arith
 
-pub free-most : (n : ℕ) (xs : List ℕ) → free n xs ≤ n
-free-most zero xs = omega arith
-free-most (suc n) xs = omega (arith, open-most (mem n xs), free-most n xs)
+-- a test that passes more fails no more often
+missing-less : (n : ℕ) (p q : ℕ → Bool) → ((i : ℕ) → p i ≡ true → q i ≡ true) → missing n q ≤ missing n p
+unfolding missing
+missing-less zero p q h = le-refl 0
+missing-less (suc n) p q h = go (p n) (q n) (h n) (missing-less n p q h)
+  where
+    go : (s t : Bool) → (s ≡ true → t ≡ true) → missing n q ≤ missing n p → oneIf (not t) + missing n q ≤ oneIf (not s) + missing n p
+    go true true f r = omega arith
+    go true false f r = none false (f refl) refl
+    go false true f r = omega arith
+    go false false f r = omega arith
 
-pub free-none : (n i : ℕ) (xs : List ℕ) → free n xs ≤ 0 → i < n → mem i xs ≡ true
+-- how many are not in a list
+abbrev free : ℕ → List ℕ → ℕ
+free n xs = missing n (λ i. mem i xs)
+
+free-less : (n i : ℕ) (xs : List ℕ) → free n (i ∷ xs) ≤ free n xs
+free-less n i xs = missing-less n (λ j. mem j xs) (λ j. mem j (i ∷ xs)) (λ j h. or-true-right (eqb j i) (mem j xs) h)
+
+free-new : (n i : ℕ) (xs : List ℕ) → i < n → mem i xs ≡ false → free n (i ∷ xs) + 1 ≡ free n xs
+free-new n i xs l h = missing-one n i (λ j. mem j xs) (λ j. mem j (i ∷ xs)) l h (λ j m. refl)
+
+free-none : (n i : ℕ) (xs : List ℕ) → free n xs ≤ 0 → i < n → mem i xs ≡ true
 free-none n i xs z l = ⊎-elim (λ e. e) (λ e. absurd (omega (arith, free-new n i xs l e))) (bool-or (mem i xs))
 
 module _ (w : List ℕ) where
@@ -235,11 +246,6 @@ module _ (w : List ℕ) where
         ∙ sym (visit-new (suc k) o x v e))
         (bool-or (seen v x))
 
-    -- more fuel than there are items left changes nothing
-    pub enough : (d k o : ℕ) (x : Item) (v : Visit) → Ok x → left v ≤ k → visit k o x v ≡ visit (d + k) o x v
-    enough zero k o x v ok l = rw zero-add
-    enough (suc d) k o x v ok l = rw suc-add (enough d k o x v ok l ∙ stable (d + k) o x v ok (omega arith))
-
     -- the equation of a visit, at one and the same fuel
     pub visit-step : (k o : ℕ) (x : Item) (v : Visit) → Ok x → left v ≤ k
         → visit k o x v ≡ cond (seen v x) v (finish o x (visits k (owner o x) (kids x) (enter x v)))
@@ -251,7 +257,7 @@ module _ (w : List ℕ) where
 
   -- as much fuel as the order is given always suffices
   pub left-most : (v : Visit) → left v ≤ functions w + blocks w
-  left-most v = omega (arith, free-most (functions w) (v .seenFunctions), free-most (blocks w) (v .seenBlocks))
+  left-most v = omega (arith, missing-most (functions w) (λ i. mem i (v .seenFunctions)), missing-most (blocks w) (λ i. mem i (v .seenBlocks)))
 
   -- ---- the same for the functions of Order
 
@@ -265,12 +271,6 @@ module _ (w : List ℕ) where
         (finishBlock (foldl (λ u s. visitBlock n w f s u) (foldl (λ u g. visitFunction n w g u) (seeBlock v b) (bind (ops w b) (callees w))) (successors w b)) f b)
     visitBlock-step n f b v ok l =
         visit-step h n f (block b) v ok l ∙ ap (λ u. cond (mem b (v .seenBlocks)) v (finishBlock u f b)) (sym (visits-kids n f b (seeBlock v b)))
-
-    pub visitFunction-enough : (d n f : ℕ) (v : Visit) → f < functions w → left v ≤ n → visitFunction n w f v ≡ visitFunction (d + n) w f v
-    visitFunction-enough d n f v ok l = enough h d n f (function f) v ok l
-
-    pub visitBlock-enough : (d n f b : ℕ) (v : Visit) → b < blocks w → left v ≤ n → visitBlock n w f b v ≡ visitBlock (d + n) w f b v
-    visitBlock-enough d n f b v ok l = enough h d n f (block b) v ok l
 
     -- at the fuel of the order, on any state
     pub order-function : (f : ℕ) (v : Visit) → f < functions w

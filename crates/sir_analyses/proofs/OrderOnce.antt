@@ -1,7 +1,7 @@
--- Each function and each block that is seen is finished once, and no other. Assumes nothing.
+-- Each function and each block that is seen is finished once, and no other.
 use mathlib.Core.Path.{_≡_, refl, sym, ap, _∙_}
 use mathlib.Core.Logic.{⊎-elim}
-use mathlib.Core.Bool.{Bool, true, false, cond}
+use mathlib.Core.Bool.{Bool, true, false, not, cond}
 use Prim.Native.Nat.{ℕ, zero, suc, _+_}
 use native.Mathlib.Omega.{arith}
 use mathlib.Core.List.{List, [], _∷_, _++_, map, reverse, List·Memᴰ, List·Memᴰ·head, List·Memᴰ·tail, List·Memᴰ·eq-of-singleton, List·Memᴰ·append-cases}
@@ -11,7 +11,7 @@ use Rattle.plank_core.specs.Lists.{bind, keep, mem, oneIf}
 use Rattle.sir_analyses.specs.Order.{Visit}
 use Rattle.sir_analyses.specs.Claims.{Item, function, block}
 use Rattle.plank_core.specs.laws.Lists.{bool-or, times, times-append, times-reverse}
-use Rattle.sir_analyses.proofs.OrderLaws.{open′, seen, enter, finish, owner, kids, visit, visits, visit-zero, visit-new, visit-old, Grows, enter-grows, grows, all-grow}
+use Rattle.sir_analyses.proofs.OrderLaws.{seen, enter, finish, owner, kids, visit, visits, visit-zero, visit-new, visit-old, Grows, enter-grows, grows, all-grow}
 
 -- ---- the blocks of each function in turn: each pair's block, if its function stands once among the functions
 
@@ -66,7 +66,7 @@ second-snoc : (c : ℕ) (ps : List (ℕ × ℕ)) (p : ℕ × ℕ) → times c (s
 second-snoc c [] p = omega arith
 second-snoc c (q ∷ ps) p = omega (arith, second-snoc c ps p)
 
-open-new : (xs : List ℕ) (i j : ℕ) → mem i xs ≡ false → open′ (mem j (i ∷ xs)) + oneIf (eqb j i) ≡ open′ (mem j xs)
+open-new : (xs : List ℕ) (i j : ℕ) → mem i xs ≡ false → oneIf (not (mem j (i ∷ xs))) + oneIf (eqb j i) ≡ oneIf (not (mem j xs))
 open-new xs i j h =
     ⊎-elim
     (λ (e : eqb j i ≡ true). let s : mem j xs ≡ false = ap (λ (n : ℕ). mem n xs) (eqb-true j i e) ∙ h in rw (e, s))
@@ -81,7 +81,7 @@ module _ (w : List ℕ) where
   done v (block b) = times b (second (v .finished))
 
   abbrev pub tally : Visit → Item → ℕ
-  tally v y = done v y + open′ (seen w v y)
+  tally v y = done v y + oneIf (not (seen w v y))
 
   abbrev same : Item → Item → ℕ
   same (function f) (function g) = oneIf (eqb g f)

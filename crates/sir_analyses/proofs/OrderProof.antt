@@ -1,7 +1,7 @@
--- The order holds exactly what can be reached, each once: `OrderRule w` wherever no record rule is broken. Assumes nothing.
+-- The order holds exactly what can be reached, each once: `OrderRule w` wherever no record rule is broken.
 use mathlib.Core.Path.{_≡_, refl, sym, ap, _∙_, subst}
 use mathlib.Core.Logic.{_↔_, ⊎-elim, _⊎_, inl, inr}
-use mathlib.Core.Bool.{Bool, true, false}
+use mathlib.Core.Bool.{Bool, true, false, not}
 use Prim.Native.Nat.{ℕ, zero, suc, _+_, _≤_, _<_}
 use native.Mathlib.Nat.{le-refl, le-trans}
 use native.Mathlib.Omega.{arith}
@@ -14,10 +14,10 @@ use Rattle.sir_analyses.specs.Order.{Visit, start, visited, functionsRpo
 use Rattle.sir_analyses.specs.Claims.{Item, function, block, Visited, init, main, entry, successor, callee, OrderRule}
 use Rattle.plank_core.specs.laws.Lists.{or-cases, bool-or, none, refuted, no-members, map-each, bind-mem, bind-out, keep-mem, keep-out, upto-mem, oneIf-most, oneIf-some, times, times-reverse, mem-times, times-mem, times-distinct}
 use Rattle.sir_data.specs.WellFormed.{InRange, WellFormed}
-use Rattle.sir_analyses.proofs.OrderLaws.{open′, seen, enter, finish, owner, kids, visit, visits, visits-functions, visit-zero, visit-new, visit-old, left, Grows, grows, all-grow, Ok, kids-each, kids-ok, enter-left, left-none, left-most}
+use Rattle.sir_analyses.proofs.OrderLaws.{seen, enter, finish, owner, kids, visit, visits, visits-functions, visit-zero, visit-new, visit-old, left, Grows, grows, all-grow, Ok, kids-each, kids-ok, enter-left, left-none, left-most}
 use Rattle.sir_analyses.proofs.OrderOnce.{spread, done, tally, all-tally, Owned, May, all-owned}
 
-oneIf-open : (n : ℕ) (t : Bool) → n + open′ t ≡ 1 → n ≡ oneIf t
+oneIf-open : (n : ℕ) (t : Bool) → n + oneIf (not t) ≡ 1 → n ≡ oneIf t
 oneIf-open n true h = omega arith
 oneIf-open n false h = omega arith
 

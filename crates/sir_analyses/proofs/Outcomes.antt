@@ -1,16 +1,14 @@
--- The outcome of a call, case by case. Assumes nothing.
-use mathlib.Core.Path.{_≡_, refl, sym, ap, ap₂, _∙_}
-use mathlib.Core.Bool.{true, false, cond}
-use mathlib.Core.List.{List, _++_}
-use Prim.Native.Nat.{ℕ, _+_, _*_, _≤_, _<_}
+-- The outcome of a call, case by case.
+use mathlib.Core.Path.{_≡_, _∙_}
+use mathlib.Core.List.{List}
+use Prim.Native.Nat.{ℕ, _*_, _≤_, _<_}
 use native.Mathlib.Omega.{arith}
-use lib.ListN.{length, drop}
-use lib.Dec.{eqb, ltb}
+use lib.ListN.{length}
 use borrow.Author.Tests.{eq-eqb, ne-eqb, lt-ltb, le-ltb}
 use Rattle.plank_core.specs.Lists.{bind}
 use Rattle.sir_data.specs.Pages.{payload, bytesOf}
 use Rattle.sir_analyses.specs.Answers.{refusal, made, answered, asked, outcome}
-use Rattle.sir_analyses.specs.Writing.{wordsPut, Puts}
+use Rattle.sir_analyses.specs.Writing.{Puts}
 use Rattle.sir_analyses.proofs.Writing.{length-bytes, puts-past, puts-all}
 
 module _ (xs out : List ℕ) where

@@ -1,4 +1,4 @@
--- Passes over tables are the passes of the definition, until one adds nothing. Assumes nothing.
+-- Passes over tables are the passes of the definition, until one adds nothing.
 use mathlib.Core.Path.{_≡_, refl, sym, ap, ap₂, subst, _∙_}
 use mathlib.Core.Logic.{⊎-elim}
 use mathlib.Core.Bool.{Bool, true, false, not, _||_, cond}
@@ -18,7 +18,7 @@ use Rattle.sir_analyses.specs.Order.{blocksRpo}
 use Rattle.sir_analyses.specs.Liveness.{Set, has, sameSet, sameRows, rowOf, back, pass, noExits, settle, settled, rounds}
 use Rattle.sir_analyses.specs.Tables.{SameRows, More, grew, Shown, SentOn, Stepped}
 use Rattle.sir_analyses.proofs.SetLaws.{has-less}
-use Rattle.sir_analyses.proofs.RowLaws.{Under, Shape, total, total-le, total-rises, same-rows, empty-row, empty-shape}
+use Rattle.sir_analyses.proofs.RowLaws.{Under, total, total-le, total-rises, same-rows, empty-row, empty-shape}
 use Rattle.sir_analyses.proofs.Tables.{cleared-row, cleared-long}
 use Rattle.sir_analyses.proofs.Growth.{grew-join, grew-not, same-grew}
 
@@ -90,9 +90,6 @@ rows-self [] = refl
 rows-self (s ∷ e) = rw (same-self s) (rows-self e)
 
 module _ {w : List ℕ} (good : WellFormed w) where
-  shape : {exits : List ℕ} {e : List Set} → Shown w exits e → Shape (blocks w) (locals w) e
-  shape s = record { tall = s .tall; wide = s .wide }
-
   module _ {t t′ : List ℕ} {e e′ : List Set} (s : Shown w t e) (s′ : Shown w t′ e′) where
     shown-same : ((k : ℕ) → k < 512 * blocks w → contains t′ k ≡ contains t k) → e′ ≡ e
     shown-same h = ext-getD [] e′ e (s′ .tall ∙ sym (s .tall)) (λ b l.

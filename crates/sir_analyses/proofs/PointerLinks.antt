@@ -1,4 +1,4 @@
--- What the tables of links and of harms hold, step by step, and that it is what the definitions say. Assumes nothing.
+-- What the tables of links and of harms hold, step by step, and that it is what the definitions say.
 use mathlib.Core.Path.{_≡_, refl, sym, ap, ap₂, _∙_}
 use mathlib.Core.Logic.{⊎-elim}
 use mathlib.Core.Bool.{Bool, true, false, _&&_, _||_, cond, or-false, or-comm}

@@ -1,4 +1,4 @@
--- Laws of the places at which a local stands in a list of operands. Assumes nothing.
+-- Laws of the places at which a local stands in a list of operands.
 use mathlib.Core.Path.{_≡_, refl, sym}
 use mathlib.Core.Bool.{Bool, true, false, not, cond}
 use mathlib.Core.Option.{some}

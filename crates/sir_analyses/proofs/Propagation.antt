@@ -1,5 +1,5 @@
 -- Where each local is followed at once, with a list of all that it carries and one flag: the marks are those of the rule, the owners
--- those of the definition, and the owners tell the reach of each allocation that is not marked. Assumes nothing.
+-- those of the definition, and the owners tell the reach of each allocation that is not marked.
 use mathlib.Core.Path.{_≡_, refl, sym, _∙_, ap}
 use mathlib.Core.Bool.{Bool, false, _||_}
 use Prim.Native.Nat.{ℕ, zero, suc, _+_, _<_}
@@ -16,7 +16,7 @@ use Rattle.sir_analyses.specs.Liveness.{Set, has}
 use Rattle.sir_analyses.specs.Allocation.{allocs, allocAt, rule12, next, escapes, isReturned, reach, marked, link, owners}
 use Rattle.sir_analyses.specs.Propagation.{State, start, Runs, begun, more, Followed, none as nobody, next as another}
 use Rattle.sir_analyses.specs.Claims.{Reached, itself, linked}
-use Rattle.sir_analyses.proofs.Marks.{carried-link, link-less, base-less, mark-rule}
+use Rattle.sir_analyses.proofs.Marks.{carried-link, link-less, next-less, base-less, mark-rule}
 use Rattle.sir_analyses.proofs.SourceSteps.{Meets, same, each, Joined, baseOf, start-length, Inv}
 use Rattle.sir_analyses.proofs.SourceMarks as Marking
 use Rattle.sir_analyses.proofs.SourceOwners as Owning
@@ -37,7 +37,7 @@ module _ (w : List ℕ) (good : WellFormed w) where
 
   onward-less : {a v : ℕ} {o : List ℕ} → a < length (allocs w) → Owning.Onward w o (baseOf w a) v → v < locals w
   onward-less {a} h (Owning.itself e) = rw e (base-less w good a h)
-  onward-less {a} {v} h (Owning.onwards {u} f m z) = Owning.small w good u v m
+  onward-less {a} {v} h (Owning.onwards {u} f m z) = next-less w good u v m
 
   -- at the end an allocation that is not marked has what it reaches
   module _ {last : ℕ} (s : State) (I : Inv w last s []) (e : s .work ≡ []) where
@@ -115,7 +115,7 @@ module _ (w : List ℕ) (good : WellFormed w) (twelve : rule12 w ≡ false) (lin
       let f = J .works v (rw e (List·Memᴰ·head refl)) in
       let l = onward-less w good less f in
       Owning.followed w o (baseOf w a) a
-      (Owning.follow-step w o (baseOf w a) a f (links v) (harms v) (record { owner = t .owner; marks = t .marks; work = vs }) (Owning.popped w o (baseOf w a) a J e) (λ x m. let k = links-next l x m in (k, Owning.small w good v x k)))
+      (Owning.follow-step w o (baseOf w a) a f (links v) (harms v) (record { owner = t .owner; marks = t .marks; work = vs }) (Owning.popped w o (baseOf w a) a J e) (λ x m. let k = links-next l x m in (k, next-less w good v x k)))
       (next-links l)
 
   -- after k allocations the turns of the other m are left

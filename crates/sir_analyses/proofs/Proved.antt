@@ -1,4 +1,4 @@
--- Every claim, for the payload words of every accepted image. Assumes nothing.
+-- Every claim, for the payload words of every accepted image.
 use mathlib.Core.Path.{_≡_, refl}
 use mathlib.Core.Bool.{Bool, true, false}
 use Prim.Native.Nat.{ℕ, _<_}
@@ -8,7 +8,7 @@ use Rattle.sir_data.specs.Pages.{payload}
 use Rattle.sir_data.specs.Rules.{first, pageRules, recordRules}
 use Rattle.sir_data.specs.WellFormed.{WellFormed}
 use Rattle.sir_data.specs.laws.WellFormed.{first-left, first-right, well-formed}
-use Rattle.sir_analyses.specs.Allocation.{rule12, marked, merged}
+use Rattle.sir_analyses.specs.Allocation.{rule12}
 use Rattle.sir_analyses.specs.Answers.{refusal}
 use Rattle.sir_analyses.specs.Claims.{OrderRule, LivenessRule, MarkRule, SourceRule}
 use Rattle.sir_analyses.specs.Walk.{Lifetimes}
@@ -17,8 +17,6 @@ use Rattle.sir_analyses.proofs.LivenessProof.{liveness-rule}
 use Rattle.sir_analyses.proofs.Marks.{mark-rule}
 use Rattle.sir_analyses.proofs.Lifetime.{lifetimes}
 use Rattle.sir_analyses.proofs.SourceProof.{source-rule}
-use Rattle.sir_analyses.specs.Sweep.{sweep}
-use Rattle.sir_analyses.proofs.SweepProof.{sweep-merged}
 
 alone : (k : ℕ) (t : Bool) → 0 < k → first ((k, t) ∷ []) ≡ 0 → t ≡ false
 alone k true l h = absurd (omega arith)
@@ -48,7 +46,3 @@ module _ (image : List ℕ) (accepted : refusal image ≡ 0) where
 
   pub source : SourceRule (payload image)
   source = source-rule (payload image) good bases-distinct
-
-  -- one backwards pass gives the merged intervals
-  pub swept : (a : ℕ) → marked (payload image) a ≡ false → sweep (payload image) a ≡ merged (payload image) a
-  swept a = sweep-merged (payload image) good a

@@ -1,4 +1,4 @@
--- Laws of tables of sets: what a table counts, and how passes that only add to it end. Assumes nothing.
+-- Laws of tables of sets: what a table counts, and how passes that only add to it end.
 use mathlib.Core.Path.{_≡_, refl, sym, ap, subst, _∙_}
 use mathlib.Core.Bool.{Bool, true, false, cond}
 use Prim.Native.Nat.{ℕ, zero, suc, _+_, _*_, _≤_, _<_}

@@ -1,4 +1,4 @@
--- A block's intervals of one local, as the step over its operations finds them. Assumes nothing.
+-- A block's intervals of one local, as the step over its operations finds them.
 use mathlib.Core.Path.{_≡_, refl, sym, ap, ap₂, _∙_}
 use mathlib.Core.Bool.{Bool, true, false, _&&_, cond}
 use mathlib.Core.List.{List, [], _∷_, _++_, foldr, append-nil, append-assoc}
@@ -8,50 +8,40 @@ use native.Mathlib.Numerals.{add-one}
 use lib.ListN.{length, take, set, length-append, length-set}
 use lib.Seq.{take-suc-set}
 use lib.Dec.{eqb}
-use borrow.Author.Tests.{eqb-true}
 use Rattle.plank_core.specs.Lists.{mem}
 use Rattle.plank_core.specs.DenseIndexSet.{contains}
 use Rattle.sir_data.specs.Records.{operations, ops, ins, outs}
-use Rattle.sir_analyses.specs.Liveness.{Interval, Scan, close, scanOp}
+use Rattle.sir_analyses.specs.Liveness.{Interval, Scan, closing, close, scanOp}
 use Rattle.sir_analyses.specs.Answers.{intervalWords}
 use Rattle.sir_analyses.specs.Tables.{OperandRows}
-use Rattle.sir_analyses.specs.Scanning.{openBefore, closedBy, closing, scanWords}
+use Rattle.sir_analyses.specs.Scanning.{openBefore, closedBy, scanWords}
 
 -- ---- one step of the definition
 
 module _ (w : List ℕ) (b v o : ℕ) (c : Scan) where
   pub scan-open : scanOp w b v o c .open′ ≡ openBefore (mem v (outs w o)) (mem v (ins w o)) (o + 1) (c .open′)
-  scan-open = go (mem v (outs w o)) (eqb (c .open′) 0) refl (mem v (ins w o)) ∙ ap (λ (k : ℕ). openBefore (mem v (outs w o)) (mem v (ins w o)) k (c .open′)) (sym (add-one o))
+  scan-open = go (mem v (outs w o)) (mem v (ins w o)) ∙ ap (λ (k : ℕ). openBefore (mem v (outs w o)) (mem v (ins w o)) k (c .open′)) (sym (add-one o))
     where
-      go : (g z : Bool) → eqb (c .open′) 0 ≡ z → (r : Bool) → (let d = cond g (close b (suc o) c) c in cond (r && eqb (d .open′) 0) (record { open′ = suc o; closed = d .closed }) d) .open′ ≡ openBefore g r (suc o) (c .open′)
-      go true true e true = rw (e, eqb-true (c .open′) 0 e)
-      go true true e false = rw (e, eqb-true (c .open′) 0 e)
-      go true false e true = rw e
-      go true false e false = rw e
-      go false true e true = rw e
-      go false true e false = refl
-      go false false e true = rw e
-      go false false e false = refl
+      kept : (t : Bool) → cond t (record { open′ = suc o; closed = c .closed }) c .open′ ≡ cond t (suc o) (c .open′)
+      kept true = refl
+      kept false = refl
+
+      go : (g r : Bool) → (let d = cond g (close b (suc o) c) c in cond (r && eqb (d .open′) 0) (record { open′ = suc o; closed = d .closed }) d) .open′ ≡ openBefore g r (suc o) (c .open′)
+      go true true = refl
+      go true false = refl
+      go false r = kept (r && eqb (c .open′) 0)
 
   pub scan-closed : scanOp w b v o c .closed ≡ c .closed ++ closing b (o + 1) (closedBy (mem v (outs w o)) (c .open′))
-  scan-closed = go (mem v (outs w o)) (eqb (c .open′) 0) refl (mem v (ins w o)) ∙ ap (λ (k : ℕ). c .closed ++ closing b k (closedBy (mem v (outs w o)) (c .open′))) (sym (add-one o))
+  scan-closed = go (mem v (outs w o)) (mem v (ins w o)) ∙ ap (λ (k : ℕ). c .closed ++ closing b k (closedBy (mem v (outs w o)) (c .open′))) (sym (add-one o))
     where
-      go : (g z : Bool) → eqb (c .open′) 0 ≡ z → (r : Bool) → (let d = cond g (close b (suc o) c) c in cond (r && eqb (d .open′) 0) (record { open′ = suc o; closed = d .closed }) d) .closed ≡ c .closed ++ closing b (suc o) (closedBy g (c .open′))
-      go true true e true = rw (e, e) (sym (append-nil (c .closed)))
-      go true true e false = rw e (sym (append-nil (c .closed)))
-      go true false e true = rw e
-      go true false e false = rw e
-      go false true e true = rw e (sym (append-nil (c .closed)))
-      go false true e false = sym (append-nil (c .closed))
-      go false false e true = rw e (sym (append-nil (c .closed)))
-      go false false e false = sym (append-nil (c .closed))
+      kept : (t : Bool) → cond t (record { open′ = suc o; closed = c .closed }) c .closed ≡ c .closed
+      kept true = refl
+      kept false = refl
 
-close-closed : (b : ℕ) (c : Scan) → close b 0 c .closed ≡ c .closed ++ closing b 0 (c .open′)
-close-closed b c = go (eqb (c .open′) 0)
-  where
-    go : (z : Bool) → cond z c (record { open′ = 0; closed = c .closed ++ (record { block = b; from = 0; to = c .open′ } ∷ []) }) .closed ≡ c .closed ++ cond z [] (record { block = b; from = 0; to = c .open′ } ∷ [])
-    go true = sym (append-nil (c .closed))
-    go false = refl
+      go : (g r : Bool) → (let d = cond g (close b (suc o) c) c in cond (r && eqb (d .open′) 0) (record { open′ = suc o; closed = d .closed }) d) .closed ≡ c .closed ++ closing b (suc o) (closedBy g (c .open′))
+      go true true = refl
+      go true false = refl
+      go false r = kept (r && eqb (c .open′) 0) ∙ sym (append-nil (c .closed))
 
 -- ---- words
 
@@ -123,6 +113,6 @@ module _ {w : List ℕ} {b v end : ℕ} {os out : List ℕ} {till n : ℕ} (g : 
   scanning-ends k out′ s t =
       let c = scanned w b v end os in
       let e : intervalWords (c .closed ++ closing b 0 till) ≡ scanWords w b v end =
-      ap (λ (u : ℕ). intervalWords (c .closed ++ closing b 0 u)) (g .opened) ∙ ap intervalWords (sym (close-closed b c)) ∙ ap (λ (ps : List ℕ). intervalWords (close b 0 (scanned w b v end ps) .closed)) k in
+      ap (λ (u : ℕ). intervalWords (c .closed ++ closing b 0 u)) (g .opened) ∙ ap (λ (ps : List ℕ). intervalWords (close b 0 (scanned w b v end ps) .closed)) k in
       let f = behind out′ 0 till s t in
       (f .0 ∙ ap length e, f .1 ∙ e)

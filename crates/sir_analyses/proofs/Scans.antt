@@ -1,16 +1,16 @@
--- The scan that gives a local's intervals in a block: what one operation does to it, and that what is live has an interval. Assumes nothing.
+-- The scan that gives a local's intervals in a block: what one operation does to it, and that what is live has an interval.
 use mathlib.Core.Path.{_≡_, refl, sym, _∙_, ap}
 use mathlib.Core.Logic.{_⊎_, inl, inr}
 use mathlib.Core.Bool.{Bool, true, false, _&&_, _||_, cond}
 use Prim.Native.Nat.{ℕ, zero, suc, _-_, _≤_, _<_}
 use native.Mathlib.Omega.{arith}
-use mathlib.Core.List.{List, [], _∷_, _++_, foldr, List·Memᴰ, List·Memᴰ·head, List·Memᴰ·tail, List·Memᴰ·not-nil, Memᴰ·append-left, Memᴰ·append-right, List·Memᴰ·append-cases, Memᴰ·cast}
+use mathlib.Core.List.{List, [], _∷_, foldr, List·Memᴰ, List·Memᴰ·head, List·Memᴰ·tail, List·Memᴰ·not-nil, Memᴰ·append-left, Memᴰ·append-right, List·Memᴰ·append-cases, Memᴰ·cast}
 use lib.Dec.{eqb}
 use borrow.Author.Tests.{eqb-true, eqb-false, ne-eqb}
 use Rattle.plank_core.specs.Lists.{count, mem, _∈_, _∉_}
 use Rattle.plank_core.specs.laws.Lists.{or-true-left, or-true-right, bool-or, none, mem-count, mem-in, in-mem, mem-not}
 use Rattle.sir_data.specs.Records.{ops, ins, outs, blockWord}
-use Rattle.sir_analyses.specs.Liveness.{Set, has, endReads, exitSet, blockEnd, Interval, Scan, close, scanOp, blockIntervals}
+use Rattle.sir_analyses.specs.Liveness.{Set, has, endReads, exitSet, blockEnd, Interval, Scan, closing, close, scanOp, blockIntervals}
 use Rattle.sir_analyses.proofs.GenKill.{through}
 
 -- os is what is left of all behind some operation, or all of it
@@ -40,19 +40,8 @@ count-ascends s (suc n) = (λ p m. omega (arith, mem-count p (suc s) n m), count
 abbrev pub Behind : ℕ → ℕ → Type 0
 Behind o n = (n ≡ 0) ⊎ (suc o ≤ n)
 
-close-open : (b f : ℕ) (c : Scan) → close b f c .open′ ≡ 0
-close-open b f c = go (eqb (c .open′) 0) refl
-  where
-    go : (t : Bool) → eqb (c .open′) 0 ≡ t → cond t c (record { open′ = 0; closed = c .closed ++ (record { block = b; from = f; to = c .open′ } ∷ []) }) .open′ ≡ 0
-    go true e = eqb-true (c .open′) 0 e
-    go false e = refl
-
 close-closed : {i : Interval} (b f : ℕ) (c : Scan) → List·Memᴰ i (c .closed) → List·Memᴰ i (close b f c .closed)
-close-closed {i} b f c m = go (eqb (c .open′) 0)
-  where
-    go : (t : Bool) → List·Memᴰ i (cond t c (record { open′ = 0; closed = c .closed ++ (record { block = b; from = f; to = c .open′ } ∷ []) }) .closed)
-    go true = m
-    go false = Memᴰ·append-left (record { block = b; from = f; to = c .open′ } ∷ []) m
+close-closed b f c m = Memᴰ·append-left (closing b f (c .open′)) m
 
 abbrev pub piece : ℕ → ℕ → ℕ → Interval
 piece b f t = record { block = b; from = f; to = t }
@@ -62,16 +51,13 @@ close-emits b f c n =
     rw (ne-eqb (c .open′) 0 n) (Memᴰ·append-right (c .closed) (List·Memᴰ·head refl))
 
 pub close-out : {i : Interval} (b f : ℕ) (c : Scan) → List·Memᴰ i (close b f c .closed) → List·Memᴰ i (c .closed) ⊎ (¬ (c .open′ ≡ 0) × (i ≡ piece b f (c .open′)))
-close-out {i} b f c m = go (eqb (c .open′) 0) refl m
+close-out {i} b f c m = go (eqb (c .open′) 0) refl (List·Memᴰ·append-cases (c .closed) m)
   where
-    new : ¬ (c .open′ ≡ 0) → List·Memᴰ i (c .closed) ⊎ List·Memᴰ i (piece b f (c .open′) ∷ []) → List·Memᴰ i (c .closed) ⊎ (¬ (c .open′ ≡ 0) × (i ≡ piece b f (c .open′)))
-    new n (inl h) = inl h
-    new n (inr (List·Memᴰ·head e)) = inr (n, e)
-    new n (inr (List·Memᴰ·tail h)) = absurd (List·Memᴰ·not-nil h)
-
-    go : (t : Bool) → eqb (c .open′) 0 ≡ t → List·Memᴰ i (cond t c (record { open′ = 0; closed = c .closed ++ (record { block = b; from = f; to = c .open′ } ∷ []) }) .closed) → List·Memᴰ i (c .closed) ⊎ (¬ (c .open′ ≡ 0) × (i ≡ piece b f (c .open′)))
-    go true e h = inl h
-    go false e h = new (eqb-false (c .open′) 0 e) (List·Memᴰ·append-cases (c .closed) h)
+    go : (t : Bool) → eqb (c .open′) 0 ≡ t → List·Memᴰ i (c .closed) ⊎ List·Memᴰ i (cond t [] (piece b f (c .open′) ∷ [])) → List·Memᴰ i (c .closed) ⊎ (¬ (c .open′ ≡ 0) × (i ≡ piece b f (c .open′)))
+    go t e (inl h) = inl h
+    go true e (inr h) = absurd (List·Memᴰ·not-nil h)
+    go false e (inr (List·Memᴰ·head q)) = inr (eqb-false (c .open′) 0 e, q)
+    go false e (inr (List·Memᴰ·tail h)) = absurd (List·Memᴰ·not-nil h)
 
 module _ (w : List ℕ) (b v o : ℕ) where
   abbrev ended : Scan → Scan
@@ -114,7 +100,7 @@ module _ (w : List ℕ) (b v o : ℕ) where
   ended-behind p c h = go (mem v (outs w o))
     where
       go : (t : Bool) → Behind p (cond t (close b (suc o) c) c .open′)
-      go true = inl (close-open b (suc o) c)
+      go true = inl refl
       go false = h
 
   ended-closed : {i : Interval} (c : Scan) → List·Memᴰ i (c .closed) → List·Memᴰ i (ended c .closed)

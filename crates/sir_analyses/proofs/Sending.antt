@@ -1,19 +1,18 @@
 -- What one block sends: its entry set, parted by its inputs, and what of it arrives at the exits of its predecessors.
--- Assumes nothing.
 use mathlib.Core.Path.{_≡_, refl, sym, ap, ap₂, subst, _∙_}
-use mathlib.Core.Logic.{⊎-elim}
-use mathlib.Core.Bool.{Bool, true, false, not, _&&_, _||_, cond, and-true, and-or-distrib-right}
-use mathlib.Core.List.{List, [], _∷_, _++_, append-nil, List·Memᴰ·head, List·Memᴰ·tail, Memᴰ·cast, Memᴰ·map, Memᴰ·of-map}
+use mathlib.Core.Logic.{_⊎_, inl, inr, ⊎-elim}
+use mathlib.Core.Bool.{Bool, true, false, not, _&&_, _||_, cond, and-true, or-comm, and-or-distrib-right}
+use mathlib.Core.List.{List, [], _∷_, _++_, append-nil, Memᴰ·cast, Memᴰ·map, Memᴰ·of-map}
 use Prim.Native.Nat.{ℕ, _+_, _*_, _≤_, _<_}
 use native.Mathlib.Omega.{arith}
 use native.Mathlib.Numerals.{add-one}
 use lib.ListN.{length, getD, set, take, replicate, length-set, List·getD-eq-default}
 use lib.Seq.{length-take-le, take-suc, take-suc-set, getD-take, take-all}
 use lib.Dec.{eqb}
-use borrow.Author.Tests.{eqb-true}
-use Rattle.plank_core.specs.Lists.{upto, keep, mem, distinct, _∈_}
-use Rattle.plank_core.specs.laws.Lists.{and-true-left, both-true, or-true-left, or-true-right, or-cases, none, upto-mem, mem-upto, keep-mem, keep-out, mem-in, in-mem, mem-not, mem-snoc, mem-place, getD-mem, getD-elem, getD-any, distinct-places}
-use Rattle.plank_core.specs.laws.Loops.{upto-more, keep-append}
+use borrow.Author.Tests.{eqb-true, not-true}
+use Rattle.plank_core.specs.Lists.{upto, keep, mem, distinct, oneIf, _∈_}
+use Rattle.plank_core.specs.laws.Lists.{and-true-left, and-true-right, both-true, or-true-left, or-true-right, or-cases, none, times, times-mem, split, upto-mem, mem-upto, keep-mem, keep-out, mem-in, in-mem, mem-not, mem-snoc, mem-place, getD-mem, getD-elem, getD-any, distinct-places}
+use Rattle.plank_core.specs.laws.Loops.{upto-more, keep-append, once-most}
 use Rattle.plank_core.specs.DenseIndexSet.{contains, removed, rowOf, rowUnion, rowDifference}
 use Rattle.plank_core.specs.laws.DenseIndexSet.{contains-cleared, contains-row, contains-removed, length-removed, length-union, length-difference, set-union, set-difference}
 use Rattle.sir_data.specs.Records.{blocks, locals, inputs, outputs}
@@ -23,7 +22,6 @@ use Rattle.sir_analyses.specs.Liveness.{indexOf, renamed}
 use Rattle.sir_analyses.specs.Tables.{EntryWords, Parted, outputsAt, arrives}
 use Rattle.sir_analyses.proofs.Tables.{taken-next}
 use Rattle.sir_analyses.proofs.Positions.{index-at, index-none}
-use Rattle.sir_analyses.proofs.OrderLaws.{free, free-nil, free-new}
 use Rattle.sir_analyses.proofs.OrderProof.{blocks-seen, blocks-below, predecessors-out}
 
 -- ---- the entry set
@@ -38,13 +36,7 @@ entry-words uses defs exits b {x} {y} {z} p q r v h =
     let cy : contains y v ≡ (contains exits (512 * b + v) && not (contains defs (512 * b + v))) =
     ap (λ (ws : List ℕ). contains ws v) q ∙ set-difference x (rowOf defs b) v h (omega arith) ∙ ap₂ (λ s t. s && not t) cx (contains-row defs b v h) in
     ap (λ (ws : List ℕ). contains ws v) r ∙ set-union y (rowOf uses b) v h (omega arith) ∙ ap₂ (λ s t. s || t) cy (contains-row uses b v h)
-    ∙ go (contains exits (512 * b + v) && not (contains defs (512 * b + v))) (contains uses (512 * b + v))
-  where
-    go : (s t : Bool) → (s || t) ≡ (t || s)
-    go true true = refl
-    go true false = refl
-    go false true = refl
-    go false false = refl
+    ∙ or-comm (contains exits (512 * b + v) && not (contains defs (512 * b + v))) (contains uses (512 * b + v))
 
 -- ---- inputs taken out of a set
 
@@ -64,25 +56,21 @@ pub record Parting (xs ws₀ moved₀ ws moved : List ℕ) (n i : ℕ) : Type 0 
 pub parting-starts : (xs ws moved : List ℕ) → Parting xs ws moved ws moved 0 0
 parting-starts xs ws moved = record { few = omega arith; here = omega arith; set-long = refl; moved-long = refl; left = λ v h. sym (and-true (contains ws v)); found = refl }
 
+-- a list that is distinct has each number at most once
+distinct-times : (x : ℕ) (ys : List ℕ) → distinct ys ≡ true → times x ys ≤ 1
+distinct-times x [] d = omega arith
+distinct-times x (y ∷ ys) d = go (eqb x y) refl (split 0 (times x ys)) (distinct-times x ys (and-true-right (not (mem y ys)) (distinct ys) d))
+  where
+    go : (t : Bool) → eqb x y ≡ t → (0 < times x ys) ⊎ (times x ys ≤ 0) → times x ys ≤ 1 → oneIf (eqb x y) + times x ys ≤ 1
+    go false e l r = rw e (omega arith)
+    go true e (inr l) r = rw e (omega arith)
+    go true e (inl l) r =
+        let q : x ≡ y = eqb-true x y e in
+        none (mem y ys) (in-mem y (subst (λ (z : ℕ). z ∈ ys) q (times-mem x ys l))) (not-true (mem y ys) (and-true-left (not (mem y ys)) (distinct ys) d))
+
 -- distinct numbers below n are at most n
 pub distinct-few : (n : ℕ) (xs : List ℕ) → distinct xs ≡ true → ((x : ℕ) → x ∈ xs → x < n) → length xs ≤ n
-distinct-few n xs d h = omega (arith, all xs d h)
-  where
-    all : (ys : List ℕ) → distinct ys ≡ true → ((x : ℕ) → x ∈ ys → x < n) → length ys + free n ys ≡ n
-    all [] d h = omega (arith, free-nil n)
-    all (y ∷ ys) d h =
-        let new : mem y ys ≡ false = sym (not-not (mem y ys)) ∙ ap not (and-true-left (not (mem y ys)) (distinct ys) d) in
-        let f = free-new n y ys (h y (List·Memᴰ·head refl)) new in
-        let r = all ys (and-right (not (mem y ys)) (distinct ys) d) (λ x m. h x (List·Memᴰ·tail m)) in
-        omega arith
-      where
-        not-not : (t : Bool) → not (not t) ≡ t
-        not-not true = refl
-        not-not false = refl
-
-        and-right : (s t : Bool) → (s && t) ≡ true → t ≡ true
-        and-right true t e = e
-        and-right false t e = none false e refl
+distinct-few n xs d h = once-most xs n (λ x. distinct-times x xs d) h
 
 module _ {xs ws₀ moved₀ ws moved : List ℕ} {n i : ℕ} (once : distinct xs ≡ true) (wide : length ws₀ ≡ 8) (h : i < length xs) (small : getD xs i 0 < 512) (g : Parting xs ws₀ moved₀ ws moved n i) where
   abbrev v : ℕ

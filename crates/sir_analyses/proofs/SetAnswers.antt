@@ -1,6 +1,6 @@
--- What the questions read off the tables: the members of exit and entry sets, and the intervals of a local. Assumes nothing.
+-- What the questions read off the tables: the members of exit and entry sets, and the intervals of a local.
 use mathlib.Core.Path.{_≡_, refl, sym, ap, ap₂, _∙_}
-use mathlib.Core.Bool.{Bool, true, false, _||_, cond}
+use mathlib.Core.Bool.{Bool, false, _||_, cond}
 use mathlib.Core.List.{List, [], _∷_, _++_, append-nil}
 use Prim.Native.Nat.{ℕ, zero, suc, _+_, _-_, _*_, _≤_, _<_}
 use native.Mathlib.Omega.{arith}
@@ -14,10 +14,10 @@ use Rattle.plank_core.specs.laws.DenseIndexSet.{contains-row, contains-cleared,
 use Rattle.sir_data.specs.Records.{blocks}
 use Rattle.sir_data.specs.WellFormed.{WellFormed}
 use Rattle.sir_analyses.specs.Order.{isVisited}
-use Rattle.sir_analyses.specs.Liveness.{Set, has, members, entryFrom, settled, exitSet, blockIntervals}
+use Rattle.sir_analyses.specs.Liveness.{Set, has, members, entryFrom, settled, exitSet, endOpen, blockIntervals}
 use Rattle.sir_analyses.specs.Answers.{exitAnswer, entryAnswer, intervalWords}
 use Rattle.sir_analyses.specs.Tables.{Same, SameRows, BlockRows, EndRows, EntryWords, LiveRows}
-use Rattle.sir_analyses.specs.Scanning.{endOpen, scanWords}
+use Rattle.sir_analyses.specs.Scanning.{scanWords}
 use Rattle.sir_analyses.proofs.GenKill.{beyond, entry-length}
 use Rattle.sir_analyses.proofs.LivenessProof.{exit-size}
 use Rattle.sir_analyses.proofs.Stepping.{entry-shows}
@@ -69,9 +69,6 @@ front-members s out {n = n} l e = ap (take n) e ∙ take-at (Words.members s) (d
 module _ {w : List ℕ} (good : WellFormed w) {uses defs exits : List ℕ} (t : LiveRows w uses defs exits) {b : ℕ} (l : b < blocks w) where
   pub row-answer : {set : List ℕ} → set ≡ Words.rowOf exits b → (length set ≡ 8) × (Words.members set ≡ exitAnswer w b)
   row-answer e = (ap length e ∙ length-row exits b (omega (arith, t .exits-long, good .sized .blocks-most)), ap Words.members e ∙ t .exit-is b l)
-
-  pub entry-answer : isVisited w b ≡ true → (ws : List ℕ) → EntryWords uses defs exits b ws → Words.members ws ≡ entryAnswer w b
-  entry-answer v ws e = t .entry-is b l v ws e
 
 -- an unvisited block has an empty entry set
 pub no-entry : (w : List ℕ) (b : ℕ) → isVisited w b ≡ false → Words.members (replicate 8 0) ≡ entryAnswer w b

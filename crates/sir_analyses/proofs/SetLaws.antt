@@ -1,4 +1,4 @@
--- Laws of sets of locals, one Bool for each local. Assumes nothing.
+-- Laws of sets of locals, one Bool for each local.
 use mathlib.Core.Path.{_≡_, refl, sym, ap, _∙_, subst}
 use mathlib.Core.Logic.{_⊎_, inl, inr, ⊎-elim}
 use mathlib.Core.Bool.{Bool, true, false, not, _&&_, _||_, cond}

@@ -1,5 +1,5 @@
 -- The source's marks are those of the rule. What is said of a step, of the start and of the end holds for every machine that follows
--- locals with a work list; only `drain` and `propagate` are the source's own. Assumes nothing.
+-- locals with a work list; only `drain` and `propagate` are the source's own.
 use mathlib.Core.Path.{_≡_, refl, sym, _∙_, ap, subst}
 use mathlib.Core.Logic.{_⊎_, inl, inr}
 use mathlib.Core.Bool.{Bool, true, false, _||_}
@@ -19,8 +19,8 @@ use Rattle.sir_analyses.specs.Propagation.{State, linkLocal, follow, sta
 use Rattle.sir_analyses.specs.Source.{followUse, pop, drain, propagate, sourceAfter, sourceState, sourceMarked}
 use Rattle.sir_analyses.specs.Claims.{Reached, itself, linked, Marked, escaped, returned, met}
 use Rattle.sir_analyses.proofs.SetLaws.{none-in, add-in}
-use Rattle.sir_analyses.proofs.Marks.{next-link, link-less, base-less, mark-rule}
-use Rattle.sir_analyses.proofs.SourceSteps.{marksAt, follow-use, zeros-most, bases-out, bases-in, no-owner, Meets, same, each, Joined, meets-trans, joined-grow, baseOf, start-length, Done, Inv, Grown, grown-trans, grown-refl, remark, fold-step}
+use Rattle.sir_analyses.proofs.Marks.{next-less, base-less, mark-rule}
+use Rattle.sir_analyses.proofs.SourceSteps.{marksAt, follow-use, zeros-most, bases-out, bases-in, zeros-at, Meets, same, each, Joined, meets-trans, joined-grow, baseOf, start-length, Done, Inv, Grown, grown-trans, grown-refl, remark, fold-step}
 
 any-or : {A : Type 0} (p q : A → Bool) (xs : List A) → any (λ x. p x || q x) xs ≡ (any p xs || any q xs)
 any-or p q [] = refl
@@ -151,7 +151,7 @@ module _ (w : List ℕ) (good : WellFormed w) where
   follow-step {a} {l} {s} {more} I less r xs f harm h = go harm h
     where
       reached : (y : ℕ) → y ∈ xs → (y < locals w) × Reached w a y
-      reached y m = let b = bind-out (carried w) (uses w l) (f y m) in (link-less w good (next-link w (f y m)), linked r (b .1) (b .2))
+      reached y m = let b = bind-out (carried w) (uses w l) (f y m) in (next-less w good l y (f y m), linked r (b .1) (b .2))
 
       after : State
       after = foldl (linkLocal a) s xs
@@ -196,7 +196,7 @@ module _ (w : List ℕ) (good : WellFormed w) where
         known x c e = go (bases-out (baseOf w) x c (replicate (locals w) 0) (upto (length (allocs w))) e)
           where
             go : (getD (replicate (locals w) 0) x 0 ≡ suc c) ⊎ ((c ∈ upto (length (allocs w))) × (x ≡ baseOf w c)) → (c ∈ upto (length (allocs w))) × (x ≡ baseOf w c)
-            go (inl h) = absurd (no-owner (locals w) x c h)
+            go (inl h) = absurd (let z : suc c ≡ 0 = sym h ∙ zeros-at (locals w) x in omega arith)
             go (inr h) = h
 
   -- ---- the end: nothing is left to be followed

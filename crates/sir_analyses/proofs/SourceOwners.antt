@@ -1,5 +1,5 @@
 -- The owners as the source gives them are those of the definition. What is said of a step, of the start and of the end of a turn
--- holds for every machine that follows locals with a work list; only `drain` and `propagate` are the source's own. Assumes nothing.
+-- holds for every machine that follows locals with a work list; only `drain` and `propagate` are the source's own.
 use mathlib.Core.Path.{_≡_, refl, sym, _∙_, ap, subst}
 use mathlib.Core.Logic.{_⊎_, inl, inr}
 use mathlib.Core.Bool.{Bool, true, false, cond}
@@ -21,7 +21,7 @@ use Rattle.sir_analyses.specs.Discovery.{zeros}
 use Rattle.sir_analyses.specs.Propagation.{State, linkLocal, follow, start}
 use Rattle.sir_analyses.specs.Source.{followUse, pop, drain, propagate, sourceState}
 use Rattle.sir_analyses.proofs.SetLaws.{members-in, members-out}
-use Rattle.sir_analyses.proofs.Marks.{spread-sound, spread-base, spread-step, next-link, link-less, base-less}
+use Rattle.sir_analyses.proofs.Marks.{spread-sound, spread-base, spread-step, next-less, base-less}
 use Rattle.sir_analyses.proofs.SourceSteps.{marksAt, follow-use, zeros-most, zeros-fewer, zeros-no-more, start-length}
 
 -- what the work list comes to from v, where o has the owners before: v itself, and what nobody had
@@ -244,9 +244,6 @@ give-out o (v ∷ vs) a x n = give-out (set o v (suc a)) vs a x (λ m. n (List·
 -- ---- both
 
 module _ (w : List ℕ) (good : WellFormed w) where
-  pub small : (u x : ℕ) → x ∈ next w u → x < locals w
-  small u x m = link-less w good (next-link w m)
-
   module _ (a : ℕ) (less : a < length (allocs w)) (o : List ℕ) (size : length o ≡ locals w) where
     abbrev v : ℕ
     v = base w (allocAt w a)
@@ -267,7 +264,7 @@ module _ (w : List ℕ) (good : WellFormed w) where
     onward-reached {x} (onwards {u} f m z) =
         spread-step (unowned w o) w v
         (keep-mem (λ (x : ℕ). eqb (getD o x 0) 0) (bind-mem (next w) (members-in reached u (onward-reached f)) m) (eq-eqb (getD o x 0) 0 z))
-        (small u x m)
+        (next-less w good u x m)
 
     taken : List ℕ
     taken = nextOf w reached
@@ -301,7 +298,7 @@ module _ (w : List ℕ) (good : WellFormed w) where
 
     -- one turn of the source
     turn : (marks : Set) (work : List ℕ) → propagate w (record { owner = o; marks = marks; work = work }) a .owner ≡ link w o a
-    turn marks work = turned (drained w o v a small (suc (locals w)) (record { owner = o; marks = marks; work = v ∷ [] }) first (omega (arith, zeros-most o)))
+    turn marks work = turned (drained w o v a (next-less w good) (suc (locals w)) (record { owner = o; marks = marks; work = v ∷ [] }) first (omega (arith, zeros-most o)))
 
   pub link-length : (a : ℕ) (o : List ℕ) → length (link w o a) ≡ length o
   link-length a o = length-give o (nextOf w (spread w (unowned w o) (base w (allocAt w a)))) a

@@ -1,4 +1,4 @@
--- The source's own steps come to the marks, the owners and the merged intervals of the definitions. Assumes nothing.
+-- The source's own steps come to the marks, the owners and the merged intervals of the definitions.
 use mathlib.Core.Path.{_≡_, refl, sym, _∙_, ap}
 use mathlib.Core.Bool.{Bool, true, false, cond}
 use Prim.Native.Nat.{ℕ, suc, _-_, _<_}

@@ -1,4 +1,4 @@
--- What linking one local does to owners and marks: each step keeps an invariant. Assumes nothing.
+-- What linking one local does to owners and marks: each step keeps an invariant.
 use mathlib.Core.Path.{_≡_, refl, sym, _∙_, ap}
 use mathlib.Core.Logic.{_⊎_, inl, inr}
 use mathlib.Core.Bool.{Bool, true, false, _&&_, _||_, cond}
@@ -87,10 +87,10 @@ module _ (f : ℕ → ℕ) where
       bases-keep k (giveBase owner j) ks (λ i m. d i (List·Memᴰ·tail m)) (rw length-set l) z
   bases-in {k} owner (List·Memᴰ·tail {x = j} {xs = ks} m) d l = bases-in (giveBase owner j) m (λ i m. d i (List·Memᴰ·tail m)) (rw length-set l)
 
-pub no-owner : (m x c : ℕ) → getD (replicate m 0) x 0 ≡ suc c → ⊥
-no-owner zero x c e = omega arith
-no-owner (suc m) zero c e = omega arith
-no-owner (suc m) (suc x) c e = no-owner m x c e
+pub zeros-at : (n v : ℕ) → _≡_ {A = ℕ} (getD (replicate n 0) v 0) 0
+zeros-at zero v = refl
+zeros-at (suc n) zero = refl
+zeros-at (suc n) (suc v) = zeros-at n v
 
 -- ---- one use
 

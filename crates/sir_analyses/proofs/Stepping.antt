@@ -1,4 +1,4 @@
--- One block of a pass over tables is one step of the definition, though it sends only what it did not send before. Assumes nothing.
+-- One block of a pass over tables is one step of the definition, though it sends only what it did not send before.
 use mathlib.Core.Path.{_≡_, refl, sym, ap, ap₂, subst, _∙_}
 use mathlib.Core.Logic.{⊎-elim}
 use mathlib.Core.Bool.{Bool, true, false, not, _&&_, _||_, or-false, and-false}

@@ -1,14 +1,14 @@
--- The sweep gives the merged intervals. Assumes nothing.
+-- The sweep gives the merged intervals.
 use mathlib.Core.Path.{_≡_, refl, sym, _∙_, ap}
 use mathlib.Core.Logic.{_↔_, _⊎_, inl, inr}
-use mathlib.Core.Bool.{Bool, true, false, not, _&&_, _||_, cond}
-use Prim.Native.Nat.{ℕ, zero, suc, _+_, _-_, _*_, _≤_, _<_}
+use mathlib.Core.Bool.{Bool, true, false, not, _&&_, _||_, cond, and-assoc, and-or-distrib-left}
+use Prim.Native.Nat.{ℕ, zero, suc, _+_, _-_, _≤_, _<_}
 use native.Mathlib.Omega.{arith}
 use mathlib.Core.List.{List, [], _∷_, _++_, foldr, List·Memᴰ, List·Memᴰ·head, List·Memᴰ·tail, List·Memᴰ·not-nil, List·Memᴰ·append-cases}
 use lib.ListN.{length}
 use lib.Seq.{ext-getD}
-use lib.Dec.{eqb, eqb·suc-zero}
-use borrow.Author.Tests.{eqb-true, eqb-false, ne-eqb, not-true}
+use lib.Dec.{eqb}
+use borrow.Author.Tests.{eqb-false, ne-eqb, not-true}
 use Rattle.plank_core.specs.Lists.{bind, keep, mem, count, upto, _∈_}
 use Rattle.plank_core.specs.laws.Lists.{and-true-left, and-true-right, both-true, none, keep-mem, keep-out, bind-mem, bind-out, mem-keep, upto-mem}
 use Rattle.sir_data.specs.Records.{blocks, ops, ins, outs, blockWord}
@@ -50,28 +50,20 @@ meet-add r s vs e = ext-getD false (meet r (addAll s vs)) (addAll (meet r s) (ke
     (length-meet r (addAll s vs) (e ∙ sym (length-addAll s vs)) ∙ sym (length-addAll (meet r s) (keep (has r) vs) ∙ length-meet r s e))
     (λ v h. each v (omega (arith, length-meet r (addAll s vs) (e ∙ sym (length-addAll s vs)))))
   where
-    tests : (a x k : Bool) → (a && (x || k)) ≡ ((a && x) || (a && k))
-    tests true x k = refl
-    tests false x k = refl
-
     each : (v : ℕ) → v < length r → has (meet r (addAll s vs)) v ≡ has (addAll (meet r s) (keep (has r) vs)) v
     each v h =
         let l : v < length (meet r s) = omega (arith, length-meet r s e) in
-        rw (has-meet, has-addAll s vs v (omega arith), has-addAll (meet r s) (keep (has r) vs) v l, has-meet, mem-keep) (tests (has r v) (has s v) (mem v vs))
+        rw (has-meet, has-addAll s vs v (omega arith), has-addAll (meet r s) (keep (has r) vs) v l, has-meet, mem-keep) (and-or-distrib-left (has r v) (has s v) (mem v vs))
 
 pub meet-remove : (r s : Set) (vs : List ℕ) → length r ≡ length s → meet r (removeAll s vs) ≡ removeAll (meet r s) vs
 meet-remove r s vs e = ext-getD false (meet r (removeAll s vs)) (removeAll (meet r s) vs)
     (length-meet r (removeAll s vs) (e ∙ sym (length-removeAll s vs)) ∙ sym (length-removeAll (meet r s) vs ∙ length-meet r s e))
     (λ v h. each v (omega (arith, length-meet r (removeAll s vs) (e ∙ sym (length-removeAll s vs)))))
   where
-    tests : (a x k : Bool) → (a && (x && k)) ≡ ((a && x) && k)
-    tests true x k = refl
-    tests false x k = refl
-
     each : (v : ℕ) → v < length r → has (meet r (removeAll s vs)) v ≡ has (removeAll (meet r s) vs) v
     each v h =
         let l : v < length (meet r s) = omega (arith, length-meet r s e) in
-        rw (has-meet, has-removeAll s vs v (omega arith), has-removeAll (meet r s) vs v l, has-meet) (tests (has r v) (has s v) (not (mem v vs)))
+        rw (has-meet, has-removeAll s vs v (omega arith), has-removeAll (meet r s) vs v l, has-meet) (sym (and-assoc (has r v) (has s v) (not (mem v vs))))
 
 pub nonempty-has : (s : Set) → nonempty s ≡ true → (v : ℕ) × (has s v ≡ true)
 nonempty-has [] t = none false t refl
@@ -130,14 +122,6 @@ module _ (w : List ℕ) (b : ℕ) where
         let l : length r ≡ length (live os) = size ∙ sym (length-live os) in
         ap (liveBefore w r o) (sweep-live os)
         ∙ sym (meet-add r (removeAll (live os) (outs w o)) (ins w o) (l ∙ sym (length-removeAll (live os) (outs w o))) ∙ ap (λ (s : Set). addAll s (keep (has r) (ins w o))) (meet-remove r (live os) (outs w o) l))
-
-    -- a local is in it exactly where it is of r and has an open end
-    pub sweep-each : (v : ℕ) (os : List ℕ) → has (state os .live) v ≡ (has r v && not (eqb (scanned v os .open′) 0))
-    sweep-each v os = ap (λ (s : Set). has s v) (sweep-live os) ∙ has-meet r (live os) v ∙ go (has r v) refl
-      where
-        go : (t : Bool) → has r v ≡ t → (t && has (live os) v) ≡ (t && not (eqb (scanned v os .open′) 0))
-        go true e = sym (scan-live v os (omega (arith, has-less r v e, size)))
-        go false e = refl
 
     sweep-steps : (o : ℕ) (os : List ℕ) → Step b o (state os .spans) (state (o ∷ os) .spans)
     sweep-steps o os = note-step b o (nonempty (liveBefore w r o (state os .live))) (state os .spans)
@@ -241,8 +225,8 @@ note-tidy {b} {o} true c y = go (eqb (c .open′) 0) refl
         later (inr g) = inr (omega arith)
 note-tidy {b} {o} false c y = go (eqb (c .open′) 0) refl
   where
-    go : (t : Bool) → eqb (c .open′) 0 ≡ t → Tidy b o (cond t c (record { open′ = 0; closed = piece b (suc o) (c .open′) ∷ c .closed }))
-    go true e = record { normal = y .normal; mine = λ i h. let k = y .mine i h in (k .0, omega arith, k .2); end = inl (eqb-true (c .open′) 0 e) }
+    go : (t : Bool) → eqb (c .open′) 0 ≡ t → Tidy b o (record { open′ = 0; closed = cond t [] (piece b (suc o) (c .open′) ∷ []) ++ c .closed })
+    go true e = record { normal = y .normal; mine = λ i h. let k = y .mine i h in (k .0, omega arith, omega arith); end = inl refl }
     go false e = record { normal = put (c .closed) (proper (y .end)) (λ j h. let k = y .mine j h in Apart.gapped (sym (k .0)) (k .2)) (y .normal); mine = ours; end = inl refl }
       where
         proper : Ahead (suc o) c → suc o ≤ c .open′
@@ -265,7 +249,7 @@ shut-own {b} {p} c y = go (eqb (c .open′) 0)
     ours i (List·Memᴰ·head q) = ap (λ (j : Interval). j .block) q
     ours i (List·Memᴰ·tail h) = y .mine i h .0
 
-    go : (t : Bool) → Own b (cond t c (record { open′ = 0; closed = piece b 0 (c .open′) ∷ c .closed }) .closed)
+    go : (t : Bool) → Own b (cond t [] (piece b 0 (c .open′) ∷ []) ++ c .closed)
     go true = record { normal = y .normal; mine = λ i h. y .mine i h .0 }
     go false = record { normal = put (c .closed) (omega arith) (λ j h. let k = y .mine j h in Apart.gapped (sym (k .0)) (k .2)) (y .normal); mine = ours }
 
@@ -304,7 +288,7 @@ onto is c = record { open′ = c .open′; closed = c .closed ++ is }
 shut-onto : (b f : ℕ) (is : List Interval) (c : Scan) → shut b f (onto is c) ≡ onto is (shut b f c)
 shut-onto b f is c = go (eqb (c .open′) 0)
   where
-    go : (t : Bool) → cond t (onto is c) (record { open′ = 0; closed = piece b f (c .open′) ∷ (c .closed ++ is) }) ≡ onto is (cond t c (record { open′ = 0; closed = piece b f (c .open′) ∷ c .closed }))
+    go : (t : Bool) → record { open′ = 0; closed = cond t [] (piece b f (c .open′) ∷ []) ++ (c .closed ++ is) } ≡ onto is (record { open′ = 0; closed = cond t [] (piece b f (c .open′) ∷ []) ++ c .closed })
     go true = refl
     go false = refl
 
@@ -337,45 +321,6 @@ module _ (w : List ℕ) (r : Set) where
           → cond t (sweepBlock w r s (sweepFrom w r (count (suc s) n))) (sweepFrom w r (count (suc s) n)) ≡ bind (cond t (s ∷ keep (isVisited w) (count (suc s) n)) (keep (isVisited w) (count (suc s) n))) (λ b. sweepBlock w r b [])
       go true e = block-onto s (sweepFrom w r (count (suc s) n)) ∙ ap (λ (is : List Interval). sweepBlock w r s [] ++ is) e
       go false e = e
-
--- ---- how many
-
--- k operations are passed
-abbrev Few : ℕ → Scan → Type 0
-Few k c = 2 * length (c .closed) + cond (eqb (c .open′) 0) 0 1 ≤ k + 1
-
-note-few : (b o k : ℕ) (t : Bool) (c : Scan) → Few k c → Few (suc k) (note b o t c)
-note-few b o k true c h = go (eqb (c .open′) 0) refl h
-  where
-    go : (t : Bool) → eqb (c .open′) 0 ≡ t → 2 * length (c .closed) + cond t 0 1 ≤ k + 1 → 2 * length (c .closed) + cond (eqb (cond t (suc o) (c .open′)) 0) 0 1 ≤ suc k + 1
-    go true e h = rw eqb·suc-zero (omega arith)
-    go false e h = rw e (omega arith)
-note-few b o k false c h = go (eqb (c .open′) 0) refl h
-  where
-    go : (t : Bool) → eqb (c .open′) 0 ≡ t → 2 * length (c .closed) + cond t 0 1 ≤ k + 1 → Few (suc k) (cond t c (record { open′ = 0; closed = piece b (suc o) (c .open′) ∷ c .closed }))
-    go true e h = rw e (omega arith)
-    go false e h = omega arith
-
-shut-few : (b k : ℕ) (c : Scan) → Few k c → 2 * length (shut b 0 c .closed) ≤ k + 2
-shut-few b k c h = go (eqb (c .open′) 0) h
-  where
-    go : (t : Bool) → 2 * length (c .closed) + cond t 0 1 ≤ k + 1 → 2 * length (cond t c (record { open′ = 0; closed = piece b 0 (c .open′) ∷ c .closed }) .closed) ≤ k + 2
-    go true h = omega arith
-    go false h = omega arith
-
--- at most one interval for every two operations, and one
-pub sweep-few : (w : List ℕ) (r : Set) (b : ℕ) → 2 * length (sweepBlock w r b []) ≤ length (ops w b) + 2
-sweep-few w r b = shut-few b (length (ops w b)) (foldr (sweepOp w r b) (sweepEnd w r b []) (ops w b) .spans) (each (ops w b))
-  where
-    each : (os : List ℕ) → Few (length os) (foldr (sweepOp w r b) (sweepEnd w r b []) os .spans)
-    each [] = go (nonempty (liveAtEnd w r b))
-      where
-        go : (t : Bool) → Few 0 (record { open′ = cond t blockEnd 0; closed = [] })
-        go true = omega arith
-        go false = omega arith
-    each (o ∷ os) =
-        let c = foldr (sweepOp w r b) (sweepEnd w r b []) os in
-        note-few b o (length os) (nonempty (liveBefore w r o (c .live))) (c .spans) (each os)
 
 -- ---- the whole
 
@@ -435,10 +380,3 @@ module _ (w : List ℕ) (good : WellFormed w) where
     sweep-merged u =
         sweep-listed w r 0 (blocks w)
         ∙ merged-unique w good a (listed w r) u sweep-normal (λ b n. sweep-spans (omega arith)) (λ b n. sweep-spans (omega arith))
-
-    pub merged-sweep : merged w a ≡ cond (marked w a) [] (sweep w a)
-    merged-sweep = go (marked w a) refl
-      where
-        go : (t : Bool) → marked w a ≡ t → merged w a ≡ cond t [] (sweep w a)
-        go true e = rw e refl
-        go false e = sym (sweep-merged e)

@@ -1,11 +1,11 @@
--- What passing one operation does to a scan and to a sweep, and what each covers then. Assumes nothing.
+-- What passing one operation does to a scan and to a sweep, and what each covers then.
 use mathlib.Core.Path.{_≡_, refl, sym, _∙_}
 use mathlib.Core.Logic.{_↔_, _⊎_, inl, inr}
 use mathlib.Core.Bool.{Bool, true, false, not, _&&_, _||_, cond}
 use Prim.Native.Nat.{ℕ, suc, _≤_, _<_}
 use native.Mathlib.Omega.{arith}
 use native.Mathlib.Decide.{decLe}
-use mathlib.Core.List.{List, [], _∷_, _++_}
+use mathlib.Core.List.{List, [], _∷_, _++_, append-nil}
 use lib.Dec.{eqb, eqb·suc-zero}
 use borrow.Author.Tests.{eqb-true, eqb-false}
 use Rattle.sir_analyses.specs.Liveness.{blockEnd, Interval, Scan, close}
@@ -144,29 +144,29 @@ back b f t is = record { out = λ s. out′ (spans-cases is s); keeps = λ s. sp
     out′ (inr (Spans.first p q r)) = inr (p, q, r)
     out′ (inr (Spans.rest s)) = absurd (nothing-spans s)
 
--- an open interval of a scan that stands at p is closed there: `new` is the list with it
+-- an open interval of a scan that stands at p is closed there: `new` is the list then, by whether none is open
 module _ {b d m n : ℕ} (p : ℕ) (c : Scan) where
-  ended-covers : (new : List Interval) → Emits b p (c .open′) (c .closed) new
-      → Spans d m n (cond (eqb (c .open′) 0) c (record { open′ = 0; closed = new }) .closed) ↔ Covers b d m n p c
-  ended-covers new em = go (eqb (c .open′) 0) refl
+  ended-covers : (new : Bool → List Interval) → new true ≡ c .closed → Emits b p (c .open′) (c .closed) (new false)
+      → Spans d m n (new (eqb (c .open′) 0)) ↔ Covers b d m n p c
+  ended-covers new none em = go (eqb (c .open′) 0) refl
     where
-      old : c .open′ ≡ 0 → Covers b d m n p c → Spans d m n (c .closed)
-      old z (inside s) = s
+      old : c .open′ ≡ 0 → Covers b d m n p c → Spans d m n (new true)
+      old z (inside s) = rw none s
       old z (onwards q h k l) = absurd (h z)
 
-      more : Covers b d m n p c → Spans d m n new
+      more : Covers b d m n p c → Spans d m n (new false)
       more (inside s) = em .keeps s
       more (onwards q h k l) = em .has-it q k l
 
-      go : (t : Bool) → eqb (c .open′) 0 ≡ t → Spans d m n (cond t c (record { open′ = 0; closed = new }) .closed) ↔ Covers b d m n p c
-      go true e = (λ s. inside s, λ k. old (eqb-true (c .open′) 0 e) k)
+      go : (t : Bool) → eqb (c .open′) 0 ≡ t → Spans d m n (new t) ↔ Covers b d m n p c
+      go true e = (λ s. inside (rw none at s), λ k. old (eqb-true (c .open′) 0 e) k)
       go false e = (λ s. emits-covers em (eqb-false (c .open′) 0 e) s, λ k. more k)
 
   pub close-covers : Spans d m n (close b p c .closed) ↔ Covers b d m n p c
-  close-covers = ended-covers (c .closed ++ (piece b p (c .open′) ∷ [])) (back b p (c .open′) (c .closed))
+  close-covers = ended-covers (λ t. c .closed ++ cond t [] (piece b p (c .open′) ∷ [])) (append-nil (c .closed)) (back b p (c .open′) (c .closed))
 
   pub shut-covers : Spans d m n (shut b p c .closed) ↔ Covers b d m n p c
-  shut-covers = ended-covers (piece b p (c .open′) ∷ c .closed) (front b p (c .open′) (c .closed))
+  shut-covers = ended-covers (λ t. cond t [] (piece b p (c .open′) ∷ []) ++ c .closed) refl (front b p (c .open′) (c .closed))
 
 -- the step of a scan, and the step of a sweep
 abbrev pub scan-form : ℕ → ℕ → Bool → Bool → Scan → Scan
@@ -184,12 +184,14 @@ scan-step b o false y c = go y (eqb (c .open′) 0) refl
     go false false e = (same refl refl, rw e refl)
 scan-step b o true y c = go y (eqb (c .open′) 0) refl
   where
-    shorter : Bool → Scan
-    shorter t = cond t c (record { open′ = 0; closed = c .closed ++ (piece b (suc o) (c .open′) ∷ []) })
+    after : Bool → Bool → Scan
+    after y t =
+        let all = c .closed ++ cond t [] (piece b (suc o) (c .open′) ∷ []) in
+        cond (y && eqb 0 0) (record { open′ = suc o; closed = all }) (record { open′ = 0; closed = all })
 
-    go : (y t : Bool) → eqb (c .open′) 0 ≡ t → Step b o c (cond (y && eqb (shorter t .open′) 0) (record { open′ = suc o; closed = shorter t .closed }) (shorter t)) × (not (eqb (cond (y && eqb (shorter t .open′) 0) (record { open′ = suc o; closed = shorter t .closed }) (shorter t) .open′) 0) ≡ ((not t && false) || y))
-    go true true e = rw e (opens (eqb-true (c .open′) 0 e) refl refl, rw eqb·suc-zero)
-    go false true e = (same refl refl, rw e refl)
+    go : (y t : Bool) → eqb (c .open′) 0 ≡ t → Step b o c (after y t) × (not (eqb (after y t .open′) 0) ≡ ((not t && false) || y))
+    go true true e = (opens (eqb-true (c .open′) 0 e) refl (append-nil (c .closed)), rw eqb·suc-zero)
+    go false true e = (same (sym (eqb-true (c .open′) 0 e)) (append-nil (c .closed)), refl)
     go true false e = (turns (eqb-false (c .open′) 0 e) refl (back b (suc o) (c .open′) (c .closed)), rw eqb·suc-zero)
     go false false e = (ends (eqb-false (c .open′) 0 e) refl (back b (suc o) (c .open′) (c .closed)), refl)
 
@@ -201,8 +203,8 @@ note-step b o true c = go (eqb (c .open′) 0) refl
     go false e = same refl refl
 note-step b o false c = go (eqb (c .open′) 0) refl
   where
-    go : (t : Bool) → eqb (c .open′) 0 ≡ t → Step b o c (cond t c (record { open′ = 0; closed = piece b (suc o) (c .open′) ∷ c .closed }))
-    go true e = same refl refl
+    go : (t : Bool) → eqb (c .open′) 0 ≡ t → Step b o c (record { open′ = 0; closed = cond t [] (piece b (suc o) (c .open′) ∷ []) ++ c .closed })
+    go true e = same (sym (eqb-true (c .open′) 0 e)) refl
     go false e = ends (eqb-false (c .open′) 0 e) refl (front b (suc o) (c .open′) (c .closed))
 
 -- after it, one is open exactly where something is live
@@ -212,8 +214,4 @@ note-open b o true c = go (eqb (c .open′) 0) refl
     go : (t : Bool) → eqb (c .open′) 0 ≡ t → not (eqb (cond t (suc o) (c .open′)) 0) ≡ true
     go true e = rw eqb·suc-zero
     go false e = rw e refl
-note-open b o false c = go (eqb (c .open′) 0) refl
-  where
-    go : (t : Bool) → eqb (c .open′) 0 ≡ t → not (eqb (cond t c (record { open′ = 0; closed = piece b (suc o) (c .open′) ∷ c .closed }) .open′) 0) ≡ false
-    go true e = rw e refl
-    go false e = refl
+note-open b o false c = refl

@@ -1,4 +1,4 @@
--- Laws of tables that show sets: rows filled one after the other, and members added step by step. Assumes nothing.
+-- Laws of tables that show sets: rows filled one after the other, and members added step by step.
 use mathlib.Core.Path.{_≡_, refl, sym, ap, _∙_}
 use mathlib.Core.Bool.{Bool, true, false, _&&_, _||_, or-false, or-assoc, and-false, and-or-distrib-left}
 use mathlib.Core.List.{List, [], _∷_, map}

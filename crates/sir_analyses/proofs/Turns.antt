@@ -1,7 +1,7 @@
--- Allocations followed in turn: what the arrays show after each, and at the end. Assumes nothing.
+-- Allocations followed in turn: what the arrays show after each, and at the end.
 use mathlib.Core.Path.{_≡_, refl, sym, ap, _∙_}
 use mathlib.Core.Bool.{true, false}
-use mathlib.Core.List.{List, []}
+use mathlib.Core.List.{List}
 use Prim.Native.Nat.{ℕ, suc, _+_, _≤_, _<_}
 use native.Mathlib.Omega.{arith}
 use native.Mathlib.Numerals.{add-one}
@@ -20,7 +20,7 @@ use Rattle.sir_analyses.specs.Propagation.{State, start, Followed, none 
 use Rattle.sir_analyses.specs.Discovery.{Room, ShowsState, linksIn, Propagated, Discovered}
 use Rattle.sir_analyses.proofs.Tables.{cleared-long}
 use Rattle.sir_analyses.proofs.SetLaws.{none-in}
-use Rattle.sir_analyses.proofs.Marks.{next-link, link-less}
+use Rattle.sir_analyses.proofs.Marks.{next-less}
 use Rattle.sir_analyses.proofs.SourceSteps.{zeros-most, start-length}
 use Rattle.sir_analyses.proofs.Propagation.{followed-marks, followed-owners, followed-reach}
 use Rattle.sir_analyses.proofs.Discovery.{keys-most}
@@ -64,21 +64,18 @@ module _ (w : List ℕ) (good : WellFormed w) (twelve : rule12 w ≡ false) {lin
         let k = member-is (rowOf links u) x m in
         mem-in x (next w u) (sym (rows .linked u x h (k .0)) ∙ sym (contains-row links u x (k .0)) ∙ k .1)
 
-    next-less : (u x : ℕ) → x ∈ next w u → x < locals w
-    next-less u x m = link-less w good (next-link w m)
-
     links-exact : (u x : ℕ) → u < 512 → mem x (linksIn links u) ≡ mem x (next w u)
     links-exact u x h = same-tests (mem x (linksIn links u)) (mem x (next w u)) (λ t. in-mem x (linked-in u x h (mem-in x (linksIn links u) t))) back
       where
         back : mem x (next w u) ≡ true → mem x (linksIn links u) ≡ true
         back t =
-            let l : x < 512 = omega (arith, next-less u x (mem-in x (next w u) t), good .sized .locals-most) in
+            let l : x < 512 = omega (arith, next-less w good u x (mem-in x (next w u) t), good .sized .locals-most) in
             in-mem x (member-in (rowOf links u) x l (contains-row links u x l ∙ rows .linked u x h l ∙ t))
 
     pub turned-more : {owner marks work owner′ marks′ work′ : List ℕ} {i v : ℕ} → i < length (allocs w) → v ≡ base w (allocAt w i) → Turned w links harms owner marks work i
         → Propagated links harms i v owner marks work owner′ marks′ work′ → Turned w links harms owner′ marks′ work′ (i + 1)
     turned-more {owner} {marks} {work} {owner′} {marks′} {work′} {i} {v} h e T P =
-        let r = P .same (T .state) (λ u x l m. rw (T .wide) (next-less u x (linked-in u x l m))) (rw (T .count) h) (T .shown) in
+        let r = P .same (T .state) (λ u x l m. rw (T .wide) (next-less w good u x (linked-in u x l m))) (rw (T .count) h) (T .shown) in
         record {
           room = P .room;
           state = r .state;

@@ -1,21 +1,21 @@
--- Uses one by one. Assumes nothing.
+-- The words of a local's uses, block by block and one by one: they are the answer, and how many there can be.
 use mathlib.Core.Path.{_≡_, refl, sym, ap, ap₂, _∙_}
 use mathlib.Core.Bool.{Bool, true, false, _||_, cond}
 use mathlib.Core.List.{List, [], _∷_, _++_, map, append-nil, List·Memᴰ·head, List·Memᴰ·tail}
-use Prim.Native.Nat.{ℕ, zero, suc, _+_, _-_, _*_, _≤_, _<_}
+use Prim.Native.Nat.{ℕ, suc, _+_, _-_, _*_, _≤_, _<_}
 use native.Mathlib.Numerals.{add-one}
 use native.Mathlib.Omega.{arith}
 use lib.ListN.{length, getD, drop, length-append, drop-of-length-le}
 use lib.Seq.{drop-cons}
 use lib.Dec.{eqb}
 use borrow.Author.Tests.{eq-eqb, ne-eqb, eqb-true, eqb-false}
-use Rattle.plank_core.specs.Lists.{count, range, upto, bind, mem, _∈_}
+use Rattle.plank_core.specs.Lists.{range, upto, bind, mem, _∈_}
 use Rattle.plank_core.specs.laws.Lists.{none}
-use Rattle.plank_core.specs.laws.Loops.{range-next, range-none, range-all, length-count, length-map-count, bind-same, bind-append, bind-bind}
+use Rattle.plank_core.specs.laws.Loops.{range-next, range-none, range-all, length-count, length-map-count, bind-append, bind-bind}
 use Rattle.sir_data.specs.Records.{blocks, operations, operand, control, field, blockWord, opWord, ops, ins, condition, outputs}
 use Rattle.sir_data.specs.WellFormed.{WellFormed}
 use Rattle.sir_analyses.specs.Order.{blocksRpo}
-use Rattle.sir_analyses.specs.Liveness.{Use, positions, usesIn, uses}
+use Rattle.sir_analyses.specs.Liveness.{Use, positions, usesIn}
 use Rattle.sir_analyses.specs.Answers.{usesAnswer}
 use Rattle.sir_analyses.proofs.OrderProof.{blocks-below}
 use Rattle.sir_analyses.proofs.Keys.{blocks-most}

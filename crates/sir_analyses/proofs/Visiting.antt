@@ -1,8 +1,8 @@
--- What the arrays of a visit hold, step by step. Assumes nothing.
+-- What the arrays of a visit hold, step by step.
 use mathlib.Core.Path.{_≡_, refl, sym, ap, ap₂, _∙_, subst}
-use mathlib.Core.Bool.{Bool, true, false, not, _||_, cond}
-use mathlib.Core.List.{List, [], _∷_, _++_, append-nil, append-assoc, List·Memᴰ, List·Memᴰ·head, List·Memᴰ·tail}
-use Prim.Native.Nat.{ℕ, zero, suc, _+_, _-_, _*_, _/_, _%_, _≤_, _<_}
+use mathlib.Core.Bool.{Bool, true, false, _||_}
+use mathlib.Core.List.{List, [], _∷_, _++_, append-nil, List·Memᴰ·head}
+use Prim.Native.Nat.{ℕ, zero, suc, _+_, _-_, _/_, _%_, _≤_, _<_}
 use native.Mathlib.Nat.{le-refl, le-trans}
 use native.Mathlib.Omega.{arith}
 use native.Mathlib.Numerals.{add-one}
@@ -10,54 +10,19 @@ use lib.ListN.{length, getD, take, drop, replicate}
 use lib.Seq.{drop-cons}
 use lib.Dec.{eqb, leb}
 use borrow.Author.Tests.{eqb-true, eqb-false, eq-eqb, ne-eqb, le-leb, lt-leb}
-use Rattle.plank_core.specs.Lists.{range, foldl, bind, mem, oneIf}
+use Rattle.plank_core.specs.Lists.{range, foldl, bind, mem}
 use Rattle.plank_core.specs.laws.Lists.{getD-mem}
 use Rattle.plank_core.specs.laws.Loops.{range-next, range-none, bind-snoc}
-use Rattle.plank_core.specs.DenseIndexSet.{bit, contains, added}
-use Rattle.plank_core.specs.laws.Bits.{bit-of-zero}
-use Rattle.plank_core.specs.laws.DenseIndexSet.{contains-added, length-added}
+use Rattle.plank_core.specs.DenseIndexSet.{contains, added}
+use Rattle.plank_core.specs.laws.DenseIndexSet.{contains-added, contains-cleared, length-added}
 use Rattle.sir_data.specs.Records.{functions, blocks, operations, optional, initFunction, mainPlusOne, entryBlock, ops, successors, code, extra, callees}
 use Rattle.sir_data.specs.Codes.{isCall}
-use Rattle.sir_data.specs.WellFormed.{Sized, InRange, WellFormed}
+use Rattle.sir_data.specs.WellFormed.{WellFormed}
 use Rattle.sir_analyses.specs.Order.{Visit, start, seeFunction, seeBlock, finishFunction, finishBlock, visitFunction, visitBlock}
-use Rattle.sir_analyses.specs.Visiting.{blockKey, keyedBlock, keyedFunction, Shows, missing, unseen, Held, Went, VisitedAll}
-use Rattle.sir_analyses.proofs.OrderLaws.{order-function, order-block}
+use Rattle.sir_analyses.specs.Visiting.{blockKey, keyedBlock, keyedFunction, Shows, unseen, Held, Went, VisitedAll}
+use Rattle.sir_analyses.proofs.OrderLaws.{missing-same, missing-one, missing-most, order-function, order-block}
 
--- ---- how many are unseen
-
-pub missing-same : (n : ℕ) (p q : ℕ → Bool) → ((i : ℕ) → i < n → q i ≡ p i) → missing n q ≡ missing n p
-unfolding missing
-missing-same zero p q h = refl
-missing-same (suc n) p q h = ap₂ (λ x y. oneIf (not x) + y) (h n (omega arith)) (missing-same n p q (λ i l. h i (omega arith)))
-
--- one more passes
-pub missing-one : (n k : ℕ) (p q : ℕ → Bool) → k < n → p k ≡ false → ((i : ℕ) → i < n → q i ≡ (eqb i k || p i)) → missing n q + 1 ≡ missing n p
-unfolding missing
-missing-one zero k p q l f h = absurd (omega arith)
-missing-one (suc n) k p q l f h = go (eqb n k) refl (missing-one n k p q)
-  where
-    go : (t : Bool) → eqb n k ≡ t → (k < n → p k ≡ false → ((i : ℕ) → i < n → q i ≡ (eqb i k || p i)) → missing n q + 1 ≡ missing n p)
-        → oneIf (not (q n)) + missing n q + 1 ≡ oneIf (not (p n)) + missing n p
-    go true e rest =
-        let s : n ≡ k = eqb-true n k e in
-        let a : q n ≡ true = h n (omega arith) ∙ rw e in
-        let b : p n ≡ false = ap p s ∙ f in
-        let c : missing n q ≡ missing n p = missing-same n p q (λ i m. h i (omega arith) ∙ rw (ne-eqb i k (omega arith))) in
-        rw (a, b, c) (omega arith)
-    go false e rest =
-        let ne : n ≡ k → ⊥ = eqb-false n k e in
-        let a : q n ≡ p n = h n (omega arith) ∙ rw e in
-        let ih = rest (omega arith) f (λ i m. h i (omega arith)) in
-        rw a (omega arith)
-
-pub missing-most : (n : ℕ) (p : ℕ → Bool) → missing n p ≤ n
-unfolding missing
-missing-most zero p = le-refl 0
-missing-most (suc n) p = go (p n) (missing-most n p)
-  where
-    go : (t : Bool) → missing n p ≤ n → oneIf (not t) + missing n p ≤ suc n
-    go true h = omega arith
-    go false h = omega arith
+-- ---- numbers of row 1
 
 eqb-shift : (i k : ℕ) → eqb (512 + i) (512 + k) ≡ eqb i k
 eqb-shift i k = by (eqb i k) refl
@@ -323,15 +288,6 @@ successor-below {w} ok b i l h = ok .in-range .successor b (getD (successors w b
 
 -- ---- the whole visit
 
-zeros : (n x : ℕ) → contains (replicate n 0) x ≡ false
-unfolding contains
-zeros n x = ap (λ (y : ℕ). bit y (x % 64)) (zero-at n (x / 64)) ∙ bit-of-zero (x % 64)
-  where
-    zero-at : (n j : ℕ) → getD (replicate n zero) j zero ≡ zero
-    zero-at zero j = refl
-    zero-at (suc n) zero = refl
-    zero-at (suc n) (suc j) = zero-at n j
-
 -- nothing is seen yet
 pub held-start : (w : List ℕ) {seen post : List ℕ} → seen ≡ replicate 16 0 → length post ≡ 320 → Held w seen post 0
 unfolding unseen
@@ -343,8 +299,8 @@ held-start w {seen} e l = record {
 
 shows-start : {seen post : List ℕ} → seen ≡ replicate 16 0 → Shows seen post 0 start
 shows-start {seen} e = record {
-  functions-seen = λ f l. sym (ap (λ (s : List ℕ). contains s f) e ∙ zeros 16 f);
-  blocks-seen = λ b l. sym (ap (λ (s : List ℕ). contains s (512 + b)) e ∙ zeros 16 (512 + b));
+  functions-seen = λ f l. sym (ap (λ (s : List ℕ). contains s f) e ∙ contains-cleared 16 f);
+  blocks-seen = λ b l. sym (ap (λ (s : List ℕ). contains s (512 + b)) e ∙ contains-cleared 16 (512 + b));
   blocks-finished = refl;
   functions-finished = refl;
 }

@@ -1,4 +1,4 @@
--- Putting words into a slice, some after others. Assumes nothing.
+-- Putting words into a slice, some after others.
 use mathlib.Core.Path.{_≡_, refl, sym, ap, _∙_}
 use mathlib.Core.List.{List, [], _∷_, _++_}
 use Prim.Native.Nat.{ℕ, suc, _+_, _*_, _≤_, _<_}

@@ -1,7 +1,7 @@
 -- What is claimed of the answers beyond their definitions: that the order visits exactly what can be reached, that the sets are
--- the least solution of the equations, that the round number counts passes and is bounded, that marks follow the reach rule, and that
--- the source's own steps come to the same marks, owners and intervals. The claim on walks is in Walk. Definitions and statements
--- only; each record is a claim on the payload words of an accepted image.
+-- the least solution of the equations, that an unvisited block has empty sets and no predecessors, that the round number counts passes
+-- and is bounded, that marks follow the reach rule, and that the source's own steps come to the same marks, owners and intervals. The
+-- claim on walks is in Walk. Definitions and statements only; each record is a claim on the payload words of an accepted image.
 use mathlib.Core.Path.{_≡_}
 use mathlib.Core.Logic.{_↔_}
 use mathlib.Core.Bool.{true, false, not, _&&_, _||_}
@@ -16,6 +16,7 @@ use Rattle.sir_analyses.specs.Liveness.{Use, uses, Set, has, members, us
 use Rattle.sir_analyses.specs.Allocation.{allocs, allocAt, base, carried, escapes, isReturned, reach, marked, owners, merged}
 use Rattle.sir_analyses.specs.Source.{sourceAfter, sourceState, sourceMarked, sourceIntervals}
 
+-- what is visited: a function or a block
 pub data Item : Type 0 where
   function : ℕ → Item
   block : ℕ → Item
@@ -31,6 +32,7 @@ module _ (w : List ℕ) where
     successor : {b s : ℕ} → Visited (block b) → s ∈ successors w b → Visited (block s)
     callee : {b o f : ℕ} → Visited (block b) → o ∈ ops w b → f ∈ callees w o → Visited (function f)
 
+  -- the order: every visited function and block, each once, and no other
   pub record OrderRule : Type 0 where
     pub blocks-exact : (b : ℕ) → b ∈ blocksRpo w ↔ Visited (block b)
     pub functions-exact : (f : ℕ) → f ∈ functionsRpo w ↔ Visited (function f)
@@ -41,10 +43,11 @@ module _ (w : List ℕ) where
 
   -- ---- liveness
 
-  -- x gives each visited block the exit set that the equations give it
+  -- a solution of the equations: x gives each visited block the exit set that they give it
   pub record Solves (x : ℕ → Set) : Type 0 where
     pub exit : (b : ℕ) → Visited (block b) → x b ≡ exitFrom w x b
 
+  -- the least solution: every other one has all its members
   pub record Least (x : ℕ → Set) : Type 0 where
     pub solution : Solves x
     pub least : (y : ℕ → Set) → Solves y → (b v : ℕ) → Visited (block b) → has (x b) v ≡ true → has (y b) v ≡ true
@@ -54,6 +57,7 @@ module _ (w : List ℕ) where
   after zero = noExits w
   after (suc n) = pass w (after n)
 
+  -- liveness: entry and exit sets are the least solution of the equations, and rounds counts the passes to it
   pub record LivenessRule : Type 0 where
     pub exits : Least (exitSet w)
     pub entries : (b : ℕ) → Visited (block b) → entrySet w b ≡ entryFrom w b (exitSet w b)
@@ -80,18 +84,20 @@ module _ (w : List ℕ) where
     itself : {v : ℕ} → v ≡ base w (allocAt w a) → Reached a v
     linked : {u v : ℕ} {x : Use} → Reached a u → List·Memᴰ x (uses w u) → v ∈ carried w x → Reached a v
 
-  -- some reached local is used in an escaping operand, or is an `InternalReturn` output, or is reached by another allocation too
+  -- the mark of allocation a: some reached local is used in an escaping operand, returned, or reached by another allocation too
   pub data Marked (a : ℕ) : Type 0 where
     escaped : {v : ℕ} → Reached a v → escapes w v ≡ true → Marked a
     returned : {v : ℕ} → Reached a v → isReturned w v ≡ true → Marked a
     met : {v b : ℕ} → Reached a v → b < length (allocs w) → ¬ (a ≡ b) → Reached b v → Marked a
 
+  -- marks: the reach and the mark that are computed are those of the two rules
   pub record MarkRule : Type 0 where
     pub reach-exact : (a v : ℕ) → a < length (allocs w) → (has (reach w (allocAt w a)) v ≡ true) ↔ Reached a v
     pub mark-exact : (a : ℕ) → a < length (allocs w) → (marked w a ≡ true) ↔ Marked a
 
   -- ---- the source's own marks, owners and owned locals
 
+  -- the source's own steps (Source) come to the marks, owners and merged intervals of the definitions
   pub record SourceRule : Type 0 where
     -- behind each allocation its work list is empty: the bound in `drain` cuts nothing off
     pub drained : (n : ℕ) → n ≤ length (allocs w) → sourceAfter w n .work ≡ []

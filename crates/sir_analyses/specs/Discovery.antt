@@ -1,4 +1,5 @@
--- The arrays in which allocations are listed and their pointers are followed. Assumes nothing.
+-- The arrays in which allocations are listed and their pointers are followed.
+-- Used by inner contracts; no exported promise speaks of it.
 use mathlib.Core.Path.{_≡_}
 use mathlib.Core.Bool.{false}
 use mathlib.Core.List.{List, [], _∷_, map, reverse}
@@ -9,7 +10,7 @@ use Rattle.plank_core.specs.Lists.{keep, _∈_}
 use Rattle.plank_core.specs.DenseIndexSet.{contains, members, rowOf}
 use Rattle.sir_data.specs.Records.{locals, ops, code}
 use Rattle.sir_data.specs.Codes.{isAlloc}
-use Rattle.sir_analyses.specs.Liveness.{Set, has}
+use Rattle.sir_analyses.specs.Liveness.{has}
 use Rattle.sir_analyses.specs.Allocation.{Alloc, allocs, allocAt, reach, marked, owners}
 use Rattle.sir_analyses.specs.Tables.{Same}
 use Rattle.sir_analyses.specs.Propagation.{State, Propagates}
@@ -18,20 +19,21 @@ use Rattle.sir_analyses.specs.Propagation.{State, Propagates}
 abbrev pub allocKey : Alloc → ℕ
 allocKey x = 1024 * x .block + x .op
 
+-- all allocations as numbers
 unfoldable pub allocKeys : List ℕ → List ℕ
 allocKeys w = map allocKey (allocs w)
 
--- the allocations among a block's operations
+-- the allocations among a block's operations, as numbers
 unfoldable pub blockKeys : List ℕ → ℕ → List ℕ
 blockKeys w b = map (λ o. 1024 * b + o) (keep (λ o. isAlloc (code w o)) (ops w b))
 
--- how many locals nobody has
+-- how many entries of an owner array are 0
 unfoldable pub zeros : List ℕ → ℕ
 zeros [] = 0
 zeros (zero ∷ xs) = suc (zeros xs)
 zeros (suc x ∷ xs) = zeros xs
 
--- the arrays have their lengths, and each local that nobody has finds room on the work list
+-- the arrays have their lengths, and each entry without an owner finds room on the work list
 pub record Room (owner marks work : List ℕ) (n : ℕ) : Type 0 where
   pub owner-long : length owner ≡ 512
   pub marks-long : length marks ≡ 8
@@ -53,7 +55,7 @@ pub record StepTaken (vs : List ℕ) (a : ℕ) (step : State → State) (owner m
   pub same : (s : State) → ((v : ℕ) → v ∈ vs → v < length (s .owner)) → a < length (s .marks) → ShowsState owner marks work n s → ShowsState owner′ marks′ work′ r (step s)
   pub cost : zeros owner′ + r ≤ zeros owner + n
 
--- what a local carries on, and whether it harms, by the tables
+-- what local u carries on, by the table of links
 abbrev pub linksIn : List ℕ → ℕ → List ℕ
 linksIn links u = members (rowOf links u)
 
@@ -62,7 +64,7 @@ pub record SameWidth (s s′ : State) : Type 0 where
   pub owner-wide : length (s′ .owner) ≡ length (s .owner)
   pub marks-wide : length (s′ .marks) ≡ length (s .marks)
 
--- a state that the arrays show
+-- the arrays show a state that following allocation a from v comes to
 pub record Reaches (links harms : List ℕ) (a v : ℕ) (s : State) (owner marks work : List ℕ) : Type 0 where
   pub state : State
   pub propagates : Propagates (linksIn links) (contains harms) a v s state
@@ -75,7 +77,7 @@ pub record Propagated (links harms : List ℕ) (a v : ℕ) (owner marks work own
   pub same : (s : State) → ((u x : ℕ) → u < 512 → x ∈ linksIn links u → x < length (s .owner)) → a < length (s .marks) → ShowsState owner marks work 0 s
       → Reaches links harms a v s owner′ marks′ work′
 
--- owners, marks, and with them the reach of each unmarked allocation
+-- the arrays at the end: owners, marks, and with them the reach of each unmarked allocation
 pub record Discovered (w owner marks : List ℕ) : Type 0 where
   pub owner-is : (v : ℕ) → v < locals w → getD owner v 0 ≡ getD (owners w) v 0
   pub mark-is : (a : ℕ) → a < length (allocs w) → contains marks a ≡ marked w a

@@ -1,5 +1,4 @@
--- The examples of document 01, "Paths and joins", as one table that one proof computes; and a walk through a loop.
--- Assumes nothing.
+-- The examples of document 01, "Paths and joins", and some of our own, as one table that one proof computes; and a walk through a loop.
 use mathlib.Core.Path.{_≡_, refl}
 use mathlib.Core.Bool.{Bool, true, false, _&&_}
 use mathlib.Core.List.{List, [], _∷_, _++_, map, List·Memᴰ·head, List·Memᴰ·tail, List·Memᴰ·eq-of-singleton}
@@ -19,27 +18,29 @@ use Rattle.sir_analyses.specs.Walk.{Event, op, edge, Walk, enter, step, 
 
 -- ---- images of one page, written as blocks with their operations
 
+-- an operation: its code, what it reads and gives, its two extras
 record Op : Type 0 where
   code : ℕ
   reads : List ℕ
   gives : List ℕ
   extras : ℕ × ℕ
 
--- control: its kind, then four fields
+-- a block; its control is the kind, then four fields
 record Block : Type 0 where
   inputs : List ℕ
   ops : List Op
   outputs : List ℕ
   control : List ℕ
 
--- the operand words: for each block those of its operations, then its inputs, then its outputs
+-- the operand words of an operation
 abbrev opOperands : Op → List ℕ
 opOperands o = o .reads ++ o .gives
 
+-- the operand words of a block: those of its operations, then its inputs, then its outputs
 abbrev blockOperands : Block → List ℕ
 blockOperands b = bind (b .ops) opOperands ++ b .inputs ++ b .outputs
 
--- seven words for each operation; v: operand words before
+-- seven words for each operation of a block; v: operand words before
 abbrev opWords : ℕ → List Op → List ℕ
 opWords v [] = []
 opWords v (o ∷ os) =
@@ -47,6 +48,7 @@ opWords v (o ∷ os) =
     let e = i + length (o .gives) in
     o .code ∷ v ∷ i ∷ i ∷ e ∷ o .extras .0 ∷ o .extras .1 ∷ opWords e os
 
+-- the words of the operations of all blocks; v: operand words before
 abbrev opsWords : ℕ → List Block → List ℕ
 opsWords v [] = []
 opsWords v (b ∷ bs) = opWords v (b .ops) ++ opsWords (v + length (blockOperands b)) bs
@@ -78,40 +80,51 @@ pageBytes w =
 
 -- ---- operations, by what they give and read, and controls
 
+-- an operation of code c without extras
 abbrev plain : ℕ → List ℕ → List ℕ → Op
 plain c gives reads = record { code = c; reads = reads; gives = gives; extras = (0, 0) }
 
+-- `SetSmallConst`
 abbrev setConst : ℕ → Op
 setConst v = plain 86 (v ∷ []) []
 
+-- `StaticAllocZeroed` of 32 bytes with id 0
 abbrev alloc : ℕ → Op
 alloc v = record { code = 82; reads = []; gives = v ∷ []; extras = (32, 0) }
 
+-- `Add`
 abbrev add : ℕ → ℕ → ℕ → Op
 add v x y = plain 27 (v ∷ []) (x ∷ y ∷ [])
 
+-- `MemoryLoad`
 abbrev load : ℕ → ℕ → Op
 load v address = plain 84 (v ∷ []) (address ∷ [])
 
+-- `MemoryStore`
 abbrev store : ℕ → ℕ → Op
 store address v = plain 24 [] (address ∷ v ∷ [])
 
+-- `InternalCall` without operands
 abbrev call : ℕ → Op
 call f = record { code = 25; reads = []; gives = []; extras = (f, 0) }
 
+-- `Stop`
 abbrev stop : Op
 stop = plain 77 [] []
 
+-- `LastOpTerminates`
 abbrev ends : List ℕ
 ends = 0 ∷ 0 ∷ 0 ∷ 0 ∷ 0 ∷ []
 
+-- `ContinuesTo`
 abbrev continues : ℕ → List ℕ
 continues b = 2 ∷ b ∷ 0 ∷ 0 ∷ 0 ∷ []
 
--- condition, non-zero target, zero target
+-- `Branches`: condition, non-zero target, zero target
 abbrev branches : ℕ → ℕ → ℕ → List ℕ
 branches v b c = 3 ∷ v ∷ b ∷ c ∷ 0 ∷ []
 
+-- a block by its parts
 abbrev block : List ℕ → List Op → List ℕ → List ℕ → Block
 block inputs ops outputs control = record { inputs = inputs; ops = ops; outputs = outputs; control = control }
 
@@ -136,21 +149,27 @@ branching b c = imageWords 1 (0 ∷ []) (block [] (setConst 0 ∷ []) [] (branch
 abbrev straight : ℕ → List Op → List ℕ
 straight locals os = imageWords locals (0 ∷ []) (block [] (os ++ (stop ∷ [])) [] ends ∷ [])
 
+-- the pointer v1 is stored where it points
 abbrev storesItself : List ℕ
 storesItself = straight 2 (alloc 1 ∷ store 1 1 ∷ [])
 
+-- v0 is stored where the pointer v1 points
 abbrev storesThere : List ℕ
 storesThere = straight 2 (setConst 0 ∷ alloc 1 ∷ store 1 0 ∷ [])
 
+-- the pointers v1 and v2 are added
 abbrev added : List ℕ
 added = straight 4 (alloc 1 ∷ alloc 2 ∷ add 3 1 2 ∷ [])
 
+-- a branch on the pointer v0
 abbrev tested : List ℕ
 tested = imageWords 1 (0 ∷ []) (block [] (alloc 0 ∷ []) [] (branches 0 1 2) ∷ block [] (stop ∷ []) [] ends ∷ block [] (stop ∷ []) [] ends ∷ [])
 
+-- the pointer v0 is not used
 abbrev unused : List ℕ
 unused = straight 1 (alloc 0 ∷ [])
 
+-- v0 = v0 + v0
 abbrev increments : List ℕ
 increments = straight 1 (add 0 0 0 ∷ [])
 
@@ -163,11 +182,13 @@ looping =
     ∷ block (3 ∷ []) [] (3 ∷ []) (continues 1)
     ∷ block (4 ∷ []) (stop ∷ []) [] ends ∷ [])
 
+-- all of them
 abbrev images : List (List ℕ)
 images = report ∷ calls ∷ branching 1 1 ∷ branching 1 2 ∷ storesItself ∷ storesThere ∷ added ∷ tested ∷ unused ∷ increments ∷ looping ∷ []
 
 -- ---- the table
 
+-- an interval by its block, start and end
 abbrev interval : ℕ → ℕ → ℕ → Interval
 interval b s e = record { block = b; from = s; to = e }
 
@@ -175,10 +196,12 @@ interval b s e = record { block = b; from = s; to = e }
 abbrev pageOne : List ℕ
 pageOne = replicate 4 0 ++ (1 ∷ replicate 507 0)
 
+-- an outcome as one list
 abbrev outcomeWords : Outcome → List ℕ
 outcomeWords o = o .number ∷ o .len ∷ o .result
 
--- each row: what is computed, what document 01 says
+-- each row: what is computed, and what it must be. So says document 01, but for the rows on predecessors, v3, uses, owner of v2 and
+-- outcomes of `report`, and those on `looping`, which are our own
 abbrev table : List (List ℕ × List ℕ)
 table =
     -- rules 4 to 12 refuse none of the images
@@ -215,7 +238,7 @@ table =
     ∷ (predecessorsAnswer report 1, 0 ∷ [])
     -- rounds 2
     ∷ (roundsAnswer report, 2 ∷ [])
-    -- b0 in - out v1
+    -- b0 in - out v1: misreading, a block input under its own name in the predecessor, would give v2
     ∷ (entryAnswer report 0, [])
     ∷ (exitAnswer report 0, 1 ∷ [])
     -- b1 in v2 out -
@@ -248,19 +271,21 @@ table =
     ∷ (allocationAnswer looping 0, 0 ∷ 0 ∷ 0 ∷ 0 ∷ 32 ∷ 0 ∷ 0 ∷ 3 ∷ 0 ∷ 1 ∷ blockEnd ∷ 1 ∷ 0 ∷ blockEnd ∷ 2 ∷ 0 ∷ blockEnd ∷ [])
     ∷ []
 
+-- are two lists the same?
 abbrev same : List ℕ → List ℕ → Bool
 same [] [] = true
 same [] (y ∷ ys) = false
 same (x ∷ xs) [] = false
 same (x ∷ xs) (y ∷ ys) = eqb x y && same xs ys
 
+-- every row holds
 pub examples : all (λ r. same (r .0) (r .1)) table ≡ true
 unfolding checkOf payload rule4 rule5 rule6 rule7 rule8 rule9 rule10 rule11
 examples = refl
 
 -- ---- a walk
 
--- demand 3 speaks of something: a walk stands before an operation that it carried out before, and is about to read a local that holds
+-- `Lifetimes` speaks of something: a walk stands before an operation that it carried out before, and is about to read a local that holds
 -- the pointer of an unmarked allocation, given before that
 pub record ReadsAgain (w : List ℕ) : Type 0 where
   pub history : List Event
@@ -278,6 +303,7 @@ pub record ReadsAgain (w : List ℕ) : Type 0 where
   pub again : Executed history carried-out-at block′ next
   pub since : given-at ≤ carried-out-at
 
+-- block 1 of `looping` is entered again
 pub loops : ReadsAgain looping
 loops =
     let other : ¬ (1 ∈ (2 ∷ [])) = λ m. let e : _≡_ {A = ℕ} 1 2 = List·Memᴰ·eq-of-singleton m in omega arith in

@@ -1,4 +1,5 @@
--- Uses, liveness, rounds and intervals of locals (document 01, "Rules of the analyses"). Assumes nothing.
+-- Uses, liveness, rounds and intervals of locals (document 01, "Rules of the analyses"), read on words that break no rule: rule 10 makes
+-- inputs and outputs across an edge equally many.
 use mathlib.Core.Bool.{Bool, true, false, not, _&&_, _||_, cond, Bool·beq}
 use Prim.Native.Nat.{ℕ, zero, suc, _+_, _*_}
 use mathlib.Core.List.{List, [], _∷_, _++_, map, foldr, reverse}
@@ -15,39 +16,44 @@ abbrev pub positions : ℕ → List ℕ → ℕ → List ℕ
 positions v [] k = []
 positions v (x ∷ xs) k = cond (eqb x v) (k ∷ positions v xs (suc k)) (positions v xs (suc k))
 
--- kind 0 operation, 1 control, 2 block output; then operation index, 0, or position
+-- a use: block; kind (0 operation, 1 control, 2 block output); then operation index, 0, or position
 pub record Use : Type 0 where
   pub block : ℕ
   pub kind : ℕ
   pub place : ℕ
 
+-- the uses of v in block b: by its operations in turn, as its condition, as its outputs
 abbrev pub usesIn : List ℕ → ℕ → ℕ → List Use
 usesIn w v b =
     bind (ops w b) (λ o. map (λ k. record { block = b; kind = 0; place = o }) (positions v (ins w o) 0))
     ++ map (λ k. record { block = b; kind = 1; place = 0 }) (positions v (condition w b) 0)
     ++ map (λ k. record { block = b; kind = 2; place = k }) (positions v (outputs w b) 0)
 
--- coverage and order as `DefUse` fills them
+-- uses of a local: coverage and order as `DefUse` of def_use.rs fills them
 abbrev pub uses : List ℕ → ℕ → List Use
 uses w v = bind (blocksRpo w) (usesIn w v)
 
 -- ---- sets of locals: one Bool for each local
 
+-- a set of locals
 abbrev pub Set : Type 0
 Set = List Bool
 
+-- is v in the set?
 abbrev pub has : Set → ℕ → Bool
 has s v = getD s v false
 
+-- the set with these locals added
 abbrev pub addAll : Set → List ℕ → Set
 addAll s [] = s
 addAll s (v ∷ vs) = addAll (set s v true) vs
 
+-- the set with these locals removed
 abbrev pub removeAll : Set → List ℕ → Set
 removeAll s [] = s
 removeAll s (v ∷ vs) = removeAll (set s v false) vs
 
--- ids ascending
+-- the members of a set, ids ascending
 abbrev pub members : Set → List ℕ
 members s = keep (has s) (upto (length s))
 
@@ -63,23 +69,26 @@ abbrev pub entryFrom : List ℕ → ℕ → Set → Set
 entryFrom w b exit =
     foldr (λ o s. addAll (removeAll s (outs w o)) (ins w o)) (addAll exit (endReads w b)) (ops w b)
 
--- use: the locals that b reads before it gives them; `end` is read behind its operations
+-- is v read by the operations before one of them gives it? `end` is read behind them
 abbrev pub readFirst : List ℕ → List ℕ → List ℕ → ℕ → Bool
 readFirst w end [] v = mem v end
 readFirst w end (o ∷ os) v = mem v (ins w o) || (not (mem v (outs w o)) && readFirst w end os v)
 
+-- the use set of b: the locals that it reads before it gives them
 abbrev pub useSet : List ℕ → ℕ → Set
 useSet w b = map (readFirst w (endReads w b) (ops w b)) (upto (locals w))
 
--- def: the locals that an operation of b gives
+-- the def set of b: the locals that an operation of b gives
 abbrev pub defSet : List ℕ → ℕ → Set
 defSet w b = map (λ v. any (λ o. mem v (outs w o)) (ops w b)) (upto (locals w))
 
+-- the position of v in a list, or its length where v is not there
 abbrev pub indexOf : ℕ → List ℕ → ℕ
 indexOf v [] = 0
 indexOf v (x ∷ xs) = cond (eqb x v) 0 (suc (indexOf v xs))
 
--- what v of block b is called at the exit of its predecessor p: an input is the output at its position, another name passes
+-- across an edge: what v of block b is called at the exit of its predecessor p; an input becomes the output at its position, other
+-- names pass
 abbrev pub renamed : List ℕ → ℕ → ℕ → ℕ → ℕ
 renamed w p b v = getD (outputs w p) (indexOf v (inputs w b)) v
 
@@ -90,6 +99,7 @@ exitFrom w x p =
 
 -- ---- passes
 
+-- the set of block b in a table with a set for each block
 abbrev pub rowOf : List Set → ℕ → Set
 rowOf e b = getD e b []
 
@@ -103,13 +113,14 @@ back w e b =
 abbrev pub pass : List ℕ → List Set → List Set
 pass w e = foldl (back w) e (reverse (blocksRpo w))
 
--- are two sets, and two tables of sets, the same lists?
+-- are two sets the same list?
 abbrev pub sameSet : Set → Set → Bool
 sameSet [] [] = true
 sameSet [] (y ∷ t) = false
 sameSet (x ∷ s) [] = false
 sameSet (x ∷ s) (y ∷ t) = Bool·beq x y && sameSet s t
 
+-- are two tables of sets the same list?
 abbrev pub sameRows : List Set → List Set → Bool
 sameRows [] [] = true
 sameRows [] (y ∷ t) = false
@@ -125,53 +136,66 @@ settle (suc n) w k e = let next = pass w e in cond (sameRows next e) (suc k, e) 
 abbrev pub noExits : List ℕ → List Set
 noExits w = replicate (blocks w) (replicate (locals w) false)
 
--- more passes than there can be exit members suffice
+-- the passes, and the exit sets they end with; more passes than there can be exit members suffice
 abbrev pub settled : List ℕ → ℕ × List Set
 settled w = settle (blocks w * locals w + 1) w 0 (noExits w)
 
--- rounds: passes of liveness until one pass adds no exit member, that pass included
+-- rounds: passes until one adds no exit member, that one included
 abbrev pub rounds : List ℕ → ℕ
 rounds w = settled w .0
 
+-- exit set of a block
 abbrev pub exitSet : List ℕ → ℕ → Set
 exitSet w b = rowOf (settled w .1) b
 
--- an unvisited block has empty sets
+-- entry set of a block; an unvisited block has an empty one
 abbrev pub entrySet : List ℕ → ℕ → Set
 entrySet w b = cond (isVisited w b) (entryFrom w b (exitSet w b)) []
 
 -- ---- intervals
 
+-- the end of an interval that runs to the end of its block
 abbrev pub blockEnd : ℕ
 blockEnd = 4294967295
 
--- start 0 is the block start, else operation + 1; an end is operation + 1, or `blockEnd`
+-- an interval: block; start (0 block start, else operation + 1); end (operation + 1, or `blockEnd`)
 pub record Interval : Type 0 where
   pub block : ℕ
   pub from : ℕ
   pub to : ℕ
 
--- backwards through a block for one local: the open end (0: none) and the intervals closed so far
+-- a scan backwards through a block: the open end (0: none) and the intervals closed so far
 pub record Scan : Type 0 where
   pub open′ : ℕ
   pub closed : List Interval
 
-abbrev pub close : ℕ → ℕ → Scan → Scan
-close b from c = cond (eqb (c .open′) 0) c (record { open′ = 0; closed = c .closed ++ (record { block = b; from = from; to = c .open′ } ∷ []) })
+-- the end that is open behind a block's operations, by whether one is live there
+abbrev pub endOpen : Bool → ℕ
+endOpen live = cond live blockEnd 0
 
+-- the interval that a start closes, if an end is open
+abbrev pub closing : ℕ → ℕ → ℕ → List Interval
+closing b from to = cond (eqb to 0) [] (record { block = b; from = from; to = to } ∷ [])
+
+-- an open interval gets its start, and goes behind those closed so far
+abbrev pub close : ℕ → ℕ → Scan → Scan
+close b from c = record { open′ = 0; closed = c .closed ++ closing b from (c .open′) }
+
+-- operation o is passed: where it gives v it closes what is open, then where it reads v and nothing is open it opens an end
 abbrev pub scanOp : List ℕ → ℕ → ℕ → ℕ → Scan → Scan
 scanOp w b v o c =
     let d = cond (mem v (outs w o)) (close b (suc o) c) c in
     cond (mem v (ins w o) && eqb (d .open′) 0) (record { open′ = suc o; closed = d .closed }) d
 
+-- the intervals of v in block b, backwards through definitions, from its exit set on; one that starts with the block comes last
 abbrev pub blockIntervals : List ℕ → Set → ℕ → ℕ → List Interval
 blockIntervals w exit v b =
     close b 0
     (foldr (scanOp w b v)
-    (record { open′ = cond (has exit v || mem v (endReads w b)) blockEnd 0; closed = [] })
+    (record { open′ = endOpen (has exit v || mem v (endReads w b)); closed = [] })
     (ops w b))
     .closed
 
--- intervals of a local: per block, in the sequence of the Order answer, backwards through definitions, a block start last
+-- intervals of a local: block by block, in the sequence of the Order answer
 abbrev pub intervals : List ℕ → ℕ → List Interval
 intervals w v = bind (blocksRpo w) (λ b. blockIntervals w (exitSet w b) v b)

@@ -1,5 +1,5 @@
 -- What every question starts from: the refusal of the image by rules 1 to 12, or its words, the visit and the order's sequence.
--- Assumes nothing.
+-- Used by inner contracts; no exported promise speaks of it.
 use mathlib.Core.Path.{_≡_}
 use mathlib.Core.List.{List}
 use Prim.Native.Nat.{ℕ, _≤_}
@@ -31,6 +31,7 @@ pub record Prepared (w words seen post rpo : List ℕ) (n k m : ℕ) : Type 0 wh
   pub rpo-fit : m ≤ length rpo
   pub ready : Ready (take n words) seen (take m rpo)
 
+-- an image is read: its refusal, or all that is prepared from it
 pub record Loaded (s words seen post rpo : List ℕ) (number n k m : ℕ) : Type 0 where
   pub number-is : number ≡ refusal s
   pub accepted : refusal s ≡ 0 → Prepared (payload s) words seen post rpo n k m

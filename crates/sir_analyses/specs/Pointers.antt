@@ -1,4 +1,5 @@
--- Where a pointer goes from a local in one step, and which locals mark what reaches them, as tables. Assumes nothing.
+-- Where a pointer goes from a local in one step, and which locals mark what reaches them, as tables.
+-- Used by inner contracts; no exported promise speaks of it.
 use mathlib.Core.Path.{_≡_}
 use mathlib.Core.Bool.{Bool, _&&_, _||_}
 use mathlib.Core.List.{List}

@@ -1,8 +1,9 @@
--- How the source follows pointers from each allocation's base, step by step: `link_local_to_alloc` and
--- `propagate_pointers_and_mark_escapes` of allocation_liveness.rs. Assumes nothing.
+-- The machine that follows pointers from each allocation's base with a work list, a local at once: all that it carries, then one mark.
+-- Source, and so the exported promises, use `State`, `linkLocal`, `mark` and `start`, and follow use by use instead; the rest is
+-- used by inner contracts; no exported promise speaks of it.
 use mathlib.Core.Path.{_≡_}
 use mathlib.Core.Bool.{Bool, false, cond}
-use Prim.Native.Nat.{ℕ, zero, suc, _-_}
+use Prim.Native.Nat.{ℕ, suc, _-_}
 use mathlib.Core.List.{List, [], _∷_}
 use lib.ListN.{length, getD, set, replicate}
 use lib.Dec.{eqb}
@@ -10,13 +11,13 @@ use Rattle.plank_core.specs.Lists.{foldl}
 use Rattle.sir_analyses.specs.Liveness.{Set, addAll}
 use Rattle.sir_analyses.specs.Allocation.{allocs, allocAt, base, bases}
 
--- owner of each local (allocation + 1, or 0), marks of the allocations, locals still to be followed
+-- a state: owner of each local (allocation + 1, or 0), marks of the allocations, locals still to be followed
 pub record State : Type 0 where
   pub owner : List ℕ
   pub marks : Set
   pub work : List ℕ
 
--- `link_local_to_alloc`: a new owner replaces the old one; another's is a meeting, and marks both
+-- `link_local_to_alloc` of allocation_liveness.rs: a new owner replaces the old one; another's is a meeting, and marks both
 abbrev pub linkLocal : ℕ → State → ℕ → State
 linkLocal a s v =
     let old = getD (s .owner) v 0 in
@@ -24,10 +25,11 @@ linkLocal a s v =
     (record { owner = set (s .owner) v (suc a); marks = s .marks; work = v ∷ s .work })
     (record { owner = set (s .owner) v (suc a); marks = cond (eqb old (suc a)) (s .marks) (addAll (s .marks) (a ∷ (old - 1) ∷ [])); work = s .work })
 
+-- allocation a is marked
 abbrev pub mark : ℕ → State → State
 mark a s = record { owner = s .owner; marks = addAll (s .marks) (a ∷ []); work = s .work }
 
--- a local is followed: xs are linked, and where it harms the allocation is marked
+-- a local is followed at once: xs, all that it carries, are linked, and where it harms the allocation is marked
 abbrev pub follow : List ℕ → Bool → ℕ → State → State
 follow xs harms a s = let t = foldl (linkLocal a) s xs in cond harms (mark a t) t
 
@@ -37,7 +39,7 @@ pub data Runs (links : ℕ → List ℕ) (harms : ℕ → Bool) (a : ℕ) (s : S
   more : {t : State} {v : ℕ} {vs : List ℕ} → Runs links harms a s t → t .work ≡ v ∷ vs
       → Runs links harms a s (follow (links v) (harms v) a (record { owner = t .owner; marks = t .marks; work = vs }))
 
--- `propagate_pointers_and_mark_escapes`: from the base until the work list is empty
+-- allocation a is followed from its base v until the work list is empty
 pub record Propagates (links : ℕ → List ℕ) (harms : ℕ → Bool) (a v : ℕ) (s s′ : State) : Type 0 where
   pub runs : Runs links harms a (record { owner = s .owner; marks = s .marks; work = v ∷ [] }) s′
   pub ended : s′ .work ≡ []

@@ -1,4 +1,5 @@
--- What the questions of the code's enums are about, and the words that answer them. Assumes nothing.
+-- What the questions of the code's enums are about, and the words that answer them.
+-- Used by inner contracts; no exported promise speaks of it.
 use mathlib.Core.List.{List}
 use Prim.Native.Nat.{ℕ}
 use lib.ListN.{length}
@@ -10,14 +11,14 @@ use Rattle.sir_analyses.specs.declared.questions.BlockQuestion.{BlockQue
 use Rattle.sir_analyses.specs.declared.questions.LocalQuestion.{LocalQuestion}
 use Rattle.sir_analyses.specs.declared.questions.Question.{Question}
 
--- how many ids there are to ask about
+-- how many ids there are to ask liveness about
 abbrev pub liveCount : LiveQuestion → List ℕ → ℕ
 liveCount LiveQuestion.EntrySet = blocks
 liveCount LiveQuestion.ExitSet = blocks
 liveCount LiveQuestion.Intervals = locals
 liveCount LiveQuestion.Rounds = λ w. 1
 
--- order and rounds have no id, and count as asked about the only one
+-- how many ids there are to ask about; order and rounds have no id, and count as asked about the only one
 abbrev pub idCount : Question → List ℕ → ℕ
 idCount Question.Order = λ w. 1
 idCount Question.Rounds = λ w. 1
@@ -25,6 +26,7 @@ idCount (Question.OfBlock q b) = blocks
 idCount (Question.OfLocal q v) = locals
 idCount (Question.Allocation a) = λ w. length (allocs w)
 
+-- the id that is asked about
 abbrev pub idOf : Question → ℕ
 idOf Question.Order = 0
 idOf Question.Rounds = 0
@@ -32,23 +34,26 @@ idOf (Question.OfBlock q b) = b .0
 idOf (Question.OfLocal q v) = v .0
 idOf (Question.Allocation a) = a .0
 
--- the words of the answer about an id
+-- the words of an answer of liveness about an id
 abbrev pub liveWords : LiveQuestion → List ℕ → ℕ → List ℕ
 liveWords LiveQuestion.EntrySet = entryAnswer
 liveWords LiveQuestion.ExitSet = exitAnswer
 liveWords LiveQuestion.Intervals = intervalsAnswer
 liveWords LiveQuestion.Rounds = λ w i. roundsAnswer w
 
+-- the words of an answer about a block
 abbrev pub blockWords : BlockQuestion → List ℕ → ℕ → List ℕ
 blockWords BlockQuestion.Predecessors = predecessorsAnswer
 blockWords BlockQuestion.EntrySet = entryAnswer
 blockWords BlockQuestion.ExitSet = exitAnswer
 
+-- the words of an answer about a local
 abbrev pub localWords : LocalQuestion → List ℕ → ℕ → List ℕ
 localWords LocalQuestion.Uses = usesAnswer
 localWords LocalQuestion.Intervals = intervalsAnswer
 localWords LocalQuestion.Owner = ownerAnswer
 
+-- the words of an answer about an id
 abbrev pub answerWords : Question → List ℕ → ℕ → List ℕ
 answerWords Question.Order = λ w i. orderAnswer w
 answerWords Question.Rounds = λ w i. roundsAnswer w

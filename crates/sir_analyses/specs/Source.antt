@@ -1,6 +1,6 @@
 -- Marks, owners and intervals as the source makes them: `discover_allocations`, `propagate_pointers_and_mark_escapes` and
 -- `populate_intervals_from_local_liveness` of allocation_liveness.rs, with its work list and use by use. The numbers are its lines.
--- `link_local_to_alloc` (276 to 293) is `linkLocal` of Propagation. Assumes nothing.
+-- `link_local_to_alloc` (276 to 293) is `linkLocal` of Propagation.
 use mathlib.Core.Bool.{Bool, cond}
 use Prim.Native.Nat.{ℕ, zero, suc}
 use mathlib.Core.List.{List, [], _∷_, map}
@@ -51,6 +51,7 @@ propagate w s a = drain (suc (locals w)) w a (record { owner = s .owner; marks =
 abbrev pub sourceAfter : List ℕ → ℕ → State
 sourceAfter w n = foldl (propagate w) (start w) (upto n)
 
+-- `discover_allocations` to its end: all allocations propagated
 abbrev pub sourceState : List ℕ → State
 sourceState w = sourceAfter w (length (allocs w))
 

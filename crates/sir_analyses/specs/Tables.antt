@@ -1,5 +1,5 @@
 -- How tables of words show the sets of the definitions: row r of a table holds i where the table holds 512 * r + i.
--- Assumes nothing.
+-- Used by inner contracts; no exported promise speaks of it.
 use mathlib.Core.Path.{_≡_}
 use mathlib.Core.Bool.{Bool, true, not, _&&_, _||_}
 use mathlib.Core.List.{List, [], map}
@@ -13,15 +13,15 @@ use Rattle.sir_analyses.specs.Order.{isVisited, predecessors}
 use Rattle.sir_analyses.specs.Liveness.{Set, has, rowOf, endReads, readFirst, useSet, defSet, renamed, settled}
 use Rattle.sir_analyses.specs.Answers.{entryAnswer, exitAnswer}
 
--- words that show a set
+-- the words show a set
 abbrev pub Same : List ℕ → Set → Type 0
 Same ws s = (n : ℕ) → n < 512 → contains ws n ≡ has s n
 
--- each of the first n rows holds i where p r i
+-- each of the first n rows holds i exactly where p r i
 abbrev pub Rows : List ℕ → ℕ → (ℕ → ℕ → Bool) → Type 0
 Rows t n p = (r i : ℕ) → r < n → i < 512 → contains t (512 * r + i) ≡ p r i
 
--- row b of a table shows set b of e
+-- each of the first n rows of a table shows its set of e
 abbrev pub SameRows : List ℕ → List Set → ℕ → Type 0
 SameRows t e n = Rows t n (λ b i. has (rowOf e b) i)
 
@@ -117,6 +117,6 @@ pub record LiveRows (w uses defs exits : List ℕ) : Type 0 where
   pub block-rows : BlockRows w uses defs
   pub exits-long : length exits ≡ 2048
   pub exit-rows : SameRows exits (settled w .1) (blocks w)
-  -- and their members
+  -- the members of the exit sets, and of the entry sets of visited blocks
   pub exit-is : (b : ℕ) → b < blocks w → Words.members (Words.rowOf exits b) ≡ exitAnswer w b
   pub entry-is : (b : ℕ) → b < blocks w → isVisited w b ≡ true → (ws : List ℕ) → EntryWords uses defs exits b ws → Words.members ws ≡ entryAnswer w b

@@ -1,4 +1,4 @@
--- The arrays in which a visit of functions and blocks is kept. Assumes nothing.
+-- The arrays in which a visit of functions and blocks is kept. Used by inner contracts; no exported promise speaks of it.
 -- `seen` is a table of two sets, the functions seen and the blocks seen. `post` has what is finished, in that order: f for a
 -- function, 256 * (f + 1) + b for block b on behalf of function f.
 use mathlib.Core.Path.{_≡_}
@@ -12,12 +12,15 @@ use Rattle.plank_core.specs.DenseIndexSet.{contains}
 use Rattle.sir_data.specs.Records.{functions, blocks}
 use Rattle.sir_analyses.specs.Order.{Visit, visited, isVisited}
 
+-- the key of block b, finished on behalf of function f
 abbrev pub blockKey : ℕ → ℕ → ℕ
 blockKey f b = 256 * (f + 1) + b
 
+-- the function and the block of a key, if it is a block's
 abbrev pub keyedBlock : ℕ → List (ℕ × ℕ)
 keyedBlock k = cond (leb 256 k) ((k / 256 - 1, k % 256) ∷ []) []
 
+-- the function of a key, if it is a function's
 abbrev pub keyedFunction : ℕ → List ℕ
 keyedFunction k = cond (leb 256 k) [] (k ∷ [])
 
@@ -62,24 +65,27 @@ pub record SeenBlocks (w seen : List ℕ) : Type 0 where
 
 -- ---- the order, read off the keys from the last to the first
 
--- the blocks finished on behalf of f
+-- the block of a key, if it was finished on behalf of f
 abbrev pub blockOf : ℕ → ℕ → List ℕ
 blockOf f k = cond (eqb (k / 256) (f + 1)) (k % 256 ∷ []) []
 
+-- the blocks finished on behalf of f, last first
 unfoldable pub blocksOf : ℕ → List ℕ → List ℕ
 blocksOf f ks = bind (reverse ks) (blockOf f)
 
--- of the functions finished, what g gives of each
+-- what g gives of the function of a key, if it is a function's
 abbrev pub functionOf : (ℕ → List ℕ) → ℕ → List ℕ
 functionOf g k = cond (ltb k 256) (g k) []
 
+-- the blocks of all functions, in the sequence of the order
 unfoldable pub blocksIn : List ℕ → List ℕ
 blocksIn ks = bind (reverse ks) (functionOf (λ f. blocksOf f ks))
 
--- a function with its block count and its blocks
+-- the words of a function: its id, its block count and its blocks
 abbrev pub entryOf : ℕ → List ℕ → List ℕ
 entryOf f ks = f ∷ length (blocksOf f ks) ∷ blocksOf f ks
 
+-- the words of the Order answer
 unfoldable pub orderIn : List ℕ → List ℕ
 orderIn ks = bind (reverse ks) (functionOf (λ f. entryOf f ks))
 

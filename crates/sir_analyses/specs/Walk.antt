@@ -1,5 +1,4 @@
 -- Walks over the blocks of an image and what the locals hold on them (document 01, "Walk"), and the claim on lifetimes.
--- Assumes nothing.
 use mathlib.Core.Path.{_≡_}
 use mathlib.Core.Bool.{true, false}
 use mathlib.Core.Option.{some}
@@ -62,7 +61,8 @@ module _ (w : List ℕ) where
     moved : {τ : List Event} {b s u v a n : ℕ} → Paired (outputs w b) (inputs w s) u v → Holds τ u a n → Holds (edge b s ∷ τ) v a n
     stayed : {τ : List Event} {b s v a n : ℕ} → v ∉ inputs w s → Holds τ v a n → Holds (edge b s ∷ τ) v a n
 
-  -- demand 3
+  -- lifetimes: where a pointer of an unmarked allocation is read, its merged intervals have every operation since it was given; and
+  -- allocations whose pointers meet in one local are marked
   pub record Lifetimes : Type 0 where
     -- a read by an operation, itself counted
     pub read : {τ : List Event} {b o v a n u c p : ℕ} {os : List ℕ} → Walk τ b (o ∷ os) → v ∈ ins w o → Holds τ v a n → marked w a ≡ false
@@ -70,6 +70,6 @@ module _ (w : List ℕ) where
     -- a read as the condition at the end of a block
     pub tested : {τ : List Event} {b v a n u c p : ℕ} → Walk τ b [] → v ∈ condition w b → Holds τ v a n → marked w a ≡ false
         → Executed τ u c p → n ≤ u → Lies c p (merged w a)
-    -- pointers of two allocations in one local
+    -- pointers of two allocations in one local: both are marked
     pub mixed : {τ : List Event} {b v a n a′ n′ : ℕ} {os : List ℕ} → Walk τ b os → Holds τ v a n → Holds τ v a′ n′ → ¬ (a ≡ a′)
         → (marked w a ≡ true) × (marked w a′ ≡ true)

@@ -1,5 +1,6 @@
 -- How the words of an answer go into a slice: word by word, each only where a limit allows it. With the limit 0 the words are only
--- counted, and with the slice's length as the limit an answer that fits is written whole. Assumes nothing.
+-- counted, and with the slice's length as the limit an answer that fits is written whole.
+-- Used by inner contracts; no exported promise speaks of it.
 use mathlib.Core.Path.{_≡_}
 use mathlib.Core.Bool.{cond}
 use mathlib.Core.List.{List, [], _∷_, _++_}
@@ -8,11 +9,11 @@ use lib.ListN.{length, take, drop}
 use lib.Dec.{leb}
 use Rattle.sir_data.specs.Pages.{bytesOf}
 
--- word n of an answer is x
+-- the slice with x put as word n of an answer
 unfoldable pub wordPut : ℕ → ℕ → ℕ → List ℕ → List ℕ
 wordPut limit n x out = cond (leb (4 * n + 4) limit) (take (4 * n) out ++ bytesOf x ++ drop (4 * n + 4) out) out
 
--- the words from number n on are xs
+-- the slice with xs put as the words from number n on
 unfoldable pub wordsPut : ℕ → ℕ → List ℕ → List ℕ → List ℕ
 wordsPut limit n [] out = out
 wordsPut limit n (x ∷ xs) out = wordsPut limit (n + 1) xs (wordPut limit n x out)

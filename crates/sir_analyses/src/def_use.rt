@@ -9,7 +9,7 @@ use sir_data::records::block_word;
 use sir_data::records::op_inputs;
 use sir_data::records::operation_count;
 ghost use mathlib.Core.Path.{_≡_};
-ghost use Prim.Native.Nat.{ℕ, _+_, _*_, _<_, _≤_, _^_};
+ghost use Prim.Native.Nat.{_+_, _*_, _<_, _≤_, _^_};
 ghost use lib.ListN.{length};
 ghost use Rattle.plank_core.specs.Lists.{mem};
 ghost use Rattle.sir_data.specs.Records.{blocks, condition};

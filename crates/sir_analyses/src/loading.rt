@@ -4,7 +4,6 @@ use crate::reverse_post_order::blocks_rpo;
 use crate::reverse_post_order::visit;
 use sir_data::image::read_image;
 ghost use mathlib.Core.Path.{_≡_};
-ghost use Prim.Native.Nat.{_+_};
 ghost use lib.ListN.{length, replicate};
 ghost use Rattle.sir_analyses.specs.Loading.{Loaded};
 

@@ -15,11 +15,14 @@ ghost use Rattle.plank_core.specs.DenseIndexSet.{contains};
 ghost use Rattle.sir_data.specs.Records.{blocks, locals};
 ghost use Rattle.sir_data.specs.WellFormed.{WellFormed};
 ghost use Rattle.sir_analyses.specs.Order.{blocksRpo};
-ghost use Rattle.sir_analyses.specs.Liveness.{settled};
+ghost use Rattle.sir_analyses.specs.Liveness.{settled, endOpen, closing};
 ghost use Rattle.sir_analyses.specs.Answers.{intervalWords, intervalsAnswer};
 ghost use Rattle.sir_analyses.specs.Writing.{Puts};
 ghost use Rattle.sir_analyses.specs.Tables.{OperandRows, SameRows, EndRows};
-ghost use Rattle.sir_analyses.specs.Scanning.{openBefore, closedBy, closing, endOpen, scanWords};
+ghost use Rattle.sir_analyses.specs.Scanning.{openBefore, closedBy, scanWords};
+
+// The end of an interval that runs to the end of its block.
+pub const BLOCK_END: u32 = 4294967295;
 
 // The end that is open before an operation, and the end of the interval that it closes; 0 where there is none.
 pub struct Scanned {
@@ -66,10 +69,10 @@ pub fn open_end(exits: &[u64], ends: &[u64], b: BlockId, v: LocalId) -> u32
 {
     let row = b.0 as usize;
     if row_contains(exits, row, v.0) {
-        return 4294967295;
+        return BLOCK_END;
     }
     if row_contains(ends, row, v.0) {
-        return 4294967295;
+        return BLOCK_END;
     }
     0
 }

@@ -1,6 +1,8 @@
 // The merged intervals of an allocation's locals: in each block backwards through its operations, from where one of them is live to
 // where none is.
 use crate::answers::put_words;
+use crate::local_intervals::BLOCK_END;
+use crate::local_intervals::Scanned;
 use plank_core::dense_index_set::intersects;
 use plank_core::index::BlockId;
 use plank_core::index::OpIdx;
@@ -20,36 +22,29 @@ ghost use Rattle.plank_core.specs.Lists.{upto};
 ghost use Rattle.plank_core.specs.DenseIndexSet.{contains, meets};
 ghost use Rattle.sir_data.specs.Records.{blocks, locals};
 ghost use Rattle.sir_data.specs.WellFormed.{WellFormed};
-ghost use Rattle.sir_analyses.specs.Liveness.{Set, settled};
+ghost use Rattle.sir_analyses.specs.Liveness.{Set, settled, endOpen, closing};
 ghost use Rattle.sir_analyses.specs.Answers.{intervalWords};
 ghost use Rattle.sir_analyses.specs.Visiting.{SeenBlocks};
 ghost use Rattle.sir_analyses.specs.Writing.{Puts};
 ghost use Rattle.sir_analyses.specs.Tables.{Same, OperandRows, SameRows, EndRows};
-ghost use Rattle.sir_analyses.specs.Scanning.{closing, endOpen};
 ghost use Rattle.sir_analyses.specs.Sweep.{sweepBlock, sweepFrom};
 
-// The end that is open before an operation, and the end of the interval that it closes; 0 where there is none.
-pub struct Passed {
-    pub till: u32,
-    pub closed: u32,
-}
-
 // One operation is passed: where a local is live before it an end is open, and where none is the open one is closed.
-fn pass_op(live: bool, o: OpIdx, till: u32) -> Passed
+fn pass_op(live: bool, o: OpIdx, till: u32) -> Scanned
     requires { ⌜ o .0 < 1024 ⌝ }
     ensures { λ r. ⌜ r .till ≡ cond live (cond (eqb till 0) (o .0 + 1) till) 0 ⌝ }
     ensures { λ r. ⌜ r .closed ≡ cond live 0 till ⌝ }
 {
     if live {
         if till == 0 {
-            return Passed {
+            return Scanned {
                 till: o.0 + 1,
                 closed: 0,
             };
         }
-        return Passed { till, closed: 0 };
+        return Scanned { till, closed: 0 };
     }
-    Passed {
+    Scanned {
         till: 0,
         closed: till,
     }
@@ -95,12 +90,13 @@ fn end_behind<'a>(reach: &'a [u64], live: &'a [u64]) -> u32
     ensures { λ r. ⌜ r ≡ endOpen (meets (now (reach .entry)) (now (live .entry))) ⌝ }
 {
     if intersects(reach, live) {
-        return 4294967295;
+        return BLOCK_END;
     }
     0
 }
 
-// The intervals of one block, three words each, to the end of `run`: where they begin.
+// The merged intervals of the reach in one block, three words each, to the end of `run`: where they begin. The source's function of
+// this name sorts and joins a list; this one finds them joined, operation by operation.
 fn merge_intervals(
     words: &[u32],
     reads: &[u64],

@@ -1,4 +1,4 @@
--- Laws of putting words into a slice. Assumes nothing.
+-- Laws of putting words into a slice.
 use mathlib.Core.Path.{_≡_, refl, sym, ap, _∙_}
 use mathlib.Core.Bool.{Bool, true, false, cond}
 use mathlib.Core.List.{List, [], _∷_, _++_, append-assoc}

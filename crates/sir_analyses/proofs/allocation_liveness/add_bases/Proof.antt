@@ -1,14 +1,13 @@
 -- `add_bases` meets its contract. The invariant: the bases of the operations left are to be added.
 use mathlib.Core.Path.{_≡_, sym, ap, _∙_}
-use mathlib.Core.Bool.{Bool, true, false, not}
-use mathlib.Core.List.{List, _∷_}
-use Prim.Native.Nat.{ℕ, _+_, _-_, _≤_, _<_}
+use mathlib.Core.Bool.{true, false}
+use mathlib.Core.List.{List}
+use Prim.Native.Nat.{ℕ, _-_, _<_}
 use native.Mathlib.Nat.{zero-add}
 use native.Mathlib.Omega.{arith}
 use lib.ListN.{length, getD}
 use borrow.Author.Tests.{not-true, not-false}
 use Rattle.plank_core.specs.Lists.{range, _∈_}
-use Rattle.plank_core.specs.DenseIndexSet.{contains}
 use Rattle.plank_core.specs.laws.Lists.{mem-range}
 use Rattle.sir_data.specs.Records.{operations, code, outs}
 use Rattle.sir_data.specs.Codes.{isAlloc}

@@ -16,11 +16,6 @@ use Rattle.sir_analyses.proofs.allocation_liveness.discover_allocations
   statement,
 }
 use Rattle.sir_analyses.proofs.allocation_liveness.discover_allocations.Tie as tie
-use Rattle.sir_analyses.proofs.allocation_liveness.discover_allocations.Reads as reads
-use Rattle.sir_analyses.proofs.allocation_liveness.discover_allocations.Lts as lts
-use Rattle.sir_analyses.proofs.allocation_liveness.base_ptr.Reads as base-ptr-reads
-use Rattle.sir_analyses.proofs.allocation_liveness.own_bases.Reads as own-bases-reads
-use Rattle.sir_analyses.proofs.allocation_liveness.propagate_pointers_and_mark_escapes.Reads as propagate-pointers-and-mark-escapes-reads
 
 abbrev Inv-loop : tie.InvT-loop
 Inv-loop words keys links harms owner₀ marks₀ work₀ i₀ owner marks work i = (i ≤ length keys) × Turned words links harms owner marks work i

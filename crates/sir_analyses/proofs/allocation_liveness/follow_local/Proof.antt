@@ -1,6 +1,6 @@
 -- `follow_local` meets its contract. The invariant: the first i of what the local carries on are linked.
 use mathlib.Core.Path.{_≡_, sym, ap, _∙_}
-use mathlib.Core.List.{List, [], _∷_}
+use mathlib.Core.List.{List}
 use Prim.Native.Nat.{ℕ, _+_, _-_, _≤_, _<_}
 use lib.ListN.{length, getD, take}
 use native.Mathlib.Omega.{arith}
@@ -15,13 +15,6 @@ use Rattle.sir_analyses.specs.Discovery.{linksIn, StepTaken}
 use Rattle.sir_analyses.proofs.Linking.{found-at, none-linked, linked-more, linked-all, follow-harmed, follow-harmless}
 use Rattle.sir_analyses.proofs.allocation_liveness.follow_local.Statement.{statement}
 use Rattle.sir_analyses.proofs.allocation_liveness.follow_local.Tie as tie
-use Rattle.sir_analyses.proofs.allocation_liveness.follow_local.Reads as reads
-use Rattle.sir_analyses.proofs.allocation_liveness.follow_local.Lts as lts
-use Rattle.plank_core.proofs.dense_index_set.list.Reads as list-reads
-use Rattle.plank_core.proofs.rows.row_add.Reads as row-add-reads
-use Rattle.plank_core.proofs.rows.row_contains.Reads as row-contains-reads
-use Rattle.plank_core.proofs.rows.row_of.Reads as row-of-reads
-use Rattle.sir_analyses.proofs.allocation_liveness.link_local_to_alloc.Reads as link-local-to-alloc-reads
 
 abbrev Inv-loop : tie.InvT-loop
 Inv-loop links harms owner₀ marks₀ work₀ n local a found count m₀ i₀ owner marks work m i = (i ≤ count) × (count ≡ length (linksIn links (local .0))) × ((k : ℕ) → k < length (linksIn links (local .0)) → getD found k 0 ≡ getD (linksIn links (local .0)) k 0) × StepTaken (take i (linksIn links (local .0))) (a .0) (λ s. foldl (linkLocal (a .0)) s (take i (linksIn links (local .0)))) owner₀ marks₀ work₀ n owner marks work m

@@ -1,15 +1,11 @@
 -- `link_local_to_alloc` meets its contract.
 use native.Mathlib.Omega.{arith}
-use Rattle.plank_core.specs.laws.DenseIndexSet.{length-added}
 use Rattle.sir_analyses.proofs.Linking.{push-room, link-new, link-same, link-other}
 use borrow.Author.Needs.{needs}
 use Rattle.sir_analyses.proofs.allocation_liveness.link_local_to_alloc.Statement.{
   statement,
 }
 use Rattle.sir_analyses.proofs.allocation_liveness.link_local_to_alloc.Tie as tie
-use Rattle.sir_analyses.proofs.allocation_liveness.link_local_to_alloc.Reads as reads
-use Rattle.sir_analyses.proofs.allocation_liveness.link_local_to_alloc.Lts as lts
-use Rattle.plank_core.proofs.rows.row_add.Reads as row-add-reads
 
 cast-at : tie.Need-cast-at
 cast-at c = search needs

@@ -1,17 +1,13 @@
 -- `propagate_pointers_and_mark_escapes` meets its contract. The invariant: the arrays show a state on the way.
-use mathlib.Core.Path.{_≡_, sym, _∙_}
-use Prim.Native.Nat.{_+_, _<_}
+use mathlib.Core.Path.{sym, _∙_}
+use Prim.Native.Nat.{_+_}
 use native.Mathlib.Omega.{arith}
-use borrow.Author.Needs.{needs}
 use Rattle.sir_analyses.specs.Discovery.{zeros, Room}
 use Rattle.sir_analyses.proofs.Following.{room-less, room-base, AllGoing, going-starts, going-on, going-ends}
 use Rattle.sir_analyses.proofs.allocation_liveness.propagate_pointers_and_mark_escapes.Statement.{
   statement,
 }
 use Rattle.sir_analyses.proofs.allocation_liveness.propagate_pointers_and_mark_escapes.Tie as tie
-use Rattle.sir_analyses.proofs.allocation_liveness.propagate_pointers_and_mark_escapes.Reads as reads
-use Rattle.sir_analyses.proofs.allocation_liveness.propagate_pointers_and_mark_escapes.Lts as lts
-use Rattle.sir_analyses.proofs.allocation_liveness.follow_local.Reads as follow-local-reads
 
 abbrev Inv-loop : tie.InvT-loop
 Inv-loop links harms owner₀ marks₀ work₀ a n₀ owner marks work n = Room owner marks work n × AllGoing links harms (a .0) owner₀ marks₀ work₀ owner marks work n

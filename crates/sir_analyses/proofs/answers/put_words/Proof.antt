@@ -1,6 +1,6 @@
 -- `put_words` meets its contract. The invariant: what is left of the words is to be put.
-use mathlib.Core.Path.{_≡_, sym, _∙_}
-use mathlib.Core.List.{List, _∷_, [], _++_}
+use mathlib.Core.Path.{_≡_}
+use mathlib.Core.List.{_∷_, [], _++_}
 use Prim.Native.Nat.{_+_, _-_, _≤_}
 use native.Mathlib.Omega.{arith}
 use native.Mathlib.Numerals.{add-one}

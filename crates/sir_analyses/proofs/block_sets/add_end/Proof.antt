@@ -1,5 +1,6 @@
 -- `add_end` meets its contract.
-use Rattle.sir_analyses.proofs.BlockSets.{small, returned-below, ends-both}
+use Rattle.sir_analyses.proofs.Accepted.{returned-below}
+use Rattle.sir_analyses.proofs.BlockSets.{small, ends-both}
 use native.Mathlib.Omega.{arith}
 use borrow.Author.Needs.{needs}
 use Rattle.sir_analyses.proofs.block_sets.add_end.Statement.{statement}
@@ -18,7 +19,7 @@ add-run-requires : tie.Need-add-run-requires
 add-run-requires c κs = let s = c .before .before .before .before .before .before .before .before .before in
     let b = s .args .b .0 in (
       omega (arith, c .before .before .before .before .before .add-condition .ensures .long, s .pre .1, s .pre .0 .sized .blocks-most),
-      λ v m. small (s .pre .0) (returned-below (s .pre .0) b v (s .pre .1 .0) (rw (c .returned-outputs .ensures) at m)),
+      λ v m. small (s .pre .0) (returned-below (s .args .words .now) (s .pre .0) b v (s .pre .1 .0) (rw (c .returned-outputs .ensures) at m)),
     )
 
 same-length : tie.Need-same-length

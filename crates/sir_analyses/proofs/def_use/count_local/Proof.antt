@@ -1,11 +1,10 @@
 -- `count_local` meets its contract. The invariant: the places left are still to be counted.
-use mathlib.Core.Path.{_≡_, refl, sym, ap, _∙_}
-use mathlib.Core.List.{List, [], _∷_, _++_}
-use Prim.Native.Nat.{ℕ, _+_, _-_, _*_, _≤_, _<_}
+use mathlib.Core.Path.{_≡_, ap}
+use Prim.Native.Nat.{_+_, _-_, _≤_}
 use native.Mathlib.Omega.{arith}
 use lib.ListN.{length, drop}
 use Rattle.sir_analyses.specs.Liveness.{positions}
-use Rattle.sir_analyses.proofs.UseWords.{place-here, place-other, places-end, places-most}
+use Rattle.sir_analyses.proofs.UseWords.{place-here, place-other, places-end}
 use Rattle.sir_analyses.proofs.def_use.count_local.Statement.{statement}
 use Rattle.sir_analyses.proofs.def_use.count_local.Tie as tie
 

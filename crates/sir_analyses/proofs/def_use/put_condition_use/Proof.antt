@@ -1,8 +1,5 @@
 -- `put_condition_use` meets its contract.
-use mathlib.Core.Path.{_≡_, refl, sym, ap, _∙_}
-use mathlib.Core.List.{List, [], _∷_, _++_}
-use Prim.Native.Nat.{ℕ, _+_, _-_, _*_, _≤_, _<_}
-use native.Mathlib.Omega.{arith}
+use mathlib.Core.Path.{sym, _∙_}
 use Rattle.sir_analyses.proofs.Writing.{puts-as, puts-nothing}
 use Rattle.sir_analyses.proofs.UseWords.{condition-use, no-condition-use}
 use borrow.Author.Needs.{needs}

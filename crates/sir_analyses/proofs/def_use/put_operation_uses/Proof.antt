@@ -1,12 +1,10 @@
 -- `put_operation_uses` meets its contract. The invariant: the operations left are to be put.
-use mathlib.Core.Path.{_≡_, refl, sym, ap, _∙_}
-use mathlib.Core.List.{List, [], _∷_, _++_}
-use Prim.Native.Nat.{ℕ, _+_, _-_, _*_, _^_, _≤_, _<_}
+use mathlib.Core.Path.{ap}
+use Prim.Native.Nat.{_+_, _-_, _^_, _<_}
 use native.Mathlib.Omega.{arith}
 use lib.ListN.{length, getD}
-use Rattle.plank_core.specs.Lists.{range, bind}
 use Rattle.sir_data.specs.Records.{operations}
-use Rattle.sir_analyses.specs.Uses.{sameUses, operationUses}
+use Rattle.sir_analyses.specs.Uses.{sameUses}
 use Rattle.sir_analyses.proofs.Writing.{Putting, putting-none, putting-as, putting-count, putting-more, putting-all, puts-as}
 use Rattle.sir_analyses.proofs.UseWords.{operationsLeft, operation-next, operation-end, same-uses-length, span-is}
 use borrow.Author.Needs.{needs}

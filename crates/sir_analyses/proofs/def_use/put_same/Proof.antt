@@ -1,9 +1,7 @@
 -- `put_same` meets its contract. The invariant: the uses left are to be put.
-use mathlib.Core.Path.{_≡_, refl, sym, ap, _∙_}
-use mathlib.Core.List.{List, [], _∷_, _++_}
-use Prim.Native.Nat.{ℕ, _+_, _-_, _*_, _^_, _≤_, _<_}
+use mathlib.Core.List.{[], _∷_}
+use Prim.Native.Nat.{_+_, _-_, _^_, _≤_}
 use native.Mathlib.Omega.{arith}
-use lib.ListN.{length}
 use Rattle.sir_analyses.proofs.Writing.{Putting, putting-none, putting-as, putting-count, putting-more, putting-all, putting-past}
 use Rattle.sir_analyses.specs.Uses.{sameUses}
 use Rattle.sir_analyses.proofs.UseWords.{sameLeft, same-start, same-next, same-end, same-uses-length}

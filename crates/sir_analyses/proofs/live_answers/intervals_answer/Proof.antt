@@ -1,5 +1,5 @@
 -- `intervals_answer` meets its contract.
-use mathlib.Core.Path.{_≡_, ap}
+use mathlib.Core.Path.{ap}
 use native.Mathlib.Omega.{arith}
 use lib.ListN.{length}
 use Rattle.sir_analyses.specs.Answers.{intervalsAnswer}

@@ -1,8 +1,7 @@
 -- `load` meets its contract.
-use mathlib.Core.Path.{_≡_, refl, sym, ap, _∙_, subst}
+use mathlib.Core.Path.{_≡_, sym, _∙_}
 use Prim.Native.Nat.{ℕ}
 use native.Mathlib.Omega.{arith}
-use lib.ListN.{length}
 use Rattle.sir_analyses.proofs.Loads.{refused-early, words-fit, front-is, front-good, refused-last, refused-never, blocks-fit, rpo-is, keys-fit, front-length, prepared}
 use borrow.Author.Needs.{needs}
 use Rattle.sir_analyses.proofs.loading.load.Statement.{statement}

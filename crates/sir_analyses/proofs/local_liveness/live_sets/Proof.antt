@@ -1,5 +1,4 @@
 -- `live_sets` meets its contract.
-use mathlib.Core.Path.{_≡_, refl, sym, ap, _∙_}
 use Rattle.sir_analyses.proofs.SetAnswers.{exit-members, entry-members}
 use borrow.Author.Needs.{needs}
 use Rattle.sir_analyses.proofs.local_liveness.live_sets.Statement.{statement}

@@ -6,7 +6,7 @@ use Rattle.plank_core.specs.Lists.{range}
 use Rattle.plank_core.specs.laws.Loops.{range-before, range-none}
 use Rattle.sir_data.specs.Records.{operations, blockWord, ops}
 use Rattle.sir_analyses.specs.Answers.{intervalWords}
-use Rattle.sir_analyses.specs.Scanning.{closing}
+use Rattle.sir_analyses.specs.Liveness.{closing}
 use Rattle.sir_analyses.proofs.Scanning.{closing-few}
 use Rattle.sir_analyses.proofs.MergedIntervals.{Sweeping, sweeping-starts, sweeping-more, sweeping-ends}
 use borrow.Author.Needs.{needs}

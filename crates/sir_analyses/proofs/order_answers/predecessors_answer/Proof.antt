@@ -1,5 +1,5 @@
 -- `predecessors_answer` meets its contract: counting leaves the slice alone.
-use mathlib.Core.Path.{_≡_, refl, sym, ap, _∙_}
+use mathlib.Core.Path.{ap}
 use native.Mathlib.Omega.{arith}
 use lib.ListN.{length}
 use Rattle.sir_analyses.specs.Order.{predecessors}

@@ -11,7 +11,8 @@ use Rattle.sir_analyses.specs.Tables.{Adds}
 use Rattle.sir_analyses.specs.Pointers.{passesBy}
 use Rattle.sir_analyses.proofs.Keys.{rpo-below}
 use Rattle.sir_analyses.proofs.Tables.{adds-none}
-use Rattle.sir_analyses.proofs.BlockSets.{small, returned-below}
+use Rattle.sir_analyses.proofs.Accepted.{returned-below}
+use Rattle.sir_analyses.proofs.BlockSets.{small}
 use Rattle.sir_analyses.proofs.PointerLinks.{adds-listed, adds-all}
 use native.Mathlib.Omega.{arith}
 use Rattle.sir_analyses.proofs.pointer_links.link_blocks.Statement.{statement}
@@ -50,7 +51,7 @@ add-run-requires c κs = let s = c .before .before .before .before .before .befo
     let w = s .args .words .now in
     let rpo = s .args .rpo .now in
     let h : getD rpo (l .i) 0 < blocks w = rpo-below w (s .pre .0) (s .pre .1 .0) (getD rpo (l .i) 0) (getD-mem rpo (l .i) 0 (c .before .before .before .before .before .before .before .loop-test .taken)) in
-    (omega (arith, l .inv .2 .long, s .pre .1 .1 .1), λ v m. small (s .pre .0) (returned-below (s .pre .0) (getD rpo (l .i) 0) v h (rw (c .returned-outputs .ensures) at m)))
+    (omega (arith, l .inv .2 .long, s .pre .1 .1 .1), λ v m. small (s .pre .0) (returned-below (s .args .words .now) (s .pre .0) (getD rpo (l .i) 0) v h (rw (c .returned-outputs .ensures) at m)))
 
 add-i : tie.Need-add-i Inv-loop μ-loop
 add-i c = omega arith

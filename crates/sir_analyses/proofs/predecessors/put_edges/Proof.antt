@@ -1,5 +1,5 @@
 -- `put_edges` meets its contract. The invariant: the edges of the successors left are to be put.
-use mathlib.Core.Path.{_≡_, sym, ap, _∙_}
+use mathlib.Core.Path.{sym, _∙_}
 use mathlib.Core.List.{_∷_, []}
 use Prim.Native.Nat.{_+_, _-_, _≤_, _<_}
 use native.Mathlib.Omega.{arith}

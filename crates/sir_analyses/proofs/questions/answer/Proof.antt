@@ -1,8 +1,7 @@
 -- `answer` meets its contract.
-use mathlib.Core.Path.{_≡_, refl, sym, ap, _∙_}
+use mathlib.Core.Path.{sym, ap, _∙_}
 use mathlib.Core.List.{List}
 use Prim.Native.Nat.{ℕ}
-use native.Mathlib.Omega.{arith}
 use Rattle.plank_core.specs.Lists.{bind}
 use Rattle.sir_data.specs.Pages.{bytesOf}
 use Rattle.sir_analyses.specs.Answers.{answered, asked}

@@ -1,8 +1,7 @@
 -- `ask` meets its contract.
-use mathlib.Core.Path.{_≡_, refl, sym, ap, _∙_}
+use mathlib.Core.Path.{_≡_, sym, ap, _∙_}
 use mathlib.Core.List.{List}
 use Prim.Native.Nat.{ℕ}
-use native.Mathlib.Omega.{arith}
 use Rattle.sir_analyses.specs.Answers.{refusal, asked}
 use Rattle.sir_analyses.specs.Questions.{idOf, idCount, answerWords}
 use Rattle.sir_analyses.proofs.Loads.{front-length}

@@ -1,7 +1,5 @@
 -- `local_answer` meets its contract.
-use mathlib.Core.Path.{_≡_, refl, sym, ap, _∙_}
-use mathlib.Core.List.{List}
-use Prim.Native.Nat.{ℕ}
+use mathlib.Core.Path.{sym, ap, _∙_}
 use native.Mathlib.Omega.{arith}
 use Rattle.sir_data.specs.Records.{locals}
 use Rattle.sir_analyses.specs.Answers.{usesAnswer, intervalsAnswer, ownerAnswer, asked}

@@ -1,7 +1,4 @@
 -- `local_owner` meets its contract.
-use mathlib.Core.Path.{_≡_, refl, sym, ap, _∙_}
-use mathlib.Core.List.{List}
-use Prim.Native.Nat.{ℕ}
 use native.Mathlib.Omega.{arith}
 use Rattle.sir_analyses.proofs.Loads.{front-length}
 use borrow.Author.Needs.{needs}

@@ -1,22 +1,22 @@
 -- `visit_function` and `visit_block` meet their contracts: each step of the source's visit, whatever visit the arrays showed.
 -- The falling number is unseen functions plus unseen blocks.
-use Prim.Native.Nat.{ℕ, _+_, _-_, _*_, _≤_, _<_}
+use Prim.Native.Nat.{ℕ, _+_, _-_, _≤_, _<_}
 use borrow.Fn.Kinds.{In}
 use borrow.Fn.PlainCycle.{Measures, is, falls, and}
 use borrow.Author.Needs.{needs}
-use mathlib.Core.Path.{_≡_, refl, sym, ap, _∙_}
+use mathlib.Core.Path.{_≡_, sym, _∙_}
 use mathlib.Core.Logic.{⊎-elim}
-use mathlib.Core.Bool.{true, false, not}
+use mathlib.Core.Bool.{false}
 use native.Mathlib.Nat.{le-refl, zero-add}
 use native.Mathlib.Omega.{arith}
 use borrow.Author.Tests.{not-true, not-false}
-use mathlib.Core.List.{List, [], _∷_}
-use lib.ListN.{length, drop, getD, drop-of-length-le}
+use mathlib.Core.List.{List}
+use lib.ListN.{length, drop, drop-of-length-le}
 use Rattle.plank_core.specs.Lists.{range, foldl, bind}
 use Rattle.plank_core.specs.DenseIndexSet.{contains}
-use Rattle.sir_data.specs.Records.{functions, blocks, callees, successors, blockWord}
-use Rattle.sir_analyses.specs.Order.{Visit, seeFunction, seeBlock, visitFunction, visitBlock}
-use Rattle.sir_analyses.specs.Visiting.{Held, Went, unseen}
+use Rattle.sir_data.specs.Records.{functions, blocks, callees, successors}
+use Rattle.sir_analyses.specs.Order.{seeFunction, seeBlock, visitFunction, visitBlock}
+use Rattle.sir_analyses.specs.Visiting.{Went, unseen}
 use Rattle.sir_analyses.proofs.Visiting.{Entered, enter-function, enter-block, skip-function, skip-block, then, Going, going-none, going-as, going-more, going-all, fits, done-function, done-block, calls-end, calls-skip, calls-call, callee-below, successor-next, successor-below}
 use Rattle.sir_analyses.proofs.reverse_post_order.visit_block.Reads as visit-block
 use Rattle.sir_analyses.proofs.reverse_post_order.visit_block.Kinds as visit-block-kinds

@@ -1,7 +1,7 @@
 -- `blocks_rpo` meets its contract. The invariant: the keys before i are still to be read.
-use mathlib.Core.Path.{_≡_, sym, ap, _∙_}
-use mathlib.Core.List.{List, [], _++_, reverse}
-use Prim.Native.Nat.{ℕ, _+_, _-_, _≤_}
+use mathlib.Core.Path.{_≡_, _∙_}
+use mathlib.Core.List.{List, _++_, reverse}
+use Prim.Native.Nat.{ℕ, _-_, _≤_}
 use native.Mathlib.Omega.{arith}
 use lib.ListN.{length, getD, take}
 use borrow.Author.Tests.{lt-ltb, le-ltb}

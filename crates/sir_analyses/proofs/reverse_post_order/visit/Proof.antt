@@ -1,5 +1,5 @@
 -- `visit` meets its contract.
-use mathlib.Core.Path.{_≡_, refl, sym, ap, _∙_}
+use mathlib.Core.Path.{_≡_, sym, _∙_}
 use Prim.Native.Nat.{suc, _-_}
 use native.Mathlib.Omega.{arith}
 use Rattle.sir_data.specs.Records.{mainPlusOne}
