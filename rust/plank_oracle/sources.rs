@@ -1,14 +1,16 @@
 //! Build script of the crates that hold Plank's files.
 //!
-//! The files stay where they are: the folder `PLANK_SRC`, absolute or from the root of the repository, or
-//! `../shared/docs/src` from there. In cargo's build
-//! folder a tree of links to them is made, completed by the shims for modules that are not among them, since a source
-//! that says `mod idx_slice;` looks for that file next to itself. The crate then includes `modules.rs` of that tree (or
-//! the source's own `lib.rs`). Where the folder is missing nothing is made, the cfg `plank_sources` stays off, and the
-//! crate is empty.
+//! The files stay where they are, in the folder that the environment variable `PLANK_SRC` names, or in [`DEFAULT_FOLDER`].
+//! In cargo's build folder a tree of links to them is made, completed by the shims for modules that are not among them,
+//! since a source that says `mod idx_slice;` looks for that file next to itself. The crate then includes `modules.rs` of
+//! that tree (or the source's own `lib.rs`). Where the folder is missing nothing is made, the cfg `plank_sources` stays
+//! off, and the crate is empty.
 
 use std::path::{Path, PathBuf};
 use std::{env, fs, io};
+
+/// Where Plank's files are looked for without `PLANK_SRC`. Like a relative `PLANK_SRC`, from the root of the repository.
+const DEFAULT_FOLDER: &str = "../shared/docs/src";
 
 /// What one crate takes from the folder.
 struct Tree {
@@ -62,7 +64,7 @@ fn main() -> io::Result<()> {
     let package = PathBuf::from(variable("CARGO_MANIFEST_DIR"));
     let repository = package.ancestors().find(|folder| folder.ends_with("rust")).and_then(Path::parent);
     let repository = repository.expect("the crate stands in the folder rust of the repository");
-    let folder = env::var_os("PLANK_SRC").unwrap_or_else(|| "../shared/docs/src".into());
+    let folder = env::var_os("PLANK_SRC").unwrap_or_else(|| DEFAULT_FOLDER.into());
     let sources = repository.join(folder);
 
     let name = variable("CARGO_PKG_NAME");

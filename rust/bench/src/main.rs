@@ -1,12 +1,12 @@
 //! Times the linked library against Plank's own analyses, in one run. From the folder `rust`:
 //!
 //! ```text
-//! cargo run --release -p bench -- [deals] [full] [medium] [worst] [stack] [slowest]
+//! cargo run --release -p bench -- [typical] [full] [medium] [worst] [stack] [slowest]
 //! ```
 //!
-//! Without words all groups are taken: deals of 20 to 60 blocks, full-size images, the worst images of a medium size that
-//! Plank can take too, and the worst legal images; then the stack that a call takes. The group `slowest` is taken only where
-//! it is named: legal images on which one run of Plank takes from seconds to a minute.
+//! Without words all groups but `slowest` are taken: typical images of 20 to 60 blocks, full-size images, the worst images
+//! of a medium size that Plank can take too, and the worst legal images; then the stack that a call takes. `slowest` are
+//! legal images on which one run of Plank takes from seconds to a minute.
 //!
 //! The library reads and checks the image anew for every question; Plank begins with a program that is in memory. A
 //! question is timed by itself, as the mean over some ids of each image; for Plank this is the time of the analyses that
@@ -17,11 +17,11 @@
 
 mod stack;
 
-use image_gen::extremes::{self, Rings};
+use compare::sides::{ask_library, ask_plank, ids};
+use image_gen::rings::{self, Rings};
 use image_gen::{Kind, Size, generate, worst};
 use paper_reference::{Question, Reference};
 use plank_oracle::{Analyses, Program};
-use sir_analyses::{Answer, calls};
 use sir_image::{Code, Image, MAX_LOCALS};
 use std::hint::black_box;
 use std::time::{Duration, Instant};
@@ -45,7 +45,7 @@ fn main() {
         println!("Plank's files were missing when this was built (set PLANK_SRC): it is left out");
     }
     let asked: Vec<String> = std::env::args().skip(1).collect();
-    let groups = ["deals", "full", "medium", "worst", "stack", "slowest"];
+    let groups = ["typical", "full", "medium", "worst", "stack", "slowest"];
     if let Some(unknown) = asked.iter().find(|word| !groups.contains(&word.as_str())) {
         eprintln!("bench: no group {unknown}");
         std::process::exit(2);
@@ -54,9 +54,9 @@ fn main() {
     let of = |kinds: [Kind; 2], count: u64| -> Vec<Image> {
         (0..count).flat_map(|seed| kinds.map(|kind| generate(kind, seed))).collect()
     };
-    if is_asked("deals") {
-        let images = of([Kind::Deal, Kind::DealLives], 10);
-        table(&Group { name: "deals of 20 to 60 blocks".to_string(), images, plank: true });
+    if is_asked("typical") {
+        let images = of([Kind::Typical, Kind::TypicalLives], 10);
+        table(&Group { name: "typical, 20 to 60 blocks".to_string(), images, plank: true });
     }
     if is_asked("full") {
         let images = of([Kind::FullSize, Kind::FullLives], 3);
@@ -91,16 +91,16 @@ fn slowest() {
         println!("\n{name}: allocation 0, Plank once");
         println!("{:14} {:>14} {:>14} {:>16}", "", "library", "Plank", "library / Plank");
         let question = Question::Allocation;
-        let library = best(|| _ = black_box(ask_library(&image.bytes, question, 0, &mut result)));
+        let library = best(|| _ = black_box(ask_library(question, &image.bytes, 0, &mut result)));
         let plank = once(&mut || image.fresh(|plank| _ = black_box(ask_plank(plank, question, 0))));
         row("Allocation", 1, Some(library), Some(plank));
     }
 }
 
-/// Rings with an allocation in the first block, so that its answer waits for all passes. With the most rings that an image can
-/// have, 128, Plank had no answer after almost four minutes.
+/// Rings with an allocation in the first block, so that its answer waits for all passes. With the most rings that an image
+/// can have, 128, Plank had no answer after almost four minutes.
 fn rings_with_an_allocation() -> Image {
-    let mut image = extremes::rings(Rings { rings: 32, inputs: MAX_LOCALS - 2, ..Rings::most(Size::FULL) });
+    let mut image = rings::image(Rings { rings: 32, inputs: MAX_LOCALS - 2, ..Rings::most(Size::FULL) });
     let base = image.locals;
     image.locals += 1;
     let first = image.operation_with(Code::StaticAllocZeroed, &[], &[base], [32, 0]);
@@ -131,7 +131,7 @@ fn table(group: &Group) {
             }
             times.images += 1;
             if sir_analyses::LINKED {
-                let time = mean(&ids, |id| _ = black_box(ask_library(&image.bytes, question, id, &mut result)));
+                let time = mean(&ids, |id| _ = black_box(ask_library(question, &image.bytes, id, &mut result)));
                 times.library += time;
                 all_library += time * image.count(question);
             }
@@ -184,11 +184,7 @@ impl Timed {
     fn new(image: &Image) -> Timed {
         let bytes = image.pages();
         let reference = Reference::new(&bytes).expect("an accepted image");
-        let count = |question| match question {
-            Question::Order | Question::Rounds => 1,
-            _ => reference.ids(question),
-        };
-        let counts = Question::ALL.map(|question| (question, count(question))).to_vec();
+        let counts = Question::ALL.map(|question| (question, ids(&reference, question).end)).to_vec();
         Timed { bytes, program: Program::new(image), counts }
     }
 
@@ -239,32 +235,4 @@ fn best(mut run: impl FnMut()) -> Duration {
         best = best.min(time);
     }
     best
-}
-
-fn ask_library(image: &[u8], question: Question, id: u32, result: &mut [u8]) -> Answer {
-    match question {
-        Question::Order => calls::order(image, result),
-        Question::Predecessors => calls::predecessors(image, id, result),
-        Question::EntrySet => calls::entry_set(image, id, result),
-        Question::ExitSet => calls::exit_set(image, id, result),
-        Question::Uses => calls::uses(image, id, result),
-        Question::Intervals => calls::intervals(image, id, result),
-        Question::Allocation => calls::allocation(image, id, result),
-        Question::Owner => calls::owner(image, id, result),
-        Question::Rounds => calls::rounds(image, result),
-    }
-}
-
-fn ask_plank(plank: &Analyses, question: Question, id: u32) -> Vec<u32> {
-    match question {
-        Question::Order => plank.order(),
-        Question::Predecessors => plank.predecessors(id),
-        Question::EntrySet => plank.entry_set(id),
-        Question::ExitSet => plank.exit_set(id),
-        Question::Uses => plank.uses(id),
-        Question::Intervals => plank.intervals(id),
-        Question::Allocation => plank.allocation(id),
-        Question::Owner => plank.owner(id),
-        Question::Rounds => unreachable!("the source reports no rounds"),
-    }
 }

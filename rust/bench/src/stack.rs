@@ -1,6 +1,6 @@
 //! The stack that a call takes: the pages of a new thread's stack that have been touched when the call is done.
 
-use crate::ask_library;
+use compare::sides::ask_library;
 use image_gen::{Size, worst};
 use paper_reference::Question;
 use sir_image::samples;
@@ -24,7 +24,7 @@ pub fn table() {
 
 fn call(image: &[u8], question: Question) {
     let mut result = vec![0; 1 << 21];
-    black_box(ask_library(image, question, 0, &mut result));
+    black_box(ask_library(question, image, 0, &mut result));
 }
 
 fn shown(kibibytes: Option<u64>) -> String {

@@ -73,7 +73,7 @@ impl Options {
         group.iter().copied().filter(|&kind| self.kind.is_none_or(|only| only == kind)).collect()
     }
 
-    /// The generated images, by group: name, and each image with its own name.
+    /// The groups of generated images: the name of each, and the kind and seed of its images.
     fn generated(&self) -> [(&'static str, Vec<(Kind, u64)>); 2] {
         [("small", Kind::SMALL, self.small), ("large", Kind::LARGE, self.large)].map(|(name, group, count)| {
             let kinds = self.kinds(group);

@@ -74,62 +74,89 @@ fn parted(image: &Image) -> Image {
 
 /// What can be tried on an image, the larger cuts first.
 fn edits(image: &Image) -> Vec<Edit> {
+    let parts: [fn(&Image) -> Vec<Edit>; 5] = [removals, block_edits, operation_edits, operand_edits, local_edits];
+    parts.into_iter().flat_map(|part| part(image)).collect()
+}
+
+/// Takes out operations, first many and then one, or a block, or a function.
+fn removals(image: &Image) -> Vec<Edit> {
     let mut edits: Vec<Edit> = Vec::new();
-    let mut edit = |change: Edit| edits.push(change);
-    let (blocks, operations) = (image.blocks.len(), image.operations.len());
+    let (blocks, operations, functions) = (image.blocks.len(), image.operations.len(), image.entries.len());
     for part in [2, 4, 8, 16] {
         let chunk = operations / part;
         for start in (0..operations).step_by(chunk.max(1)).filter(|_| chunk > 1) {
             let end = operations.min(start + chunk);
-            edit(Box::new(move |image| (start..end).rev().for_each(|index| remove_operation(image, index))));
+            edits.push(Box::new(move |image| (start..end).rev().for_each(|index| remove_operation(image, index))));
         }
     }
     for block in (0..blocks).rev().filter(|_| blocks > 1) {
-        edit(Box::new(move |image| remove_block(image, block)));
+        edits.push(Box::new(move |image| remove_block(image, block)));
     }
     for index in (0..operations).rev() {
-        edit(Box::new(move |image| remove_operation(image, index)));
+        edits.push(Box::new(move |image| remove_operation(image, index)));
     }
-    let functions = image.entries.len();
     for function in (0..functions).rev().filter(|_| functions > 1) {
-        edit(Box::new(move |image| remove_function(image, function)));
+        edits.push(Box::new(move |image| remove_function(image, function)));
     }
-    edit(Box::new(|image| image.main = None));
-    for block in 0..blocks {
-        let ends = endings(image, image.blocks[block].control);
-        ends.into_iter().for_each(|end| edit(Box::new(move |image| image.blocks[block].control = end)));
-        let Span { start, end } = image.blocks[block].operations;
-        if start < end {
-            edit(Box::new(move |image| image.blocks[block].operations.start += 1));
-            edit(Box::new(move |image| image.blocks[block].operations.end -= 1));
+    edits.push(Box::new(|image| image.main = None));
+    edits
+}
+
+/// Gives a block a simpler end, fewer operations, or no outputs.
+fn block_edits(image: &Image) -> Vec<Edit> {
+    let mut edits: Vec<Edit> = Vec::new();
+    for (block, record) in image.blocks.iter().enumerate() {
+        for end in endings(image, record.control) {
+            edits.push(Box::new(move |image| image.blocks[block].control = end));
         }
-        edit(Box::new(move |image| image.blocks[block].outputs = Span::EMPTY));
+        if record.operations.start < record.operations.end {
+            edits.push(Box::new(move |image| image.blocks[block].operations.start += 1));
+            edits.push(Box::new(move |image| image.blocks[block].operations.end -= 1));
+        }
+        edits.push(Box::new(move |image| image.blocks[block].outputs = Span::EMPTY));
     }
-    for index in 0..operations {
-        edit(Box::new(move |image| image.operations[index] = NOOP));
-        let Operation { code, inputs, outputs, .. } = image.operations[index];
+    edits
+}
+
+/// Makes an operation do nothing, or takes an operand of a call.
+fn operation_edits(image: &Image) -> Vec<Edit> {
+    let mut edits: Vec<Edit> = Vec::new();
+    for (index, &Operation { code, inputs, outputs, .. }) in image.operations.iter().enumerate() {
+        edits.push(Box::new(move |image| image.operations[index] = NOOP));
         if is_call(code) && inputs.start < inputs.end {
-            edit(Box::new(move |image| image.operations[index].inputs.end -= 1));
+            edits.push(Box::new(move |image| image.operations[index].inputs.end -= 1));
         }
         if is_call(code) && outputs.start < outputs.end {
-            edit(Box::new(move |image| image.operations[index].outputs.end -= 1));
+            edits.push(Box::new(move |image| image.operations[index].outputs.end -= 1));
         }
     }
+    edits
+}
+
+/// Takes out a position of the blocks' inputs, and the operand words and targets that nothing names.
+fn operand_edits(image: &Image) -> Vec<Edit> {
+    let mut edits: Vec<Edit> = Vec::new();
     let arity = image.blocks.iter().map(|block| block.inputs.end - block.inputs.start).max().unwrap_or(0);
     for position in 0..arity {
-        edit(Box::new(move |image| remove_position(image, position)));
+        edits.push(Box::new(move |image| remove_position(image, position)));
     }
-    edit(Box::new(|image| {
+    edits.push(Box::new(|image| {
         let used = used_operands(image);
         (0..used.len()).rev().filter(|&at| !used[at]).for_each(|at| remove_operand(image, at));
     }));
-    edit(Box::new(|image| image.targets.truncate(used_targets(image))));
+    edits.push(Box::new(|image| image.targets.truncate(used_targets(image))));
+    edits
+}
+
+/// Gives a local a lower id, and drops the ids that nothing names.
+fn local_edits(image: &Image) -> Vec<Edit> {
+    let mut edits: Vec<Edit> = Vec::new();
     for from in 1..image.locals {
         for to in [0, from / 2, from - 1] {
-            edit(Box::new(move |image| rename(image, from, to)));
+            edits.push(Box::new(move |image| rename(image, from, to)));
         }
     }
-    edit(Box::new(|image| image.locals = used_locals(image)));
+    edits.push(Box::new(|image| image.locals = used_locals(image)));
     edits
 }
 

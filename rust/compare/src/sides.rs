@@ -181,7 +181,7 @@ fn same_answer(
     let mut result = filled(answer.len() + spare);
     let mut expected = result.clone();
     expected[..answer.len()].copy_from_slice(&answer);
-    let given = ask_library(image, question, id, &mut result);
+    let given = ask_library(question, image, id, &mut result);
     let wanted = Answer { number: 0, length: answer.len() as u64 };
     let what = format_args!("{question:?} {id}").to_string();
     agree(&what, wanted, LIBRARY, given)?;
@@ -192,7 +192,7 @@ fn same_answer(
     if let Some(most) = answer.len().checked_sub(1) {
         let short = [most, most / 2, 0][tally.answers as usize % 3];
         let mut result = filled(short);
-        let given = ask_library(image, question, id, &mut result);
+        let given = ask_library(question, image, id, &mut result);
         let what = format_args!("{question:?} {id} in {short} bytes").to_string();
         agree(&what, Answer { number: 14, length: 0 }, LIBRARY, given)?;
         agree(&what, filled(short), LIBRARY, result)?;
@@ -211,7 +211,7 @@ fn filled(length: usize) -> Vec<u8> {
 
 fn same_refusal(image: &[u8], question: Question, id: u32, number: u32) -> Result<(), Disagreement> {
     let mut result = filled(32);
-    let given = ask_library(image, question, id, &mut result);
+    let given = ask_library(question, image, id, &mut result);
     let what = format!("{question:?} {id}");
     agree(&what, Answer { number, length: 0 }, LIBRARY, given)?;
     agree(&what, filled(32), LIBRARY, result)
@@ -225,25 +225,16 @@ pub fn refused_alike(image: &[u8], tally: &mut Tally) -> Result<(), Disagreement
         if number != 0 {
             same_refusal(image, question, 0, number)?;
         } else {
-            let given = ask_library(image, question, 0, &mut []);
+            let given = ask_library(question, image, 0, &mut []);
             agree(format_args!("{question:?} 0"), true, LIBRARY, [0, 13, 14].contains(&given.number))?;
         }
     }
     Ok(())
 }
 
-fn ask_library(image: &[u8], question: Question, id: u32, result: &mut [u8]) -> Answer {
-    match question {
-        Question::Order => calls::order(image, result),
-        Question::Predecessors => calls::predecessors(image, id, result),
-        Question::EntrySet => calls::entry_set(image, id, result),
-        Question::ExitSet => calls::exit_set(image, id, result),
-        Question::Uses => calls::uses(image, id, result),
-        Question::Intervals => calls::intervals(image, id, result),
-        Question::Allocation => calls::allocation(image, id, result),
-        Question::Owner => calls::owner(image, id, result),
-        Question::Rounds => calls::rounds(image, result),
-    }
+/// The library's answer, in the result slice. The bindings list the questions in the sequence of the reference.
+pub fn ask_library(question: Question, image: &[u8], id: u32, result: &mut [u8]) -> Answer {
+    calls::ask(sir_analyses::Question::ALL[question as usize], image, id, result)
 }
 
 /// A damaged copy of an image: a few words changed, pages or bytes gone or more, checks set right or left wrong.

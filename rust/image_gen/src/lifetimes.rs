@@ -155,31 +155,44 @@ impl<'a> Builder<'a> {
         }
     }
 
+    /// An operation on a pointer of some group.
     fn operation(&mut self) {
         let group = self.group();
         let pointer = self.of(group);
         let (value, other) = (self.value(), self.value());
-        let image = &mut self.image;
         if !self.allocated[group] && self.rng.percent(40) {
-            self.allocated[group] = true;
-            if self.rng.percent(30) {
-                image.operation(Code::DynamicAllocZeroed, &[value], &[pointer]);
-            } else {
-                image.operation_with(Code::StaticAllocZeroed, &[], &[pointer], [32, group as u32]);
-            }
-            return;
+            return self.allocate(group, pointer, value);
         }
         match self.rng.below(16) {
-            0..=2 => {
-                let code = self.rng.pick(&DERIVING);
-                let inputs = self.rng.pick(&[[pointer, value], [value, pointer], [pointer, pointer]]);
-                let to = self.of(group);
-                self.image.operation(code, &inputs, &[to]);
-            }
+            0..=2 => self.derive(group, pointer, value),
             3 | 4 => {
                 let to = self.of(group);
                 self.image.operation(Code::SetCopy, &[pointer], &[to]);
             }
+            number => self.access(number, pointer, value, other),
+        }
+    }
+
+    fn allocate(&mut self, group: usize, pointer: LocalId, size: LocalId) {
+        self.allocated[group] = true;
+        if self.rng.percent(30) {
+            self.image.operation(Code::DynamicAllocZeroed, &[size], &[pointer]);
+        } else {
+            self.image.operation_with(Code::StaticAllocZeroed, &[], &[pointer], [32, group as u32]);
+        }
+    }
+
+    fn derive(&mut self, group: usize, pointer: LocalId, value: LocalId) {
+        let code = self.rng.pick(&DERIVING);
+        let inputs = self.rng.pick(&[[pointer, value], [value, pointer], [pointer, pointer]]);
+        let to = self.of(group);
+        self.image.operation(code, &inputs, &[to]);
+    }
+
+    /// An operation that neither allocates nor derives from the pointer, by its number from 5 to 15.
+    fn access(&mut self, number: u32, pointer: LocalId, value: LocalId, other: LocalId) {
+        let image = &mut self.image;
+        match number {
             5 => _ = image.operation(Code::MemoryLoad, &[pointer], &[value]),
             6 => _ = image.operation(Code::MemoryStore, &[pointer, value], &[]),
             7 => {

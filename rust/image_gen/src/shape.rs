@@ -81,7 +81,7 @@ pub struct Shape {
     pub turning: u32,
     /// That an operand run, an operation range or a run of targets lies anywhere among what is there.
     pub overlap: u32,
-    /// That a call, a function's entry or an unvisited part makes sharing: entries are then any blocks.
+    /// That the entry of a function is any block, so that functions share blocks, and that init is any function.
     pub sharing: u32,
     /// That two allocations may share a base.
     pub shared_bases: u32,

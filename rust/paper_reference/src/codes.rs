@@ -25,7 +25,7 @@ pub fn derives(code: u32) -> bool {
     matches!(code, 27..=37 | 44..=51 | 85)
 }
 
-/// Whether these operand counts are right for a known code.
+/// Whether these operand counts are right for a known code. `sir_image` has them too, on purpose: this is a second reading.
 pub fn counts_fit(code: u32, inputs: u32, outputs: u32) -> bool {
     let fixed = match code {
         0 | 27..=33 | 36..=42 | 44..=46 | 48..=51 => (2, 1),

@@ -1,4 +1,4 @@
-//! A second reading of docs/01-scope.md: its refusals and its answers, as plainly as it states them.
+//! A second reading of the scope document, the paper: its refusals and its answers, as plainly as it states them.
 //!
 //! Nothing here comes from Plank's files or from the proved crates, so that a misreading of the paper shows as a
 //! difference. Two answers are stated there by reference to the source only: the sequence of the uses, and the owner of

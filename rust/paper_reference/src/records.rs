@@ -93,8 +93,8 @@ pub fn records(words: &[u32]) -> Result<Records, u32> {
     })
 }
 
-/// Rules 4 to 6.
-fn parts(words: &[u32]) -> Result<Parts<'_>, u32> {
+/// Rules 4 and 5.
+fn counts(words: &[u32]) -> Result<Counts, u32> {
     if words[0] != 1 {
         return Err(4);
     }
@@ -116,6 +116,12 @@ fn parts(words: &[u32]) -> Result<Parts<'_>, u32> {
     if above || counts.functions == 0 || counts.blocks == 0 {
         return Err(5);
     }
+    Ok(counts)
+}
+
+/// Rules 4 to 6.
+fn parts(words: &[u32]) -> Result<Parts<'_>, u32> {
+    let counts = counts(words)?;
     let needed = 9 + counts.functions + 11 * counts.blocks + 7 * counts.operations + counts.operands + counts.targets;
     let needed = needed as usize;
     if words.len() != needed.div_ceil(PAYLOAD) * PAYLOAD || words[needed..].iter().any(|&word| word != 0) {

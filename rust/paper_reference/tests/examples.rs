@@ -40,14 +40,7 @@ fn report() {
 
 #[test]
 fn functions_that_call_each_other() {
-    let mut image = Image::new(0);
-    image.operation_with(Code::InternalCall, &[], &[], [1, 0]);
-    image.operation_with(Code::InternalCall, &[], &[], [0, 0]);
-    for block in 0..2 {
-        image.block(&[], &[], Span::new(block, block + 1), Control::InternalReturn);
-        image.function(block);
-    }
-    assert_eq!(answer(&image, Question::Order, 0), [0, 1, 0, 1, 1, 1]);
+    assert_eq!(answer(&samples::mutual_calls(), Question::Order, 0), [0, 1, 0, 1, 1, 1]);
 }
 
 #[test]
@@ -80,26 +73,16 @@ fn an_unused_allocation() {
 
 #[test]
 fn a_sum_of_pointers() {
-    let mut image = Image::new(4);
-    allocate(&mut image, 1);
-    allocate(&mut image, 2);
-    image.operation(Code::Add, &[1, 2], &[3]);
-    block(&mut image, Control::LastOpTerminates);
+    let image = samples::sum_of_pointers();
     assert_eq!(answer(&image, Question::Allocation, 0)[6], 1);
     assert_eq!(answer(&image, Question::Allocation, 1)[6], 1);
     assert_eq!(answer(&image, Question::Owner, 3), [2]);
 }
 
-/// Two allocations that reach each other's base: each takes the other's, and neither goes on from it.
+/// Each allocation takes the other's base, and neither goes on from it.
 #[test]
 fn owners_that_change_places() {
-    let mut image = Image::new(2);
-    allocate(&mut image, 0);
-    allocate(&mut image, 1);
-    image.block(&[0], &[1], Span::new(0, 1), Control::ContinuesTo(1));
-    image.block(&[0], &[0], Span::new(1, 2), Control::ContinuesTo(2));
-    image.block(&[1], &[], Span::EMPTY, Control::LastOpTerminates);
-    image.function(0);
+    let image = samples::exchanged_bases();
     assert_eq!((answer(&image, Question::Owner, 0), answer(&image, Question::Owner, 1)), (vec![2], vec![1]));
 }
 

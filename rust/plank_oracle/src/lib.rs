@@ -1,8 +1,8 @@
 //! Puts images to Plank's own analyses and gives their answers as the paper writes them.
 //!
-//! Plank's files are compiled unchanged from the folder `PLANK_SRC`, absolute or from the root of the repository, or
-//! `../shared/docs/src` from there; none of them stands in the repository. Where the folder is missing, the crates build to nothing but this interface:
-//! [`PRESENT`] is false and [`Program::new`] gives `None`.
+//! Plank's files are compiled unchanged from the folder that the environment variable `PLANK_SRC` names, absolute or from
+//! the root of the repository; `sources.rs` has a default. None of them stands in the repository. Where the folder is
+//! missing, the crates build to nothing but this interface: [`PRESENT`] is false and [`Program::new`] gives `None`.
 //!
 //! # Shims
 //!

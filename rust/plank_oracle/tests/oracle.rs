@@ -62,17 +62,9 @@ fn a_shared_base() {
     assert!(!with(&image, |plank| plank.shares_a_base()));
 }
 
-/// Functions that call each other, in turn.
 #[test]
-fn recursion() {
-    let mut image = Image::new(0);
-    image.operation_with(Code::InternalCall, &[], &[], [1, 0]);
-    image.operation_with(Code::InternalCall, &[], &[], [0, 0]);
-    for block in 0..2 {
-        image.block(&[], &[], Span::new(block, block + 1), Control::InternalReturn);
-        image.function(block);
-    }
-    assert_eq!(with(&image, |plank| plank.order()), [0, 1, 0, 1, 1, 1]);
+fn functions_that_call_each_other() {
+    assert_eq!(with(&samples::mutual_calls(), |plank| plank.order()), [0, 1, 0, 1, 1, 1]);
 }
 
 /// A branch with both targets equal gives that predecessor twice.
@@ -85,29 +77,17 @@ fn equal_targets() {
     assert_eq!(with(&image, |plank| plank.predecessors(1)), [0, 0]);
 }
 
-/// Two allocations that reach each other's base: each takes the other's, and neither goes on from it.
+/// Each allocation takes the other's base, and neither goes on from it.
 #[test]
 fn owners_that_change_places() {
-    let mut image = Image::new(2);
-    image.operation_with(Code::StaticAllocZeroed, &[], &[0], [32, 0]);
-    image.operation_with(Code::StaticAllocZeroed, &[], &[1], [32, 1]);
-    image.block(&[0], &[1], Span::new(0, 1), Control::ContinuesTo(1));
-    image.block(&[0], &[0], Span::new(1, 2), Control::ContinuesTo(2));
-    image.block(&[1], &[], Span::EMPTY, Control::LastOpTerminates);
-    image.function(0);
+    let image = samples::exchanged_bases();
     with(&image, |plank| assert_eq!((plank.owner(0), plank.owner(1)), (vec![2], vec![1])));
 }
 
-/// Two pointers added: both marked, the sum owned by the later.
+/// Both pointers are marked, and the later owns the sum.
 #[test]
 fn a_sum_of_pointers() {
-    let mut image = Image::new(4);
-    image.operation_with(Code::StaticAllocZeroed, &[], &[1], [32, 0]);
-    image.operation_with(Code::StaticAllocZeroed, &[], &[2], [32, 1]);
-    image.operation(Code::Add, &[1, 2], &[3]);
-    image.block(&[], &[], Span::new(0, 3), Control::LastOpTerminates);
-    image.function(0);
-    with(&image, |plank| {
+    with(&samples::sum_of_pointers(), |plank| {
         assert_eq!(plank.allocation(0), [0, 0, 1, 0, 32, 0, 1, 0]);
         assert_eq!(plank.allocation(1), [0, 1, 2, 0, 32, 1, 1, 0]);
         assert_eq!((plank.owner(1), plank.owner(2), plank.owner(3)), (vec![1], vec![2], vec![2]));

@@ -3,10 +3,31 @@
 
 use crate::Answer;
 
-/// Declares the functions where there is a library, and wraps each in a safe one. What stands between the two slices is
-/// the id that the question is about.
+/// Declares the functions where there is a library, wraps each in a safe one, and names the question that it answers.
+/// What stands between the two slices is the id that the question is about.
 macro_rules! functions {
-    ($($(#[$doc:meta])* $name:ident = $symbol:ident($($id:ident)?);)*) => {
+    ($($(#[$doc:meta])* $question:ident: $name:ident = $symbol:ident($($id:ident)?);)*) => {
+        /// What can be asked about an image.
+        #[derive(Clone, Copy, Debug, PartialEq, Eq, Hash)]
+        pub enum Question {
+            $($(#[$doc])* $question,)*
+        }
+
+        impl Question {
+            /// Every question.
+            pub const ALL: &[Question] = &[$(Question::$question),*];
+        }
+
+        /// Puts any question; one without an id passes over the id.
+        pub fn ask(question: Question, image: &[u8], id: u32, result: &mut [u8]) -> Answer {
+            match question {
+                $(Question::$question => {
+                    $(let $id = id;)?
+                    self::$name(image, $($id,)? result)
+                })*
+            }
+        }
+
         #[cfg(sir_linked)]
         unsafe extern "C" {
             $(fn $symbol(
@@ -39,22 +60,22 @@ macro_rules! functions {
 
 functions! {
     /// The order. For each function of it: id, block count, block ids.
-    order = sir_order();
+    Order: order = sir_order();
     /// The predecessors of a block, repeats kept.
-    predecessors = sir_predecessors(block);
-    /// The uses of a local. For each: block, kind, place.
-    uses = sir_uses(local);
-    /// The rounds of liveness: one word.
-    rounds = sir_rounds();
+    Predecessors: predecessors = sir_predecessors(block);
     /// The entry set of a block, ids ascending.
-    entry_set = sir_entry_set(block);
+    EntrySet: entry_set = sir_entry_set(block);
     /// The exit set of a block, ids ascending.
-    exit_set = sir_exit_set(block);
+    ExitSet: exit_set = sir_exit_set(block);
+    /// The uses of a local. For each: block, kind, place.
+    Uses: uses = sir_uses(local);
     /// The intervals of a local. For each: block, start, end.
-    intervals = sir_intervals(local);
-    /// The owner of a local: allocation + 1, or 0.
-    owner = sir_owner(local);
+    Intervals: intervals = sir_intervals(local);
     /// An allocation: defining block, operation, base local, kind, size or size local, static id, mark, interval count,
     /// intervals.
-    allocation = sir_allocation(allocation);
+    Allocation: allocation = sir_allocation(allocation);
+    /// The owner of a local: allocation + 1, or 0.
+    Owner: owner = sir_owner(local);
+    /// The rounds of liveness: one word.
+    Rounds: rounds = sir_rounds();
 }

@@ -1,12 +1,13 @@
 //! Safe bindings to the proved analyses of SIR images.
 //!
 //! Each question can be put in two ways. A function of [`calls`] takes the image, an id and a result slice and gives what
-//! the C function gives: a number and a length, the answer's bytes in the slice. A function of this module takes the
-//! image and an id, lends as much memory as the answer needs, and gives the answer decoded, or the [`Refusal`].
+//! the C function gives: a number and a length, the answer's bytes in the slice; [`calls::ask`] does so for any
+//! [`Question`]. A function of this module takes the image and an id, lends as much memory as the answer needs, and gives
+//! the answer decoded, or the [`Refusal`].
 //!
 //! ```no_run
 //! # fn main() -> Result<(), Box<dyn std::error::Error>> {
-//! let image = std::fs::read("deal.image")?;
+//! let image = std::fs::read("typical.img")?;
 //! for function in sir_analyses::order(&image)? {
 //!     println!("function {}: blocks {:?}", function.function, function.blocks);
 //! }
@@ -21,6 +22,8 @@
 
 mod foreign;
 
+pub use foreign::Question;
+
 use std::error::Error;
 use std::fmt::{self, Display, Formatter};
 
@@ -32,7 +35,9 @@ pub const LINKED: bool = cfg!(sir_linked);
 /// A refusal gives its number and length 0, and the result slice keeps its bytes. Success gives number 0 and the answer's
 /// length in bytes; the answer stands at the front of the slice as little-endian 32-bit words, and bytes past it stay.
 pub mod calls {
-    pub use crate::foreign::{allocation, entry_set, exit_set, intervals, order, owner, predecessors, rounds, uses};
+    pub use crate::foreign::{
+        allocation, ask, entry_set, exit_set, intervals, order, owner, predecessors, rounds, uses,
+    };
 }
 
 /// What a call gives: a number, 0 for success, and the length of the answer in bytes.

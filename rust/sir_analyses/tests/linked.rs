@@ -4,20 +4,17 @@
 use paper_reference::Question;
 use sir_analyses::{Answer, End, FunctionBlocks, Interval, Place, Refusal, Size, Start, Use, calls};
 use sir_image::{Block, Control, Image, MAX_BLOCKS, MAX_OPERANDS, MAX_OPERATIONS, Operation, Span, samples};
-use std::{fs, path::Path};
+use std::{fmt::Debug, fs, path::Path};
 
 fn ask(question: Question, image: &[u8], id: u32, result: &mut [u8]) -> Answer {
-    match question {
-        Question::Order => calls::order(image, result),
-        Question::Predecessors => calls::predecessors(image, id, result),
-        Question::EntrySet => calls::entry_set(image, id, result),
-        Question::ExitSet => calls::exit_set(image, id, result),
-        Question::Uses => calls::uses(image, id, result),
-        Question::Intervals => calls::intervals(image, id, result),
-        Question::Allocation => calls::allocation(image, id, result),
-        Question::Owner => calls::owner(image, id, result),
-        Question::Rounds => calls::rounds(image, result),
-    }
+    calls::ask(sir_analyses::Question::ALL[question as usize], image, id, result)
+}
+
+/// The bindings and the reference list the questions in one sequence.
+#[test]
+fn questions() {
+    let named = |questions: &dyn Debug| format!("{questions:?}");
+    assert_eq!(named(&sir_analyses::Question::ALL), named(&Question::ALL));
 }
 
 /// Number, length and every byte of the result slice are the paper's.

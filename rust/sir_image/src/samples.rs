@@ -44,8 +44,8 @@ pub fn largest() -> Image {
     image
 }
 
-/// An image whose order is visited as deep as can be: every block goes on to the next, and each last block of a function calls
-/// the function of the next block, so that all 256 blocks and 64 functions are under way at once.
+/// An image whose order is visited as deep as can be: every block goes on to the next, and each last block of a function
+/// calls the function of the next block, so that all 256 blocks and 64 functions are under way at once.
 pub fn deepest() -> Image {
     const BLOCKS: usize = MAX_BLOCKS / MAX_FUNCTIONS;
     let mut image = Image::new(MAX_LOCALS);
@@ -60,6 +60,40 @@ pub fn deepest() -> Image {
         }
         image.block(&[], &[], image.operations_from(first), Control::InternalReturn);
     }
+    image
+}
+
+/// Two functions that call each other.
+pub fn mutual_calls() -> Image {
+    let mut image = Image::new(0);
+    for callee in [1, 0] {
+        let call = image.operation_with(Code::InternalCall, &[], &[], [callee, 0]);
+        let entry = image.block(&[], &[], image.operations_from(call), Control::InternalReturn);
+        image.function(entry);
+    }
+    image
+}
+
+/// Two pointers and their sum: local 1, local 2, local 3.
+pub fn sum_of_pointers() -> Image {
+    let mut image = Image::new(4);
+    image.operation_with(Code::StaticAllocZeroed, &[], &[1], [32, 0]);
+    image.operation_with(Code::StaticAllocZeroed, &[], &[2], [32, 1]);
+    image.operation(Code::Add, &[1, 2], &[3]);
+    image.block(&[], &[], Span::new(0, 3), Control::LastOpTerminates);
+    image.function(0);
+    image
+}
+
+/// Two allocations that reach each other's base, locals 0 and 1.
+pub fn exchanged_bases() -> Image {
+    let mut image = Image::new(2);
+    image.operation_with(Code::StaticAllocZeroed, &[], &[0], [32, 0]);
+    image.operation_with(Code::StaticAllocZeroed, &[], &[1], [32, 1]);
+    image.block(&[0], &[1], Span::new(0, 1), Control::ContinuesTo(1));
+    image.block(&[0], &[0], Span::new(1, 2), Control::ContinuesTo(2));
+    image.block(&[1], &[], Span::EMPTY, Control::LastOpTerminates);
+    image.function(0);
     image
 }
 

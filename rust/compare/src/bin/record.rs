@@ -4,9 +4,9 @@
 //! cargo run --release -p compare --bin record
 //! ```
 //!
-//! The answers are Plank's; the rounds, which Plank does not report, and all refusals are the paper's reference's. The library
-//! has no part in this. What was in `crates/replay/data` is replaced, with `args` and `stdout`; `data/README` says how
-//! the files were made.
+//! The answers are Plank's; the rounds, which Plank does not report, and all refusals are the paper's reference's. The
+//! library has no part in this. What was in `crates/replay/data` is replaced, with `args` and `stdout`; `data/README`
+//! says how the files were made.
 
 use compare::sides::{ask_plank, damaged, ids};
 use image_gen::{Kind, Rng, Size, generate, worst};

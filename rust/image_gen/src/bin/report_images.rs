@@ -65,7 +65,7 @@ fn main() -> io::Result<()> {
     let files: [(&str, Vec<u8>); 8] = [
         ("the_paper", samples::report().pages()),
         ("functions_loops_escapes", several_functions().pages()),
-        ("large", generate(Kind::DealLives, 4).pages()),
+        ("large", generate(Kind::TypicalLives, 4).pages()),
         ("a_base_twice", base_twice.pages()),
         ("answer_too_long", long_intervals().pages()),
         ("empty", Vec::new()),
@@ -81,6 +81,6 @@ fn main() -> io::Result<()> {
     write("crates/report/stdin", &samples::report().pages())?;
     write("examples/paper.img", &samples::report().pages())?;
     write("examples/functions.img", &several_functions().pages())?;
-    write("examples/deal.img", &generate(Kind::Deal, 1).pages())?;
+    write("examples/typical.img", &generate(Kind::Typical, 1).pages())?;
     write("examples/large.img", &generate(Kind::FullLives, 1).pages())
 }

@@ -17,7 +17,7 @@ mod images;
 
 use images::*;
 use sir_image::pages::{CHECK_AT, NUMBER_AT};
-use sir_image::samples::{largest, report};
+use sir_image::samples::{largest, mutual_calls, report};
 use sir_image::{Code, Control, Image, Span};
 use std::path::Path;
 use std::{env, fs, io};

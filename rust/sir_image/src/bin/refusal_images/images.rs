@@ -132,17 +132,6 @@ pub fn overlapping() -> Image {
     image
 }
 
-/// Two functions that call each other.
-pub fn mutual_calls() -> Image {
-    let mut image = Image::new(0);
-    for callee in [1, 0] {
-        let call = image.operation_with(Code::InternalCall, &[], &[], [callee, 0]);
-        let entry = image.block(&[], &[], image.operations_from(call), Control::InternalReturn);
-        image.function(entry);
-    }
-    image
-}
-
 /// A block of so many outputs, on to one of so many inputs.
 pub fn continues(outputs: u32, inputs: u32) -> Image {
     let mut image = block_of(&[], &locals(0, outputs), Control::ContinuesTo(1));
