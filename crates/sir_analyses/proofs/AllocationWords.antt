@@ -1,4 +1,4 @@
--- The locals that an allocation owns as a set, and the words of its answer. Assumes nothing.
+-- The locals that an allocation owns as a set, and the words of its answer.
 use mathlib.Core.Path.{_≡_, refl, sym, ap, _∙_}
 use mathlib.Core.Bool.{Bool, true, false, _&&_, _||_}
 use mathlib.Core.List.{List, [], _∷_, _++_, append-nil}

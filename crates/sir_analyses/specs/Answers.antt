@@ -1,5 +1,4 @@
 -- What each question answers, as words, and the outcome of a call (document 01, "What can be put to an image" and "Refusals").
--- Assumes nothing.
 use mathlib.Core.Bool.{cond}
 use Prim.Native.Nat.{ℕ}
 use mathlib.Core.List.{List, [], _∷_, _++_}
@@ -67,8 +66,9 @@ ownerAnswer w v = getD (owners w) v 0 ∷ []
 abbrev pub roundsAnswer : List ℕ → List ℕ
 roundsAnswer w = rounds w ∷ []
 
--- ---- the outcome of a call: number, answer length in bytes, and the result slice as it is left
+-- ---- outcomes
 
+-- the outcome of a call: number, answer length in bytes, and the result slice as it is left
 pub record Outcome : Type 0 where
   pub number : ℕ
   pub len : ℕ

@@ -1,4 +1,4 @@
--- What the enum of `allocation_words` stands for, and the head of an allocation's record, as words. Assumes nothing.
+-- What the enum of `allocation_words` stands for, and the head of an allocation's record, as words.
 use mathlib.Core.List.{List, [], _∷_, _++_}
 use Prim.Native.Nat.{ℕ, _/_, _%_}
 use lib.ListN.{getD}

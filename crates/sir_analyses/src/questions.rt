@@ -116,13 +116,7 @@ fn local_answer(
 }
 
 // 13 for an id that no allocation has, or the answer.
-fn numbered_allocation(
-    words: &[u32],
-    seen: &[u64],
-    rpo: &[u32],
-    a: AllocId,
-    out: &mut [u8],
-) -> Answer
+fn asked_allocation(words: &[u32], seen: &[u64], rpo: &[u32], a: AllocId, out: &mut [u8]) -> Answer
     requires { ⌜ Ready (now words) (now seen) (now rpo) ⌝ }
     ensures { λ r. ⌜ made (r .number) (r .length) (now (out .exit)) ≡ asked (length (allocs (now (words .entry)))) (allocationAnswer (now (words .entry))) (a .0) (now (out .entry)) ⌝ }
 {
@@ -152,7 +146,7 @@ fn answer(
         Question::Rounds => live_answer(words, seen, rpo, LiveQuestion::Rounds, 0, out),
         Question::OfBlock(q, b) => block_answer(words, seen, rpo, q, b, out),
         Question::OfLocal(q, v) => local_answer(words, seen, rpo, q, v, out),
-        Question::Allocation(a) => numbered_allocation(words, seen, rpo, a, out),
+        Question::Allocation(a) => asked_allocation(words, seen, rpo, a, out),
     }
 }
 

@@ -1,4 +1,4 @@
--- `numbered_allocation` meets its contract.
+-- `asked_allocation` meets its contract.
 use mathlib.Core.Path.{_∙_}
 use native.Mathlib.Omega.{arith}
 use lib.ListN.{length}
@@ -8,8 +8,8 @@ use Rattle.sir_analyses.proofs.Discovery.{keys-long}
 use Rattle.sir_analyses.proofs.Loads.{front-length}
 use Rattle.sir_analyses.proofs.Outcomes.{id-refused, id-answered}
 use borrow.Author.Needs.{needs}
-use Rattle.sir_analyses.proofs.questions.numbered_allocation.Statement.{statement}
-use Rattle.sir_analyses.proofs.questions.numbered_allocation.Tie as tie
+use Rattle.sir_analyses.proofs.questions.asked_allocation.Statement.{statement}
+use Rattle.sir_analyses.proofs.questions.asked_allocation.Tie as tie
 
 slice-aggregate-find-allocations : tie.Need-slice-aggregate-find-allocations
 slice-aggregate-find-allocations c = search needs
@@ -41,8 +41,8 @@ same-length c = search needs
 returns-2 : tie.Need-returns-2
 returns-2 c = c .before .before .allocation-answer .ensures ∙ id-answered (length (allocs (c .before .before .before .before .before .before .before .before .before .before .before .before .before .before .args .words .now))) (allocationAnswer (c .before .before .before .before .before .before .before .before .before .before .before .before .before .before .args .words .now)) (c .before .before .before .before .before .before .before .before .before .before .before .before .before .before .args .a .0) (c .before .before .before .before .before .before .before .before .before .before .before .before .before .before .args .out .now) (omega (arith, c .before .before .before .before .before .before .before .before .find-allocations .ensures .next, keys-long (c .before .before .before .before .before .before .before .before .before .before .before .before .before .before .args .words .now), c .before .before .before .before .before .if1 .left))
 
-pub numbered-allocation-spec : {M : Type 1} → statement M
-numbered-allocation-spec =
+pub asked-allocation-spec : {M : Type 1} → statement M
+asked-allocation-spec =
     tie.close
     (tie.spec
     slice-aggregate-find-allocations
