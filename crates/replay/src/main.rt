@@ -15,8 +15,9 @@ use sir_analyses::questions::sir_owner;
 use sir_analyses::questions::sir_predecessors;
 use sir_analyses::questions::sir_rounds;
 use sir_analyses::questions::sir_uses;
+use sir_data::pages::word_at;
 ghost use mathlib.Core.Path.{_≡_};
-ghost use Prim.Native.Nat.{_+_, _≤_};
+ghost use Prim.Native.Nat.{_≤_};
 ghost use lib.ListN.{length};
 ghost use Rattle.io.specs.Counts.{Counts};
 
@@ -28,20 +29,6 @@ fn untouched() -> [u8; 65536]
     ensures { λ r. ⌜ 65536 ≡ length r ⌝ }
 {
     [165; 65536]
-}
-
-fn wide(b: u8) -> u32 {
-    b as u32
-}
-
-// The word whose first byte is at this place.
-fn word(bytes: &[u8], at: usize) -> u32
-    requires { ⌜ at + 4 ≤ length (now bytes) ⌝ }
-{
-    wide(bytes[at])
-        | (wide(bytes[at + 1]) << 8)
-        | (wide(bytes[at + 2]) << 16)
-        | (wide(bytes[at + 3]) << 24)
 }
 
 // Puts a question by its number. No recorded answer has what an unknown number gives.
@@ -73,8 +60,8 @@ fn read_part(fd: i32, space: &mut [u8], wanted: usize) -> usize
 
 // Puts the question that a head states. True where number, length and every byte of the slice are as recorded.
 fn is_as_recorded(head: &[u8; 20], image: &[u8], recorded: &[u8], out: &mut [u8]) -> bool {
-    let given = ask(word(head, 0), image, word(head, 4), out);
-    if given.number != word(head, 12) || given.length != word(head, 16) as u64 {
+    let given = ask(word_at(head, 0), image, word_at(head, 1), out);
+    if given.number != word_at(head, 3) || given.length != word_at(head, 4) as u64 {
         return false;
     }
     check::same(recorded, out)
@@ -86,7 +73,7 @@ fn agrees(fd: i32, image: &[u8]) -> bool {
     if io::read_full(fd, &mut head) < 20 {
         return false;
     }
-    let room = word(&head, 8) as usize;
+    let room = word_at(&head, 2) as usize;
     if room > MOST {
         return false;
     }
@@ -128,7 +115,7 @@ fn replay(fd: i32) -> bool {
     if io::read_full(fd, &mut head) < 8 {
         return false;
     }
-    let length = word(&head, 0) as usize;
+    let length = word_at(&head, 0) as usize;
     if length > MOST {
         return false;
     }
@@ -137,7 +124,7 @@ fn replay(fd: i32) -> bool {
     if n < length {
         return false;
     }
-    let count = word(&head, 4);
+    let count = word_at(&head, 1);
     let agree = agreeing(fd, &image[..n], count);
     print_counts(agree, count - agree);
     true

@@ -1,15 +1,13 @@
--- The text of an interval that stands in an answer has at most 36 bytes. Assumes nothing.
+-- The text of an interval that stands in an answer has at most 36 bytes.
 use mathlib.Core.Path.{_≡_, ap, _∙_}
-use mathlib.Core.Bool.{Bool, true, false, cond}
-use mathlib.Core.List.{List, [], _++_}
+use mathlib.Core.List.{List, _++_}
 use Prim.Native.Nat.{ℕ, zero, suc, _+_, _*_, _≤_, _<_}
 use native.Mathlib.Omega.{arith}
 use lib.ListN.{length, getD, length-append}
 use Rattle.plank_core.specs.Lists.{bind, upto}
 use Rattle.plank_core.specs.laws.Loops.{bind-snoc, upto-suc}
-use lib.Dec.{eqb}
 use Rattle.sir_data.specs.Pages.{wordAt}
-use Rattle.report_lines.specs.Lines.{interval, intervalAt, intervalsAt}
+use Rattle.report_lines.specs.Putting.{intervalAt, intervalsAt}
 use Rattle.report_lines.proofs.Numbers.{interval-short}
 
 pub word-small : (bytes : List ℕ) (i : ℕ) → ((k : ℕ) → getD bytes k 0 < 256) → wordAt bytes i < 4294967296
@@ -17,11 +15,7 @@ word-small bytes i h = omega (arith, h (4 * i), h (4 * i + 1), h (4 * i + 2), h 
 
 pub interval-at-short : (bytes : List ℕ) (i : ℕ) → ((k : ℕ) → getD bytes k 0 < 256) → length (intervalAt bytes i) ≤ 36
 unfolding intervalAt
-interval-at-short bytes i h = go (eqb (wordAt bytes (i + 2)) 0)
-  where
-    go : (t : Bool) → length (cond t [] (interval (wordAt bytes i) (wordAt bytes (i + 1)) (wordAt bytes (i + 2)))) ≤ 36
-    go true = omega arith
-    go false = interval-short (wordAt bytes i) (wordAt bytes (i + 1)) (wordAt bytes (i + 2)) (word-small bytes i h) (word-small bytes (i + 1) h) (word-small bytes (i + 2) h)
+interval-at-short bytes i h = interval-short (wordAt bytes i) (wordAt bytes (i + 1)) (wordAt bytes (i + 2)) (word-small bytes i h) (word-small bytes (i + 1) h) (word-small bytes (i + 2) h)
 
 -- so many of them
 pub intervals-short : (bytes : List ℕ) (first n : ℕ) → ((k : ℕ) → getD bytes k 0 < 256) → length (intervalsAt bytes first n) ≤ 36 * n

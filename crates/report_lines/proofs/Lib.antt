@@ -2,3 +2,5 @@ pub mod Putting
 pub mod Numbers
 pub mod Intervals
 pub mod TooLong
+pub mod Fields
+pub mod AnswerText

@@ -1,4 +1,4 @@
--- Decimal digits: those of `io::decimal` are the definition's, and a number below 2 ^ 32 has at most ten. Assumes nothing.
+-- Decimal digits: those of `io::decimal` are the definition's, and a number below 2 ^ 32 has at most ten.
 use mathlib.Core.Path.{_≡_, refl, ap}
 use mathlib.Core.Bool.{Bool, true, false, cond}
 use mathlib.Core.List.{List, [], _∷_, _++_}
@@ -9,7 +9,7 @@ use lib.ListN.{length, getD, length-append}
 use lib.Dec.{eqb, ltb}
 use borrow.Author.Tests.{lt-ltb, le-ltb}
 use Rattle.io.specs.Digits as Io
-use Rattle.report_lines.specs.Lines.{digits, number, named, startText, endText, interval, locals, blocks, members}
+use Rattle.report_lines.specs.Lines.{digits, number, named, startText, endText, interval, localsText, blocksText, membersText}
 use Rattle.plank_core.specs.Lists.{bind}
 
 power : (r : ℕ) → 10 ^ suc r ≡ 10 * 10 ^ r
@@ -84,12 +84,12 @@ ids-short a b [] h = omega arith
 ids-short a b (x ∷ ids) h =
     omega (arith, ids-short a b ids (λ k. h (suc k)), number-short x (h 0), length-append (number x) (bind ids (named (a ∷ b ∷ []))))
 
-pub blocks-short : (ids : List ℕ) → ((k : ℕ) → getD ids k 0 < 4294967296) → length (blocks ids) ≤ 13 * length ids
+pub blocks-short : (ids : List ℕ) → ((k : ℕ) → getD ids k 0 < 4294967296) → length (blocksText ids) ≤ 13 * length ids
 blocks-short ids h = ids-short 32 98 ids h
 
-pub members-short : (ids : List ℕ) → ((k : ℕ) → getD ids k 0 < 4294967296) → length (members ids) ≤ 13 * length ids + 2
+pub members-short : (ids : List ℕ) → ((k : ℕ) → getD ids k 0 < 4294967296) → length (membersText ids) ≤ 13 * length ids + 2
 members-short ids h = go (eqb (length ids) 0)
   where
-    go : (t : Bool) → length (cond t (32 ∷ 45 ∷ []) (locals ids)) ≤ 13 * length ids + 2
+    go : (t : Bool) → length (cond t (32 ∷ 45 ∷ []) (localsText ids)) ≤ 13 * length ids + 2
     go true = omega arith
     go false = omega (arith, ids-short 32 118 ids h)

@@ -1,25 +1,30 @@
--- Whether one of some answers is too long, one by one. Assumes nothing.
+-- Whether one of some answers is too long, one by one.
 use mathlib.Core.Path.{_≡_, refl, sym, ap, _∙_}
-use mathlib.Core.Bool.{Bool, true, false, cond}
-use mathlib.Core.List.{List, [], _∷_, _++_, map}
-use Prim.Native.Nat.{ℕ, suc, _*_, _≤_, _<_}
+use mathlib.Core.Bool.{Bool, true, false, not, _&&_, _||_, cond, or-assoc}
+use mathlib.Core.List.{List, [], _∷_, _++_, map, List·Memᴰ·head, List·Memᴰ·tail}
+use Prim.Native.Nat.{ℕ, _+_, _*_, _≤_, _<_}
 use native.Mathlib.Omega.{arith}
-use lib.ListN.{length, take, drop}
+use lib.ListN.{length, take, drop, length-map}
 use lib.Seq.{take-at, length-take-le}
 use lib.Dec.{ltb}
 use borrow.Author.Tests.{lt-ltb, le-ltb, ltb-false}
-use Rattle.plank_core.specs.Lists.{bind, any, range}
-use Rattle.plank_core.specs.laws.Lists.{any-not}
+use Rattle.plank_core.specs.Lists.{bind, any, range, upto, _∈_}
+use Rattle.plank_core.specs.DenseIndexSet.{contains, setOf, rowOf, members}
+use Rattle.plank_core.specs.laws.Lists.{any-not, keep-out, mem-upto}
+use Rattle.plank_core.specs.laws.DenseIndexSet.{contains-setOf}
+use Rattle.plank_core.specs.laws.Members.{members-most}
 use Rattle.plank_core.specs.laws.Loops.{range-all}
 use Rattle.sir_data.specs.Pages.{bytesOf}
-use Rattle.sir_data.specs.Records.{locals}
+use Rattle.sir_data.specs.Records.{blocks, locals}
 use Rattle.sir_analyses.specs.Allocation.{allocs}
-use Rattle.sir_analyses.specs.Answers.{intervalsAnswer, allocationAnswer, Outcome, made, refused, answered}
+use Rattle.sir_analyses.specs.Answers.{orderAnswer, entryAnswer, exitAnswer, intervalsAnswer, allocationAnswer, Outcome, made, refused, answered}
 use Rattle.sir_analyses.specs.Discovery.{allocKey, allocKeys}
-use Rattle.sir_analyses.specs.Visiting.{SeenBlocks}
+use Rattle.sir_analyses.specs.Order.{isVisited}
+use Rattle.sir_analyses.specs.Tables.{LiveRows}
 use Rattle.sir_analyses.specs.Writing.{Puts}
 use Rattle.sir_analyses.specs.laws.Writing.{length-bytes, puts-all}
-use Rattle.report_lines.specs.Counting.{tooLong, localTooLong, allocationTooLong}
+use Rattle.report_lines.specs.Counting.{tooLong, localTooLong, allocationTooLong, someTooLong}
+use Rattle.report_lines.specs.Lines.{visitedBlocks}
 
 module _ (xs : List ℕ) {limit r : ℕ} {out out′ : List ℕ} (p : Puts limit 0 xs out out′ r) where
   pub is-long : 16384 < r → tooLong xs ≡ true
@@ -67,13 +72,9 @@ module _ (xs out : List ℕ) {n l : ℕ} {out′ : List ℕ} (long : length out 
 
 -- ---- all of some answers
 
-map-long : {A : Type 0} (f : A → ℕ) (xs : List A) → length (map f xs) ≡ length xs
-map-long f [] = refl
-map-long f (x ∷ xs) = ap suc (map-long f xs)
-
 pub keys-long : (w : List ℕ) → length (allocKeys w) ≡ length (allocs w)
 unfolding allocKeys
-keys-long w = map-long allocKey (allocs w)
+keys-long w = length-map (allocs w) allocKey
 
 abbrev pub longLocal : List ℕ → ℕ → Bool
 longLocal w v = tooLong (intervalsAnswer w v)
@@ -108,5 +109,49 @@ take-most n k xs l h = omega (arith, length-take-le n xs l)
 pub take-least : (n k : ℕ) (xs : List ℕ) → n ≤ length xs → k ≤ n → k ≤ length (take n xs)
 take-least n k xs l h = omega (arith, length-take-le n xs l)
 
-pub seen-as : {w w′ seen : List ℕ} → w ≡ w′ → SeenBlocks w seen → SeenBlocks w′ seen
-seen-as e k = rw e at k
+-- ---- order, rounds and sets are never too long, so that intervals and allocations decide
+
+module _ {A : Type 0} where
+  any-join : (p : A → Bool) (xs ys : List A) → any p (xs ++ ys) ≡ (any p xs || any p ys)
+  any-join p [] ys = refl
+  any-join p (x ∷ xs) ys = rw (any-join p xs ys) (sym (or-assoc (p x) (any p xs) (any p ys)))
+
+  any-map : {B : Type 0} (p : B → Bool) (f : A → B) (xs : List A) → any p (map f xs) ≡ any (λ x. p (f x)) xs
+  any-map p f [] = refl
+  any-map p f (x ∷ xs) = ap (λ (t : Bool). p (f x) || t) (any-map p f xs)
+
+fits : (xs : List ℕ) → length xs ≤ 512 → tooLong xs ≡ false
+fits xs h = le-ltb 65536 (4 * length xs) (omega arith)
+
+module _ {w uses defs exits : List ℕ} (live : LiveRows w uses defs exits) where
+  entry-fits : (b : ℕ) → b < blocks w → isVisited w b ≡ true → tooLong (entryAnswer w b) ≡ false
+  entry-fits b l v =
+      let p : ℕ → Bool = λ i. contains uses (512 * b + i) || (contains exits (512 * b + i) && not (contains defs (512 * b + i))) in
+      let e : members (setOf 8 p) ≡ entryAnswer w b = live .entry-is b l v (setOf 8 p) (λ i h. contains-setOf 8 i p (omega arith)) in
+      fits (entryAnswer w b) (omega (arith, ap length e, members-most (setOf 8 p)))
+
+  exit-fits : (b : ℕ) → b < blocks w → tooLong (exitAnswer w b) ≡ false
+  exit-fits b l = fits (exitAnswer w b) (omega (arith, ap length (live .exit-is b l), members-most (rowOf exits b)))
+
+  abbrev sets : ℕ → List (List ℕ)
+  sets b = entryAnswer w b ∷ exitAnswer w b ∷ []
+
+  sets-fit : (bs : List ℕ) → ((b : ℕ) → b ∈ bs → (b < blocks w) × (isVisited w b ≡ true)) → any tooLong (bind bs sets) ≡ false
+  sets-fit [] h = refl
+  sets-fit (b ∷ bs) h =
+      let k = h b (List·Memᴰ·head refl) in
+      rw (entry-fits b (k .0) (k .1), exit-fits b (k .0)) (sets-fit bs (λ c m. h c (List·Memᴰ·tail m)))
+
+  pub others-fit : length (orderAnswer w) ≤ 384 → someTooLong w ≡ (localTooLong w || allocationTooLong w)
+  unfolding someTooLong localTooLong allocationTooLong
+  others-fit h =
+      let L : List (List ℕ) = map (intervalsAnswer w) (upto (locals w)) in
+      let A : List (List ℕ) = map (allocationAnswer w) (upto (length (allocs w))) in
+      let o : tooLong (orderAnswer w) ≡ false = fits (orderAnswer w) (omega arith) in
+      let s : any tooLong (bind (visitedBlocks w) sets) ≡ false =
+      sets-fit (visitedBlocks w) (λ b m. let k = keep-out (isVisited w) (upto (blocks w)) m in (mem-upto b (blocks w) (k .0), k .1)) in
+      let S : List (List ℕ) = bind (visitedBlocks w) sets in
+      ap (λ (t : Bool). t || any tooLong (S ++ L ++ A)) o
+      ∙ any-join tooLong (S ++ L) A
+      ∙ ap (λ (t : Bool). t || any tooLong A) (any-join tooLong S L ∙ ap (λ (t : Bool). t || any tooLong L) s ∙ any-map tooLong (intervalsAnswer w) (upto (locals w)))
+      ∙ ap (λ (t : Bool). localTooLong w || t) (any-map tooLong (allocationAnswer w) (upto (length (allocs w))))

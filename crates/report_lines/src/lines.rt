@@ -5,12 +5,13 @@ use crate::text::put_members;
 use crate::text::put_named;
 use crate::text::put_number;
 use crate::text::put_text;
-use crate::text::word_of;
-ghost use mathlib.Core.Path.{_≡_};
-ghost use Prim.Native.Nat.{_+_, _*_, _≤_, _<_};
+use sir_data::pages::word_at;
+ghost use Prim.Native.Nat.{_-_, _/_, _≤_};
 ghost use lib.ListN.{length};
-ghost use Rattle.report_lines.specs.Lines.{Put, refusedLine, orderLine, roundsLine, blockLine, localLine, allocationHead, allocationLine};
+ghost use Rattle.report_lines.specs.Lines.{refusedLine, orderLine, roundsLine, blockLine};
+ghost use Rattle.report_lines.specs.Putting.{Put, localLine, allocationHead, allocationLine, EndsSome};
 
+// `refused` and the number.
 pub fn refused_line(number: u32, line: &mut [u8]) -> usize
     requires { ⌜ 32 ≤ length (now line) ⌝ }
     ensures { λ r. ⌜ Put (refusedLine number) 0 (now (line .entry)) (now (line .exit)) r ⌝ }
@@ -20,6 +21,7 @@ pub fn refused_line(number: u32, line: &mut [u8]) -> usize
     put_text(line, b, b"\n")
 }
 
+// `order` and the blocks.
 pub fn order_line(rpo: &[u32], line: &mut [u8]) -> usize
     requires { ⌜ (length (now rpo) ≤ 256) × (196608 ≤ length (now line)) ⌝ }
     ensures { λ r. ⌜ Put (orderLine (now (rpo .entry))) 0 (now (line .entry)) (now (line .exit)) r ⌝ }
@@ -29,6 +31,7 @@ pub fn order_line(rpo: &[u32], line: &mut [u8]) -> usize
     put_text(line, b, b"\n")
 }
 
+// `rounds` and their number.
 pub fn rounds_line(rounds: u32, line: &mut [u8]) -> usize
     requires { ⌜ 196608 ≤ length (now line) ⌝ }
     ensures { λ r. ⌜ Put (roundsLine rounds) 0 (now (line .entry)) (now (line .exit)) r ⌝ }
@@ -54,6 +57,7 @@ pub fn block_line(b: u32, entry: &[u32], exit: &[u32], line: &mut [u8]) -> usize
 // Local v with the intervals of its answer.
 pub fn local_line(v: u32, answer: &[u8], line: &mut [u8]) -> usize
     requires { ⌜ (length (now answer) ≤ 65536) × (196608 ≤ length (now line)) ⌝ }
+    requires { ⌜ EndsSome (now answer) 0 (length (now answer) / 12) ⌝ }
     ensures { λ r. ⌜ Put (localLine v (now (answer .entry))) 0 (now (line .entry)) (now (line .exit)) r ⌝ }
 {
     let a = put_named(line, 0, b"v", v);
@@ -67,10 +71,10 @@ fn put_allocation_head(a: u32, answer: &[u8], line: &mut [u8]) -> usize
     ensures { λ r. ⌜ (r ≤ 100) × Put (allocationHead a (now (answer .entry))) 0 (now (line .entry)) (now (line .exit)) r ⌝ }
 {
     let i = put_named(line, 0, b"a", a);
-    let b = put_named(line, i, b" b", word_of(answer, 0));
-    let o = put_named(line, b, b" op", word_of(answer, 1));
-    let v = put_named(line, o, b" v", word_of(answer, 2));
-    if word_of(answer, 6) == 0 {
+    let b = put_named(line, i, b" b", word_at(answer, 0));
+    let o = put_named(line, b, b" op", word_at(answer, 1));
+    let v = put_named(line, o, b" v", word_at(answer, 2));
+    if word_at(answer, 6) == 0 {
         return put_text(line, v, b" kept");
     }
     put_text(line, v, b" escaped")
@@ -79,6 +83,7 @@ fn put_allocation_head(a: u32, answer: &[u8], line: &mut [u8]) -> usize
 // Allocation a by its answer.
 pub fn allocation_line(a: u32, answer: &[u8], line: &mut [u8]) -> usize
     requires { ⌜ (32 ≤ length (now answer)) × (length (now answer) ≤ 65536) × (196608 ≤ length (now line)) ⌝ }
+    requires { ⌜ EndsSome (now answer) 8 ((length (now answer) - 32) / 12) ⌝ }
     ensures { λ r. ⌜ Put (allocationLine a (now (answer .entry))) 0 (now (line .entry)) (now (line .exit)) r ⌝ }
 {
     let m = put_allocation_head(a, answer, line);

@@ -27,26 +27,29 @@ use sir_analyses::pointer_links::pointer_links;
 use sir_data::records::block_count;
 use sir_data::records::local_count;
 ghost use mathlib.Core.Path.{_≡_};
-ghost use mathlib.Core.Bool.{true, false, cond, _||_};
+ghost use mathlib.Core.Bool.{true, false, cond};
 ghost use mathlib.Core.List.{List};
 ghost use Prim.Native.Nat.{ℕ, _+_, _*_, _≤_, _<_};
 ghost use lib.ListN.{length};
 ghost use Rattle.sir_data.specs.Records.{blocks, locals};
 ghost use Rattle.sir_data.specs.WellFormed.{WellFormed};
 ghost use Rattle.sir_analyses.specs.Order.{blocksRpo, isVisited};
-ghost use Rattle.sir_analyses.specs.Liveness.{settled};
+ghost use Rattle.sir_analyses.specs.Liveness.{settled, rounds};
 ghost use Rattle.sir_analyses.specs.Allocation.{rule12};
-ghost use Rattle.sir_analyses.specs.Answers.{intervalsAnswer, allocationAnswer};
+ghost use Rattle.sir_analyses.specs.Answers.{orderAnswer, intervalsAnswer, allocationAnswer};
 ghost use Rattle.sir_analyses.specs.Visiting.{SeenBlocks};
 ghost use Rattle.sir_analyses.specs.Tables.{OperandRows, SameRows, EndRows, LiveRows};
 ghost use Rattle.sir_analyses.specs.Discovery.{allocKeys, Discovered};
-ghost use Rattle.report_lines.specs.Lines.{Put, blockText, localText, allocationText};
-ghost use Rattle.report_lines.specs.Counting.{tooLong, localTooLong, allocationTooLong, reported};
+ghost use Rattle.report_lines.specs.Lines.{orderText, roundsText, blockText, localText, allocationText};
+ghost use Rattle.report_lines.specs.Putting.{Put, Words};
+ghost use Rattle.report_lines.specs.Counting.{tooLong, localTooLong, allocationTooLong, someTooLong, reported};
 
+// Prints some bytes.
 fn say(text: &[u8]) {
     io::write_all(STDOUT_FILENO, text);
 }
 
+// The line of a refusal.
 fn say_refused(number: u32, line: &mut [u8])
     requires { ⌜ 32 ≤ length (now line) ⌝ }
 {
@@ -54,17 +57,35 @@ fn say_refused(number: u32, line: &mut [u8])
     say(&line[..n]);
 }
 
-fn say_order(rpo: &[u32], line: &mut [u8])
-    requires { ⌜ (length (now rpo) ≤ 256) × (196608 ≤ length (now line)) ⌝ }
+// The line of the order of some words, from their sequence of blocks.
+fn order_text(words: &[u32], rpo: &[u32], line: &mut [u8]) -> usize
+    requires { ⌜ (now rpo ≡ blocksRpo (now words)) × (length (now rpo) ≤ 256) × (196608 ≤ length (now line)) ⌝ }
+    ensures { λ r. ⌜ Put (orderText (now (words .entry))) 0 (now (line .entry)) (now (line .exit)) r ⌝ }
 {
-    let n = order_line(rpo, line);
+    order_line(rpo, line)
+}
+
+// The blocks in order.
+fn say_order(words: &[u32], rpo: &[u32], line: &mut [u8])
+    requires { ⌜ (now rpo ≡ blocksRpo (now words)) × (length (now rpo) ≤ 256) × (196608 ≤ length (now line)) ⌝ }
+{
+    let n = order_text(words, rpo, line);
     say(&line[..n]);
 }
 
-fn say_rounds(done: u32, line: &mut [u8])
-    requires { ⌜ 196608 ≤ length (now line) ⌝ }
+// The line of the rounds of some words, from their number.
+fn rounds_text(words: &[u32], done: u32, line: &mut [u8]) -> usize
+    requires { ⌜ (done ≡ rounds (now words)) × (196608 ≤ length (now line)) ⌝ }
+    ensures { λ r. ⌜ Put (roundsText (now (words .entry))) 0 (now (line .entry)) (now (line .exit)) r ⌝ }
 {
-    let n = rounds_line(done, line);
+    rounds_line(done, line)
+}
+
+// The rounds of liveness.
+fn say_rounds(words: &[u32], done: u32, line: &mut [u8])
+    requires { ⌜ (done ≡ rounds (now words)) × (196608 ≤ length (now line)) ⌝ }
+{
+    let n = rounds_text(words, done, line);
     say(&line[..n]);
 }
 
@@ -190,7 +211,7 @@ fn allocation_text(
     requires { ⌜ (now keys ≡ allocKeys (now words)) × (length (now keys) ≤ 512) × (a .0 < length (now keys)) ⌝ }
     requires { ⌜ (length (now owner) ≡ 512) × (length (now marks) ≡ 8) × Discovered (now words) (now owner) (now marks) ⌝ }
     requires { ⌜ tooLong (allocationAnswer (now words) (a .0)) ≡ false ⌝ }
-    requires { ⌜ (length (now out) ≡ 65536) × (196608 ≤ length (now line)) ⌝ }
+    requires { ⌜ (length (now out) ≡ 65536) × (196608 ≤ length (now line)) × Words (blocksRpo (now words)) ⌝ }
     ensures { λ r. ⌜ Put (allocationText (now (words .entry)) (a .0)) 0 (now (line .entry)) (now (line .exit)) r ⌝ }
 {
     let r = tables_answer(
@@ -230,7 +251,7 @@ fn say_allocations(
     requires { ⌜ (now keys ≡ allocKeys (now words)) × (length (now keys) ≤ 512) ⌝ }
     requires { ⌜ (length (now owner) ≡ 512) × (length (now marks) ≡ 8) × Discovered (now words) (now owner) (now marks) ⌝ }
     requires { ⌜ allocationTooLong (now words) ≡ false ⌝ }
-    requires { ⌜ (length (now out) ≡ 65536) × (196608 ≤ length (now line)) ⌝ }
+    requires { ⌜ (length (now out) ≡ 65536) × (196608 ≤ length (now line)) × Words (blocksRpo (now words)) ⌝ }
 {
     let mut a: usize = 0;
     while a < keys.len() {
@@ -270,10 +291,10 @@ fn report_tables(
 ) -> u32
     requires { ⌜ WellFormed (now words) ⌝ }
     requires { ⌜ SeenBlocks (now words) (now seen) × (now rpo ≡ blocksRpo (now words)) × OperandRows (now words) (now reads) (now writes) ⌝ }
-    requires { ⌜ (length (now rpo) ≤ 256) × LiveRows (now words) (now uses) (now defs) (now exits) ⌝ }
+    requires { ⌜ (length (now rpo) ≤ 256) × LiveRows (now words) (now uses) (now defs) (now exits) × (done ≡ rounds (now words)) × (length (orderAnswer (now words)) ≤ 384) ⌝ }
     requires { ⌜ (now keys ≡ allocKeys (now words)) × (length (now keys) ≤ 512) ⌝ }
     requires { ⌜ (length (now owner) ≡ 512) × (length (now marks) ≡ 8) × Discovered (now words) (now owner) (now marks) ⌝ }
-    ensures { λ r. ⌜ r ≡ cond (localTooLong (now (words .entry)) || allocationTooLong (now (words .entry))) 14 0 ⌝ }
+    ensures { λ r. ⌜ r ≡ cond (someTooLong (now (words .entry))) 14 0 ⌝ }
 {
     let mut ends = [0u64; 2048];
     end_sets(words, &mut ends);
@@ -298,8 +319,8 @@ fn report_tables(
         say_refused(14, &mut line);
         return 14;
     }
-    say_order(rpo, &mut line);
-    say_rounds(done, &mut line);
+    say_order(words, rpo, &mut line);
+    say_rounds(words, done, &mut line);
     say_blocks(words, seen, uses, defs, exits, &mut line);
     say_locals(words, rpo, reads, writes, exits, &ends, &mut out, &mut line);
     say_allocations(
@@ -321,9 +342,9 @@ fn report_tables(
 // The report of an accepted image's words: its analyses, each run once, then the lines.
 fn report_words(words: &[u32], seen: &[u64], rpo: &[u32]) -> u32
     requires { ⌜ WellFormed (now words) ⌝ }
-    requires { ⌜ SeenBlocks (now words) (now seen) × (now rpo ≡ blocksRpo (now words)) × (length (now rpo) ≤ 256) ⌝ }
+    requires { ⌜ SeenBlocks (now words) (now seen) × (now rpo ≡ blocksRpo (now words)) × (length (now rpo) ≤ 256) × (length (orderAnswer (now words)) ≤ 384) ⌝ }
     requires { ⌜ (rule12 (now words) ≡ false) × (length (allocKeys (now words)) ≤ 512) ⌝ }
-    ensures { λ r. ⌜ r ≡ cond (localTooLong (now (words .entry)) || allocationTooLong (now (words .entry))) 14 0 ⌝ }
+    ensures { λ r. ⌜ r ≡ cond (someTooLong (now (words .entry))) 14 0 ⌝ }
 {
     let mut reads = [0u64; 8192];
     let mut writes = [0u64; 8192];

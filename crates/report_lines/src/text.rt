@@ -1,12 +1,13 @@
 // Pieces of a line. Each is put behind the first `at` bytes of a line; the answer is where it ends.
-ghost use mathlib.Core.Path.{_≡_};
-ghost use mathlib.Core.List.{_++_};
+use sir_data::pages::word_at;
 ghost use Prim.Native.Nat.{_+_, _*_, _≤_, _<_};
 ghost use lib.ListN.{length};
 ghost use Rattle.plank_core.specs.Lists.{bind};
 ghost use Rattle.sir_data.specs.Pages.{wordAt};
-ghost use Rattle.report_lines.specs.Lines.{Put, number, named, locals, blocks, members, startText, endText, interval, intervalAt, intervalsAt};
+ghost use Rattle.report_lines.specs.Lines.{number, named, localsText, blocksText, membersText, startText, endText, interval};
+ghost use Rattle.report_lines.specs.Putting.{Put, intervalAt, intervalsAt, EndsSome};
 
+// Some bytes as they are.
 pub fn put_text(line: &mut [u8], at: usize, text: &[u8]) -> usize
     requires { ⌜ at + length (now text) ≤ length (now line) ⌝ }
     ensures { λ r. ⌜ Put (now (text .entry)) at (now (line .entry)) (now (line .exit)) r ⌝ }
@@ -55,7 +56,7 @@ fn put_ids(line: &mut [u8], at: usize, name: &[u8], ids: &[u32]) -> usize
 // Each of some locals.
 pub fn put_locals(line: &mut [u8], at: usize, ids: &[u32]) -> usize
     requires { ⌜ at + 13 * length (now ids) ≤ length (now line) ⌝ }
-    ensures { λ r. ⌜ Put (locals (now (ids .entry))) at (now (line .entry)) (now (line .exit)) r ⌝ }
+    ensures { λ r. ⌜ Put (localsText (now (ids .entry))) at (now (line .entry)) (now (line .exit)) r ⌝ }
 {
     put_ids(line, at, b" v", ids)
 }
@@ -63,7 +64,7 @@ pub fn put_locals(line: &mut [u8], at: usize, ids: &[u32]) -> usize
 // Each of some blocks.
 pub fn put_blocks(line: &mut [u8], at: usize, ids: &[u32]) -> usize
     requires { ⌜ at + 13 * length (now ids) ≤ length (now line) ⌝ }
-    ensures { λ r. ⌜ Put (blocks (now (ids .entry))) at (now (line .entry)) (now (line .exit)) r ⌝ }
+    ensures { λ r. ⌜ Put (blocksText (now (ids .entry))) at (now (line .entry)) (now (line .exit)) r ⌝ }
 {
     put_ids(line, at, b" b", ids)
 }
@@ -71,31 +72,12 @@ pub fn put_blocks(line: &mut [u8], at: usize, ids: &[u32]) -> usize
 // The members of a set; a hyphen where it is empty.
 pub fn put_members(line: &mut [u8], at: usize, ids: &[u32]) -> usize
     requires { ⌜ (at + 2 ≤ length (now line)) × (at + 13 * length (now ids) ≤ length (now line)) ⌝ }
-    ensures { λ r. ⌜ Put (members (now (ids .entry))) at (now (line .entry)) (now (line .exit)) r ⌝ }
+    ensures { λ r. ⌜ Put (membersText (now (ids .entry))) at (now (line .entry)) (now (line .exit)) r ⌝ }
 {
     if ids.len() == 0 {
         return put_text(line, at, b" -");
     }
     put_locals(line, at, ids)
-}
-
-fn wide(x: u8) -> u32
-    ensures { λ r. ⌜ (r ≡ x) × (r < 256) ⌝ }
-{
-    x as u32
-}
-
-// Word i of an answer.
-pub fn word_of(answer: &[u8], i: usize) -> u32
-    requires { ⌜ 4 * i + 4 ≤ length (now answer) ⌝ }
-    ensures { λ r. ⌜ r ≡ wordAt (now (answer .entry)) i ⌝ }
-{
-    let at = 4 * i;
-    let a = wide(answer[at]);
-    let b = wide(answer[at + 1]);
-    let c = wide(answer[at + 2]);
-    let d = wide(answer[at + 3]);
-    a + 256 * b + 65536 * c + 16777216 * d
 }
 
 // The operation at which an interval starts, or the block's start.
@@ -132,17 +114,14 @@ pub fn put_interval(line: &mut [u8], at: usize, block: u32, start: u32, end: u32
     put_end(line, e, end)
 }
 
-// The interval of an answer that starts at word i. An end is never 0.
+// The interval of an answer that starts at word i.
 pub fn put_interval_at(line: &mut [u8], at: usize, answer: &[u8], i: usize) -> usize
-    requires { ⌜ (at + 36 ≤ length (now line)) × (4 * i + 12 ≤ length (now answer)) ⌝ }
+    requires { ⌜ (at + 36 ≤ length (now line)) × (4 * i + 12 ≤ length (now answer)) × (0 < wordAt (now answer) (i + 2)) ⌝ }
     ensures { λ r. ⌜ Put (intervalAt (now (answer .entry)) i) at (now (line .entry)) (now (line .exit)) r ⌝ }
 {
-    let block = word_of(answer, i);
-    let start = word_of(answer, i + 1);
-    let end = word_of(answer, i + 2);
-    if end == 0 {
-        return at;
-    }
+    let block = word_at(answer, i);
+    let start = word_at(answer, i + 1);
+    let end = word_at(answer, i + 2);
     put_interval(line, at, block, start, end)
 }
 
@@ -154,7 +133,7 @@ pub fn put_intervals_at(
     first: usize,
     count: usize,
 ) -> usize
-    requires { ⌜ (at + 36 * count ≤ length (now line)) × (4 * first + 12 * count ≤ length (now answer)) ⌝ }
+    requires { ⌜ (at + 36 * count ≤ length (now line)) × (4 * first + 12 * count ≤ length (now answer)) × EndsSome (now answer) first count ⌝ }
     ensures { λ r. ⌜ Put (intervalsAt (now (answer .entry)) first count) at (now (line .entry)) (now (line .exit)) r ⌝ }
 {
     let mut m = at;

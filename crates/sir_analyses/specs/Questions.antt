@@ -13,10 +13,17 @@ use Rattle.sir_analyses.specs.declared.questions.Question.{Question}
 
 -- how many ids there are to ask liveness about
 abbrev pub liveCount : LiveQuestion → List ℕ → ℕ
-liveCount LiveQuestion.EntrySet = blocks
-liveCount LiveQuestion.ExitSet = blocks
-liveCount LiveQuestion.Intervals = locals
+liveCount (LiveQuestion.EntrySet b) = blocks
+liveCount (LiveQuestion.ExitSet b) = blocks
+liveCount (LiveQuestion.Intervals v) = locals
 liveCount LiveQuestion.Rounds = λ w. 1
+
+-- the id that liveness is asked about
+abbrev pub liveId : LiveQuestion → ℕ
+liveId (LiveQuestion.EntrySet b) = b .0
+liveId (LiveQuestion.ExitSet b) = b .0
+liveId (LiveQuestion.Intervals v) = v .0
+liveId LiveQuestion.Rounds = 0
 
 -- how many ids there are to ask about; order and rounds have no id, and count as asked about the only one
 abbrev pub idCount : Question → List ℕ → ℕ
@@ -36,9 +43,9 @@ idOf (Question.Allocation a) = a .0
 
 -- the words of an answer of liveness about an id
 abbrev pub liveWords : LiveQuestion → List ℕ → ℕ → List ℕ
-liveWords LiveQuestion.EntrySet = entryAnswer
-liveWords LiveQuestion.ExitSet = exitAnswer
-liveWords LiveQuestion.Intervals = intervalsAnswer
+liveWords (LiveQuestion.EntrySet b) = entryAnswer
+liveWords (LiveQuestion.ExitSet b) = exitAnswer
+liveWords (LiveQuestion.Intervals v) = intervalsAnswer
 liveWords LiveQuestion.Rounds = λ w i. roundsAnswer w
 
 -- the words of an answer about a block

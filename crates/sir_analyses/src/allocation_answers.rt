@@ -10,6 +10,7 @@ use crate::local_liveness::live_sets;
 use crate::merged_intervals::populate_intervals_from_local_liveness;
 use crate::pointer_links::pointer_links;
 use plank_core::index::AllocId;
+use plank_core::index::LocalId;
 use plank_core::rows::row_add;
 use plank_core::rows::row_contains;
 use sir_data::records::local_count;
@@ -160,13 +161,13 @@ pub fn allocation_answer(
     seen: &[u64],
     rpo: &[u32],
     keys: &[u32],
-    allocation: u32,
+    a: AllocId,
     out: &mut [u8],
 ) -> Answer
     requires { ⌜ WellFormed (now words) ⌝ }
     requires { ⌜ SeenBlocks (now words) (now seen) × (now rpo ≡ blocksRpo (now words)) ⌝ }
-    requires { ⌜ (rule12 (now words) ≡ false) × (now keys ≡ allocKeys (now words)) × (allocation < length (allocs (now words))) ⌝ }
-    ensures { λ r. ⌜ made (r .number) (r .length) (now (out .exit)) ≡ answered (bind (allocationAnswer (now (words .entry)) allocation) bytesOf) (now (out .entry)) ⌝ }
+    requires { ⌜ (rule12 (now words) ≡ false) × (now keys ≡ allocKeys (now words)) × (a .0 < length (allocs (now words))) ⌝ }
+    ensures { λ r. ⌜ made (r .number) (r .length) (now (out .exit)) ≡ answered (bind (allocationAnswer (now (words .entry)) (a .0)) bytesOf) (now (out .entry)) ⌝ }
 {
     let mut links = [0u64; 4096];
     let mut harms = [0u64; 8];
@@ -174,12 +175,12 @@ pub fn allocation_answer(
     let mut owner = [0u32; 512];
     let mut marks = [0u64; 8];
     discover_allocations(words, keys, &links, &harms, &mut owner, &mut marks);
-    let key = keys[allocation as usize];
-    if row_contains(&marks, 0, allocation) {
+    let key = keys[a.0 as usize];
+    if row_contains(&marks, 0, a.0) {
         return marked_answer(words, key, out);
     }
     let mut reach = [0u64; 8];
-    owned_locals(words, &owner, AllocId(allocation), &mut reach);
+    owned_locals(words, &owner, a, &mut reach);
     unmarked_answer(words, seen, rpo, key, &reach, out)
 }
 
@@ -214,11 +215,11 @@ pub fn tables_answer(
 }
 
 // The owner of a local.
-pub fn owner_answer(words: &[u32], rpo: &[u32], keys: &[u32], local: u32, out: &mut [u8]) -> Answer
+pub fn owner_answer(words: &[u32], rpo: &[u32], keys: &[u32], v: LocalId, out: &mut [u8]) -> Answer
     requires { ⌜ WellFormed (now words) ⌝ }
     requires { ⌜ now rpo ≡ blocksRpo (now words) ⌝ }
-    requires { ⌜ (rule12 (now words) ≡ false) × (now keys ≡ allocKeys (now words)) × (local < locals (now words)) ⌝ }
-    ensures { λ r. ⌜ made (r .number) (r .length) (now (out .exit)) ≡ answered (bind (ownerAnswer (now (words .entry)) local) bytesOf) (now (out .entry)) ⌝ }
+    requires { ⌜ (rule12 (now words) ≡ false) × (now keys ≡ allocKeys (now words)) × (v .0 < locals (now words)) ⌝ }
+    ensures { λ r. ⌜ made (r .number) (r .length) (now (out .exit)) ≡ answered (bind (ownerAnswer (now (words .entry)) (v .0)) bytesOf) (now (out .entry)) ⌝ }
 {
     let mut links = [0u64; 4096];
     let mut harms = [0u64; 8];
@@ -226,5 +227,5 @@ pub fn owner_answer(words: &[u32], rpo: &[u32], keys: &[u32], local: u32, out: &
     let mut owner = [0u32; 512];
     let mut marks = [0u64; 8];
     discover_allocations(words, keys, &links, &harms, &mut owner, &mut marks);
-    words_answer(&[owner[local as usize]], out)
+    words_answer(&[owner[v.0 as usize]], out)
 }

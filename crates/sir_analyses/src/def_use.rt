@@ -2,6 +2,7 @@
 // condition, its outputs. How often each operation reads the local is counted once, since operations may lie in many blocks.
 use crate::answers::put_triple;
 use plank_core::index::BlockId;
+use plank_core::index::LocalId;
 use plank_core::index::OpIdx;
 use sir_data::records::block_operations;
 use sir_data::records::block_outputs;
@@ -20,16 +21,16 @@ ghost use Rattle.sir_analyses.specs.Uses.{InputCounts, sameUses, operati
 ghost use Rattle.sir_analyses.specs.Writing.{Puts};
 
 // How often a local is among some operands.
-fn count_local(run: &[u32], local: u32) -> u32
+fn count_local(run: &[u32], local: LocalId) -> u32
     requires { ⌜ length (now run) ≤ 4096 ⌝ }
-    ensures { λ r. ⌜ r ≡ length (positions local (now (run .entry)) 0) ⌝ }
+    ensures { λ r. ⌜ r ≡ length (positions (local .0) (now (run .entry)) 0) ⌝ }
 {
     let mut n: u32 = 0;
     let mut i: usize = 0;
     while i < run.len() {
         let v = run[i];
         i += 1;
-        if v == local {
+        if v == local.0 {
             n += 1;
         }
     }
@@ -37,10 +38,10 @@ fn count_local(run: &[u32], local: u32) -> u32
 }
 
 // How often each operation reads a local.
-pub fn input_counts(words: &[u32], local: u32, counts: &mut [u32])
+pub fn input_counts(words: &[u32], local: LocalId, counts: &mut [u32])
     requires { ⌜ WellFormed (now words) ⌝ }
     requires { ⌜ length (now counts) ≡ 1024 ⌝ }
-    ensures { λ _. ⌜ InputCounts (now (words .entry)) local (now (counts .exit)) ⌝ }
+    ensures { λ _. ⌜ InputCounts (now (words .entry)) (local .0) (now (counts .exit)) ⌝ }
 {
     let last = operation_count(words);
     let mut o: u32 = 0;
@@ -51,9 +52,9 @@ pub fn input_counts(words: &[u32], local: u32, counts: &mut [u32])
 }
 
 // The same use some times over; behind the limit they are only counted.
-fn put_same(out: &mut [u8], limit: usize, n: usize, block: u32, o: u32, times: u32) -> usize
+fn put_same(out: &mut [u8], limit: usize, n: usize, b: BlockId, o: OpIdx, times: u32) -> usize
     requires { ⌜ (limit ≤ length (now out)) × (n + 3 * times < 2 ^ 59) ⌝ }
-    ensures { λ r. ⌜ Puts limit n (sameUses block o times) (now (out .entry)) (now (out .exit)) r ⌝ }
+    ensures { λ r. ⌜ Puts limit n (sameUses (b .0) (o .0) times) (now (out .entry)) (now (out .exit)) r ⌝ }
 {
     let mut m = n;
     let mut i: u32 = 0;
@@ -61,7 +62,7 @@ fn put_same(out: &mut [u8], limit: usize, n: usize, block: u32, o: u32, times: u
         if limit < 4 * m + 4 {
             return n + 3 * (times as usize);
         }
-        m = put_triple(out, limit, m, block, 0, o);
+        m = put_triple(out, limit, m, b.0, 0, o.0);
         i += 1;
     }
     m
@@ -86,29 +87,29 @@ fn put_operation_uses(
     let mut m = n;
     let mut o = span.start;
     while o < last {
-        m = put_same(out, limit, m, b.0, o, counts[o as usize]);
+        m = put_same(out, limit, m, b, OpIdx(o), counts[o as usize]);
         o += 1;
     }
     m
 }
 
 // Whether a local is the condition of a block's branch or switch.
-fn is_condition(words: &[u32], b: BlockId, local: u32) -> bool
+fn is_condition(words: &[u32], b: BlockId, local: LocalId) -> bool
     requires { ⌜ WellFormed (now words) ⌝ }
     requires { ⌜ b .0 < blocks (now words) ⌝ }
-    ensures { λ r. ⌜ r ≡ mem local (condition (now (words .entry)) (b .0)) ⌝ }
+    ensures { λ r. ⌜ r ≡ mem (local .0) (condition (now (words .entry)) (b .0)) ⌝ }
 {
     if block_word(words, b, 6) < 3 {
         return false;
     }
-    local == block_word(words, b, 7)
+    local.0 == block_word(words, b, 7)
 }
 
 // The use as a block's condition.
 fn put_condition_use(
     words: &[u32],
     b: BlockId,
-    local: u32,
+    local: LocalId,
     out: &mut [u8],
     limit: usize,
     n: usize,
@@ -116,7 +117,7 @@ fn put_condition_use(
     requires { ⌜ WellFormed (now words) ⌝ }
     requires { ⌜ b .0 < blocks (now words) ⌝ }
     requires { ⌜ (limit ≤ length (now out)) × (n + 3 < 2 ^ 59) ⌝ }
-    ensures { λ r. ⌜ Puts limit n (conditionUses (now (words .entry)) local (b .0)) (now (out .entry)) (now (out .exit)) r ⌝ }
+    ensures { λ r. ⌜ Puts limit n (conditionUses (now (words .entry)) (local .0) (b .0)) (now (out .entry)) (now (out .exit)) r ⌝ }
 {
     if is_condition(words, b, local) {
         return put_triple(out, limit, n, b.0, 1, 0);
@@ -128,15 +129,15 @@ fn put_condition_use(
 fn put_output_uses(
     words: &[u32],
     b: BlockId,
-    local: u32,
+    local: LocalId,
     out: &mut [u8],
     limit: usize,
     n: usize,
 ) -> usize
     requires { ⌜ WellFormed (now words) ⌝ }
     requires { ⌜ b .0 < blocks (now words) ⌝ }
-    requires { ⌜ (limit ≤ length (now out)) × (n + length (outputUses (now words) local (b .0)) < 2 ^ 59) ⌝ }
-    ensures { λ r. ⌜ Puts limit n (outputUses (now (words .entry)) local (b .0)) (now (out .entry)) (now (out .exit)) r ⌝ }
+    requires { ⌜ (limit ≤ length (now out)) × (n + length (outputUses (now words) (local .0) (b .0)) < 2 ^ 59) ⌝ }
+    ensures { λ r. ⌜ Puts limit n (outputUses (now (words .entry)) (local .0) (b .0)) (now (out .entry)) (now (out .exit)) r ⌝ }
 {
     let outputs = block_outputs(words, b);
     let mut m = n;
@@ -145,7 +146,7 @@ fn put_output_uses(
         let v = outputs[k as usize];
         let place = k;
         k += 1;
-        if v == local {
+        if v == local.0 {
             m = put_triple(out, limit, m, b.0, 2, place);
         }
     }
@@ -157,15 +158,15 @@ fn put_block_uses(
     words: &[u32],
     counts: &[u32],
     b: BlockId,
-    local: u32,
+    local: LocalId,
     out: &mut [u8],
     limit: usize,
     n: usize,
 ) -> usize
     requires { ⌜ WellFormed (now words) ⌝ }
     requires { ⌜ (b .0 < blocks (now words)) × (length (now counts) ≡ 1024) ⌝ }
-    requires { ⌜ (limit ≤ length (now out)) × (n + 3 + length (blockUses (now words) (now counts) local (b .0)) < 2 ^ 59) ⌝ }
-    ensures { λ r. ⌜ Puts limit n (blockUses (now (words .entry)) (now (counts .entry)) local (b .0)) (now (out .entry)) (now (out .exit)) r ⌝ }
+    requires { ⌜ (limit ≤ length (now out)) × (n + 3 + length (blockUses (now words) (now counts) (local .0) (b .0)) < 2 ^ 59) ⌝ }
+    ensures { λ r. ⌜ Puts limit n (blockUses (now (words .entry)) (now (counts .entry)) (local .0) (b .0)) (now (out .entry)) (now (out .exit)) r ⌝ }
 {
     let m = put_operation_uses(words, counts, b, out, limit, n);
     let k = put_condition_use(words, b, local, out, limit, m);
@@ -177,14 +178,14 @@ pub fn put_uses(
     words: &[u32],
     rpo: &[u32],
     counts: &[u32],
-    local: u32,
+    local: LocalId,
     out: &mut [u8],
     limit: usize,
 ) -> usize
     requires { ⌜ WellFormed (now words) ⌝ }
     requires { ⌜ (now rpo ≡ blocksRpo (now words)) × (length (now counts) ≡ 1024) ⌝ }
-    requires { ⌜ (limit ≤ length (now out)) × (3 + length (usesOf (now words) (now counts) local) < 2 ^ 59) ⌝ }
-    ensures { λ r. ⌜ Puts limit 0 (usesOf (now (words .entry)) (now (counts .entry)) local) (now (out .entry)) (now (out .exit)) r ⌝ }
+    requires { ⌜ (limit ≤ length (now out)) × (3 + length (usesOf (now words) (now counts) (local .0)) < 2 ^ 59) ⌝ }
+    ensures { λ r. ⌜ Puts limit 0 (usesOf (now (words .entry)) (now (counts .entry)) (local .0)) (now (out .entry)) (now (out .exit)) r ⌝ }
 {
     let mut m: usize = 0;
     let mut i: usize = 0;

@@ -23,7 +23,7 @@ ghost use Rattle.sir_data.specs.WellFormed.{WellFormed};
 ghost use Rattle.sir_analyses.specs.Order.{blocksRpo};
 ghost use Rattle.sir_analyses.specs.Liveness.{settled};
 ghost use Rattle.sir_analyses.specs.Answers.{entryAnswer, intervalsAnswer, made, answered};
-ghost use Rattle.sir_analyses.specs.Questions.{liveCount, liveWords};
+ghost use Rattle.sir_analyses.specs.Questions.{liveId, liveCount, liveWords};
 ghost use Rattle.sir_analyses.specs.Visiting.{SeenBlocks};
 ghost use Rattle.sir_analyses.specs.Tables.{OperandRows, SameRows, LiveRows};
 
@@ -88,11 +88,11 @@ fn intervals_answer(
     }
 }
 
-// What is asked of liveness; the id of the block or local goes beside it.
+// What is asked of liveness.
 pub enum LiveQuestion {
-    EntrySet,
-    ExitSet,
-    Intervals,
+    EntrySet(BlockId),
+    ExitSet(BlockId),
+    Intervals(LocalId),
     Rounds,
 }
 
@@ -102,13 +102,12 @@ pub fn live_answer(
     seen: &[u64],
     rpo: &[u32],
     question: LiveQuestion,
-    id: u32,
     out: &mut [u8],
 ) -> Answer
     requires { ⌜ WellFormed (now words) ⌝ }
     requires { ⌜ SeenBlocks (now words) (now seen) × (now rpo ≡ blocksRpo (now words)) ⌝ }
-    requires { ⌜ id < liveCount question (now words) ⌝ }
-    ensures { λ r. ⌜ made (r .number) (r .length) (now (out .exit)) ≡ answered (bind (liveWords question (now (words .entry)) id) bytesOf) (now (out .entry)) ⌝ }
+    requires { ⌜ liveId question < liveCount question (now words) ⌝ }
+    ensures { λ r. ⌜ made (r .number) (r .length) (now (out .exit)) ≡ answered (bind (liveWords question (now (words .entry)) (liveId question)) bytesOf) (now (out .entry)) ⌝ }
 {
     let mut reads = [0u64; 8192];
     let mut writes = [0u64; 8192];
@@ -127,12 +126,10 @@ pub fn live_answer(
         &mut exits,
     );
     match question {
-        LiveQuestion::EntrySet => {
-            entry_answer(words, seen, &uses, &defs, &exits, BlockId(id), out)
-        }
-        LiveQuestion::ExitSet => set_answer(row_of(&exits, id as usize), out),
-        LiveQuestion::Intervals => {
-            intervals_answer(words, rpo, &reads, &writes, &exits, LocalId(id), out)
+        LiveQuestion::EntrySet(b) => entry_answer(words, seen, &uses, &defs, &exits, b, out),
+        LiveQuestion::ExitSet(b) => set_answer(row_of(&exits, b.0 as usize), out),
+        LiveQuestion::Intervals(v) => {
+            intervals_answer(words, rpo, &reads, &writes, &exits, v, out)
         }
         LiveQuestion::Rounds => words_answer(&[done], out),
     }

@@ -7,6 +7,7 @@ use crate::def_use::put_uses;
 use crate::predecessors::put_predecessors;
 use crate::reverse_post_order::order_words;
 use plank_core::index::BlockId;
+use plank_core::index::LocalId;
 ghost use mathlib.Core.Path.{_≡_};
 ghost use Prim.Native.Nat.{_≤_};
 ghost use lib.ListN.{length};
@@ -28,17 +29,17 @@ pub fn order_answer(post: &[u32], out: &mut [u8]) -> Answer
 }
 
 // Predecessors: counts, then writes.
-pub fn predecessors_answer(words: &[u32], seen: &[u64], block: u32, out: &mut [u8]) -> Answer
+pub fn predecessors_answer(words: &[u32], seen: &[u64], b: BlockId, out: &mut [u8]) -> Answer
     requires { ⌜ WellFormed (now words) ⌝ }
     requires { ⌜ SeenBlocks (now words) (now seen) ⌝ }
-    ensures { λ r. ⌜ made (r .number) (r .length) (now (out .exit)) ≡ answered (bind (predecessorsAnswer (now (words .entry)) block) bytesOf) (now (out .entry)) ⌝ }
+    ensures { λ r. ⌜ made (r .number) (r .length) (now (out .exit)) ≡ answered (bind (predecessorsAnswer (now (words .entry)) (b .0)) bytesOf) (now (out .entry)) ⌝ }
 {
-    let n = put_predecessors(words, seen, BlockId(block), out, 0);
+    let n = put_predecessors(words, seen, b, out, 0);
     if out.len() < 4 * n {
         return refuse(14);
     }
     let room = out.len();
-    put_predecessors(words, seen, BlockId(block), out, room);
+    put_predecessors(words, seen, b, out, room);
     Answer {
         number: 0,
         length: (4 * n) as u64,
@@ -46,19 +47,19 @@ pub fn predecessors_answer(words: &[u32], seen: &[u64], block: u32, out: &mut [u
 }
 
 // Uses: counts, then writes.
-pub fn uses_answer(words: &[u32], rpo: &[u32], local: u32, out: &mut [u8]) -> Answer
+pub fn uses_answer(words: &[u32], rpo: &[u32], v: LocalId, out: &mut [u8]) -> Answer
     requires { ⌜ WellFormed (now words) ⌝ }
     requires { ⌜ now rpo ≡ blocksRpo (now words) ⌝ }
-    ensures { λ r. ⌜ made (r .number) (r .length) (now (out .exit)) ≡ answered (bind (usesAnswer (now (words .entry)) local) bytesOf) (now (out .entry)) ⌝ }
+    ensures { λ r. ⌜ made (r .number) (r .length) (now (out .exit)) ≡ answered (bind (usesAnswer (now (words .entry)) (v .0)) bytesOf) (now (out .entry)) ⌝ }
 {
     let mut counts = [0u32; 1024];
-    input_counts(words, local, &mut counts);
-    let n = put_uses(words, rpo, &counts, local, out, 0);
+    input_counts(words, v, &mut counts);
+    let n = put_uses(words, rpo, &counts, v, out, 0);
     if out.len() < 4 * n {
         return refuse(14);
     }
     let room = out.len();
-    put_uses(words, rpo, &counts, local, out, room);
+    put_uses(words, rpo, &counts, v, out, room);
     Answer {
         number: 0,
         length: (4 * n) as u64,

@@ -69,27 +69,26 @@ fn block_answer(
     requires { ⌜ Ready (now words) (now seen) (now rpo) ⌝ }
     ensures { λ r. ⌜ made (r .number) (r .length) (now (out .exit)) ≡ asked (blocks (now (words .entry))) (blockWords question (now (words .entry))) (b .0) (now (out .entry)) ⌝ }
 {
-    let id = b.0;
-    if id >= block_count(words) {
+    if b.0 >= block_count(words) {
         return refuse(13);
     }
     match question {
-        BlockQuestion::Predecessors => predecessors_answer(words, seen, id, out),
-        BlockQuestion::EntrySet => live_answer(words, seen, rpo, LiveQuestion::EntrySet, id, out),
-        BlockQuestion::ExitSet => live_answer(words, seen, rpo, LiveQuestion::ExitSet, id, out),
+        BlockQuestion::Predecessors => predecessors_answer(words, seen, b, out),
+        BlockQuestion::EntrySet => live_answer(words, seen, rpo, LiveQuestion::EntrySet(b), out),
+        BlockQuestion::ExitSet => live_answer(words, seen, rpo, LiveQuestion::ExitSet(b), out),
     }
 }
 
 // The owner of a local.
-fn local_owner(words: &[u32], rpo: &[u32], local: u32, out: &mut [u8]) -> Answer
+fn local_owner(words: &[u32], rpo: &[u32], v: LocalId, out: &mut [u8]) -> Answer
     requires { ⌜ WellFormed (now words) ⌝ }
     requires { ⌜ (now rpo ≡ blocksRpo (now words)) × (rule12 (now words) ≡ false) × (length (allocKeys (now words)) ≤ 512) ⌝ }
-    requires { ⌜ local < locals (now words) ⌝ }
-    ensures { λ r. ⌜ made (r .number) (r .length) (now (out .exit)) ≡ answered (bind (ownerAnswer (now (words .entry)) local) bytesOf) (now (out .entry)) ⌝ }
+    requires { ⌜ v .0 < locals (now words) ⌝ }
+    ensures { λ r. ⌜ made (r .number) (r .length) (now (out .exit)) ≡ answered (bind (ownerAnswer (now (words .entry)) (v .0)) bytesOf) (now (out .entry)) ⌝ }
 {
     let mut keys = [0u32; 512];
     let count = find_allocations(words, rpo, &mut keys);
-    owner_answer(words, rpo, &keys[..count], local, out)
+    owner_answer(words, rpo, &keys[..count], v, out)
 }
 
 // 13 for an id that no local has, or the answer.
@@ -104,14 +103,13 @@ fn local_answer(
     requires { ⌜ Ready (now words) (now seen) (now rpo) ⌝ }
     ensures { λ r. ⌜ made (r .number) (r .length) (now (out .exit)) ≡ asked (locals (now (words .entry))) (localWords question (now (words .entry))) (v .0) (now (out .entry)) ⌝ }
 {
-    let id = v.0;
-    if id >= local_count(words) {
+    if v.0 >= local_count(words) {
         return refuse(13);
     }
     match question {
-        LocalQuestion::Uses => uses_answer(words, rpo, id, out),
-        LocalQuestion::Intervals => live_answer(words, seen, rpo, LiveQuestion::Intervals, id, out),
-        LocalQuestion::Owner => local_owner(words, rpo, id, out),
+        LocalQuestion::Uses => uses_answer(words, rpo, v, out),
+        LocalQuestion::Intervals => live_answer(words, seen, rpo, LiveQuestion::Intervals(v), out),
+        LocalQuestion::Owner => local_owner(words, rpo, v, out),
     }
 }
 
@@ -125,7 +123,7 @@ fn asked_allocation(words: &[u32], seen: &[u64], rpo: &[u32], a: AllocId, out: &
     if a.0 as usize >= count {
         return refuse(13);
     }
-    allocation_answer(words, seen, rpo, &keys[..count], a.0, out)
+    allocation_answer(words, seen, rpo, &keys[..count], a, out)
 }
 
 // The answer to a question from the words of an accepted image, the keys of its visit and the order's sequence.
@@ -143,7 +141,7 @@ fn answer(
 {
     match question {
         Question::Order => order_answer(post, out),
-        Question::Rounds => live_answer(words, seen, rpo, LiveQuestion::Rounds, 0, out),
+        Question::Rounds => live_answer(words, seen, rpo, LiveQuestion::Rounds, out),
         Question::OfBlock(q, b) => block_answer(words, seen, rpo, q, b, out),
         Question::OfLocal(q, v) => local_answer(words, seen, rpo, q, v, out),
         Question::Allocation(a) => asked_allocation(words, seen, rpo, a, out),

@@ -114,16 +114,16 @@ pub fn visit(words: &[u32], seen: &mut [u64], post: &mut [u32]) -> usize
 }
 
 // The blocks of function f, last finished first, behind the first `at` of `out`.
-fn function_blocks(keys: &[u32], f: u32, out: &mut [u32], at: usize) -> usize
-    requires { ⌜ (f < 256) × (at + length (blocksOf f (now keys)) ≤ length (now out)) ⌝ }
-    ensures { λ r. ⌜ Listed (blocksOf f (now (keys .entry))) at (now (out .entry)) (now (out .exit)) r ⌝ }
+fn function_blocks(keys: &[u32], f: FunctionId, out: &mut [u32], at: usize) -> usize
+    requires { ⌜ (f .0 < 256) × (at + length (blocksOf (f .0) (now keys)) ≤ length (now out)) ⌝ }
+    ensures { λ r. ⌜ Listed (blocksOf (f .0) (now (keys .entry))) at (now (out .entry)) (now (out .exit)) r ⌝ }
 {
     let mut m = at;
     let mut i = keys.len();
     while 0 < i {
         i -= 1;
         let key = keys[i];
-        if key / 256 == f + 1 {
+        if key / 256 == f.0 + 1 {
             out[m] = key % 256;
             m += 1;
         }
@@ -142,18 +142,18 @@ pub fn blocks_rpo(keys: &[u32], out: &mut [u32]) -> usize
         i -= 1;
         let key = keys[i];
         if key < 256 {
-            m = function_blocks(keys, key, out, m);
+            m = function_blocks(keys, FunctionId(key), out, m);
         }
     }
     m
 }
 
 // A function's id, its block count and its blocks, behind the first `at` of `out`.
-fn function_entry(keys: &[u32], f: u32, out: &mut [u32], at: usize) -> usize
-    requires { ⌜ (f < 256) × (at + 2 + length (blocksOf f (now keys)) ≤ length (now out)) × (length (now out) < 65536) ⌝ }
-    ensures { λ r. ⌜ Listed (entryOf f (now (keys .entry))) at (now (out .entry)) (now (out .exit)) r ⌝ }
+fn function_entry(keys: &[u32], f: FunctionId, out: &mut [u32], at: usize) -> usize
+    requires { ⌜ (f .0 < 256) × (at + 2 + length (blocksOf (f .0) (now keys)) ≤ length (now out)) × (length (now out) < 65536) ⌝ }
+    ensures { λ r. ⌜ Listed (entryOf (f .0) (now (keys .entry))) at (now (out .entry)) (now (out .exit)) r ⌝ }
 {
-    out[at] = f;
+    out[at] = f.0;
     let m = function_blocks(keys, f, out, at + 2);
     out[at + 1] = (m - at - 2) as u32;
     m
@@ -170,7 +170,7 @@ pub fn order_words(keys: &[u32], out: &mut [u32]) -> usize
         i -= 1;
         let key = keys[i];
         if key < 256 {
-            m = function_entry(keys, key, out, m);
+            m = function_entry(keys, FunctionId(key), out, m);
         }
     }
     m

@@ -17,11 +17,11 @@ read-full-requires c κs = search needs
 returns : tie.Need-returns
 returns c = search needs
 
-slice-aggregate-word : tie.Need-slice-aggregate-word
-slice-aggregate-word c = search needs
+slice-aggregate-word-at : tie.Need-slice-aggregate-word-at
+slice-aggregate-word-at c = search needs
 
-word-requires : tie.Need-word-requires
-word-requires c κs = search needs
+word-at-requires : tie.Need-word-at-requires
+word-at-requires c κs = search needs
 
 cast-room : tie.Need-cast-room
 cast-room c = search needs
@@ -69,8 +69,8 @@ agrees-spec =
     slice-aggregate-read-full
     read-full-requires
     returns
-    slice-aggregate-word
-    word-requires
+    slice-aggregate-word-at
+    word-at-requires
     cast-room
     returns-2
     slice-aggregate-read-part

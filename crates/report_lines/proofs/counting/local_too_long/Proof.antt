@@ -25,7 +25,10 @@ loop-holds : tie.Need-loop-holds Inv-loop μ-loop
 loop-holds c = (omega arith, refl, locals-start (c .before .before .before .before .before .before .before .before .args .words .now))
 
 put-intervals-requires : tie.Need-put-intervals-requires Inv-loop μ-loop
-put-intervals-requires c κs = (c .before .before .before .before .before .before .before .before .before .before .before .pre .0, (c .before .before .before .before .before .before .before .before .before .before .before .pre .1 .0, (c .before .before .before .before .before .before .before .before .before .before .before .pre .1 .1, (omega (arith, c .before .loop-test .taken, c .before .before .before .local-count .ensures), omega arith))))
+put-intervals-requires c κs =
+    let b3 = c .before .before .before in
+    let b11 = b3 .before .before .before .before .before .before .before .before in
+    (b11 .pre .0, (b11 .pre .1 .0, (b11 .pre .1 .1, (omega (arith, c .before .loop-test .taken, b3 .local-count .ensures), omega arith))))
 
 same-length : tie.Need-same-length Inv-loop μ-loop
 same-length c = omega (arith, c .before .before .before .put-intervals .kept, c .before .before .before .before .before .before .loop .inv .1)
@@ -43,10 +46,16 @@ loop-less : tie.Need-loop-less Inv-loop μ-loop
 loop-less c = omega arith
 
 loop-again : tie.Need-loop-again Inv-loop μ-loop
-loop-again c = let w = c .before .before .before .before .before .before .before .before .before .before .before .before .before .before .before .args .words .now in
-    let v = c .before .before .before .before .before .before .loop .v in
-    let l : v < locals w = omega (arith, c .before .before .before .before .before .loop-test .taken, c .before .before .before .before .before .before .before .local-count .ensures) in
-    (omega arith, omega (arith, c .before .before .before .put-intervals .kept, c .before .before .before .before .before .before .loop .inv .1), any-step (longLocal w) v (locals w) l (not-long (intervalsAnswer w v) (c .before .before .before .put-intervals .ensures .1) (c .if1 .left)) ∙ c .before .before .before .before .before .before .loop .inv .2)
+loop-again c =
+    let b3 = c .before .before .before in
+    let b5 = b3 .before .before in
+    let b6 = b5 .before in
+    let b7 = b6 .before in
+    let b15 = b7 .before .before .before .before .before .before .before .before in
+    let w = b15 .args .words .now in
+    let v = b6 .loop .v in
+    let l : v < locals w = omega (arith, b5 .loop-test .taken, b7 .local-count .ensures) in
+    (omega arith, omega (arith, b3 .put-intervals .kept, b6 .loop .inv .1), any-step (longLocal w) v (locals w) l (not-long (intervalsAnswer w v) (b3 .put-intervals .ensures .1) (c .if1 .left)) ∙ b6 .loop .inv .2)
 
 same-length-2 : tie.Need-same-length-2 Inv-loop μ-loop
 same-length-2 c = c .before .loop .inv .1

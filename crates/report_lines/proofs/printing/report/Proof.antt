@@ -1,9 +1,10 @@
 -- `report` meets its contract.
-use mathlib.Core.Path.{sym, _∙_}
+use mathlib.Core.Path.{sym, ap, _∙_}
 use native.Mathlib.Omega.{arith}
+use lib.ListN.{length}
 use lib.Seq.{length-take-le}
 use borrow.Author.Tests.{eq-eqb, ne-eqb}
-use Rattle.report_lines.specs.Counting.{someTooLong, reported}
+use Rattle.report_lines.specs.Counting.{reported}
 use Rattle.report_lines.proofs.TooLong.{take-most}
 use Rattle.sir_analyses.specs.Answers.{refusal}
 use borrow.Author.Needs.{needs}
@@ -33,33 +34,51 @@ say-refused-requires c κs = search needs
 
 returns : tie.Need-returns
 unfolding reported
-returns c = rw (ne-eqb (refusal (c .before .before .before .before .before .before .before .before .before .before .before .before .before .before .args .image .now)) 0 (λ z. c .before .before .before .if1 .taken (c .before .before .before .before .before .before .before .before .load .ensures .number-is ∙ z))) (c .before .before .before .before .before .before .before .before .load .ensures .number-is)
+returns c =
+    let b3 = c .before .before .before in
+    let b8 = b3 .before .before .before .before .before in
+    let b14 = b8 .before .before .before .before .before .before in
+    rw (ne-eqb (refusal (b14 .args .image .now)) 0 (λ z. b3 .if1 .taken (b8 .load .ensures .number-is ∙ z))) (b8 .load .ensures .number-is)
 
 array-share-prefix-words : tie.Need-array-share-prefix-words
 array-share-prefix-words c = let p = c .before .before .before .before .before .load .ensures .accepted (sym (c .before .before .before .before .before .load .ensures .number-is) ∙ c .if1 .left) in p .words-fit
 
 slice-aggregate-report-words : tie.Need-slice-aggregate-report-words
-slice-aggregate-report-words c = let p = c .before .before .before .before .before .before .load .ensures .accepted (sym (c .before .before .before .before .before .before .load .ensures .number-is) ∙ c .before .if1 .left) in sym (length-take-le _ _ (p .words-fit))
+slice-aggregate-report-words c =
+    let b6 = c .before .before .before .before .before .before in
+    let p = b6 .load .ensures .accepted (sym (b6 .load .ensures .number-is) ∙ c .before .if1 .left) in sym (length-take-le _ _ (p .words-fit))
 
 slice-aggregate-report-words-2 : tie.Need-slice-aggregate-report-words-2
 slice-aggregate-report-words-2 c = search needs
 
 array-share-prefix-rpo : tie.Need-array-share-prefix-rpo
-array-share-prefix-rpo c = let p = c .before .before .before .before .before .before .before .load .ensures .accepted (sym (c .before .before .before .before .before .before .before .load .ensures .number-is) ∙ c .before .before .if1 .left) in p .rpo-fit
+array-share-prefix-rpo c =
+    let b7 = c .before .before .before .before .before .before .before in
+    let p = b7 .load .ensures .accepted (sym (b7 .load .ensures .number-is) ∙ c .before .before .if1 .left) in p .rpo-fit
 
 slice-aggregate-report-words-3 : tie.Need-slice-aggregate-report-words-3
-slice-aggregate-report-words-3 c = let p = c .before .before .before .before .before .before .before .before .load .ensures .accepted (sym (c .before .before .before .before .before .before .before .before .load .ensures .number-is) ∙ c .before .before .before .if1 .left) in sym (length-take-le _ _ (p .rpo-fit))
+slice-aggregate-report-words-3 c =
+    let b3 = c .before .before .before in
+    let b8 = b3 .before .before .before .before .before in
+    let p = b8 .load .ensures .accepted (sym (b8 .load .ensures .number-is) ∙ b3 .if1 .left) in sym (length-take-le _ _ (p .rpo-fit))
 
 report-words-requires : tie.Need-report-words-requires
-report-words-requires c κs = let p = c .before .before .before .before .before .before .before .before .load .ensures .accepted (sym (c .before .before .before .before .before .before .before .before .load .ensures .number-is) ∙ c .before .before .before .if1 .left) in
+report-words-requires c κs =
+    let b3 = c .before .before .before in
+    let b8 = b3 .before .before .before .before .before in
+    let p = b8 .load .ensures .accepted (sym (b8 .load .ensures .number-is) ∙ b3 .if1 .left) in
     let r = p .ready in
-    (r .well-formed, ((r .seen-are, r .rpo-is, take-most _ 256 _ (p .rpo-fit) (omega (arith, p .rpo-fit))), (r .bases-differ, r .keys-few)))
+    (r .well-formed, ((r .seen-are, r .rpo-is, take-most _ 256 _ (p .rpo-fit) (omega (arith, p .rpo-fit)), omega (arith, ap length (p .order-is), p .order-fits)), (r .bases-differ, r .keys-few)))
 
 returns-2 : tie.Need-returns-2
-unfolding reported someTooLong
-returns-2 c = let z = sym (c .before .before .before .before .before .before .before .before .before .load .ensures .number-is) ∙ c .before .before .before .before .if1 .left in
-    let p = c .before .before .before .before .before .before .before .before .before .load .ensures .accepted z in
-    rw (eq-eqb (refusal (c .before .before .before .before .before .before .before .before .before .before .before .before .before .before .before .args .image .now)) 0 z) (rw (p .words-are) at (c .report-words .ensures))
+unfolding reported
+returns-2 c =
+    let b4 = c .before .before .before .before in
+    let b9 = b4 .before .before .before .before .before in
+    let b15 = b9 .before .before .before .before .before .before in
+    let z = sym (b9 .load .ensures .number-is) ∙ b4 .if1 .left in
+    let p = b9 .load .ensures .accepted z in
+    rw (eq-eqb (refusal (b15 .args .image .now)) 0 z) (rw (p .words-are) at (c .report-words .ensures))
 
 pub report-spec : {M : Type 1} → statement M
 report-spec =

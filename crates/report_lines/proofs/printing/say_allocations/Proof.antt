@@ -23,10 +23,13 @@ cast-t16 : tie.Need-cast-t16 Inv-loop μ-loop
 cast-t16 c = omega (arith, c .loop-test .taken, c .before .before .before .before .before .before .before .before .before .before .before .before .before .pre .1 .1 .1 .0 .1)
 
 allocation-text-requires : tie.Need-allocation-text-requires Inv-loop μ-loop
-allocation-text-requires c κs = let P = c .before .before .before .before .before .before .before .before .before .before .before .before .before .before .before .pre in
-    let w = c .before .before .before .before .before .before .before .before .before .before .before .before .before .before .before .args .words .now in
-    let l : c .before .before .before .loop .a < length (allocs w) = omega (arith, c .before .before .loop-test .taken, keys-long w, ap length (P .1 .1 .1 .0 .0)) in
-    (P .0, (P .1 .0, (P .1 .1 .0, ((P .1 .1 .1 .0 .0, P .1 .1 .1 .0 .1, c .before .before .loop-test .taken), (P .1 .1 .1 .1 .0, (allocation-short w (P .1 .1 .1 .1 .1 .0) l, (omega (arith, P .1 .1 .1 .1 .1 .1 .0, c .before .before .before .loop .inv .1), omega (arith, P .1 .1 .1 .1 .1 .1 .1, c .before .before .before .loop .inv .2))))))))
+allocation-text-requires c κs =
+    let b3 = c .before .before .before in
+    let b15 = b3 .before .before .before .before .before .before .before .before .before .before .before .before in
+    let P = b15 .pre in
+    let w = b15 .args .words .now in
+    let l : b3 .loop .a < length (allocs w) = omega (arith, c .before .before .loop-test .taken, keys-long w, ap length (P .1 .1 .1 .0 .0)) in
+    (P .0, (P .1 .0, (P .1 .1 .0, ((P .1 .1 .1 .0 .0, P .1 .1 .1 .0 .1, c .before .before .loop-test .taken), (P .1 .1 .1 .1 .0, (allocation-short w (P .1 .1 .1 .1 .1 .0) l, (omega (arith, P .1 .1 .1 .1 .1 .1 .0, b3 .loop .inv .1), omega (arith, P .1 .1 .1 .1 .1 .1 .1, b3 .loop .inv .2), P .1 .1 .1 .1 .1 .1 .2)))))))
 
 slice-reshare-prefix-say : tie.Need-slice-reshare-prefix-say Inv-loop μ-loop
 slice-reshare-prefix-say c = omega (arith, c .before .before .before .before .allocation-text .ensures .fits, c .before .before .before .before .allocation-text .ensures .long)
@@ -38,13 +41,19 @@ say-requires : tie.Need-say-requires Inv-loop μ-loop
 say-requires c κs = search needs
 
 add-a : tie.Need-add-a Inv-loop μ-loop
-add-a c = omega (arith, c .before .before .before .before .before .before .before .before .before .loop-test .taken, c .before .before .before .before .before .before .before .before .before .before .before .before .before .before .before .before .before .before .before .before .before .before .pre .1 .1 .1 .0 .1)
+add-a c =
+    let b9 = c .before .before .before .before .before .before .before .before .before in
+    let b22 = b9 .before .before .before .before .before .before .before .before .before .before .before .before .before in
+    omega (arith, b9 .loop-test .taken, b22 .pre .1 .1 .1 .0 .1)
 
 loop-less : tie.Need-loop-less Inv-loop μ-loop
 loop-less c = omega arith
 
 loop-again : tie.Need-loop-again Inv-loop μ-loop
-loop-again c = (omega arith, omega (arith, c .before .before .before .before .before .before .allocation-text .kept, c .before .before .before .before .before .before .before .before .before .before .loop .inv .1), c .before .before .before .before .before .before .allocation-text .ensures .long ∙ c .before .before .before .before .before .before .before .before .before .before .loop .inv .2)
+loop-again c =
+    let b6 = c .before .before .before .before .before .before in
+    let b10 = b6 .before .before .before .before in
+    (omega arith, omega (arith, b6 .allocation-text .kept, b10 .loop .inv .1), b6 .allocation-text .ensures .long ∙ b10 .loop .inv .2)
 
 same-length : tie.Need-same-length Inv-loop μ-loop
 same-length c = c .before .loop .inv .1

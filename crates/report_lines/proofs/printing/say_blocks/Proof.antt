@@ -22,7 +22,9 @@ loop-holds : tie.Need-loop-holds Inv-loop μ-loop
 loop-holds c = (omega arith, refl)
 
 row-contains-requires : tie.Need-row-contains-requires Inv-loop μ-loop
-row-contains-requires c κs = (omega (arith, c .before .before .before .before .before .before .before .before .before .pre .1 .0 .0 .wide), omega (arith, c .before .before .before .before .before .before .before .before .before .pre .0 .sized .blocks-most, c .before .before .block-count .ensures, c .loop-test .taken))
+row-contains-requires c κs =
+    let b9 = c .before .before .before .before .before .before .before .before .before in
+    (omega (arith, b9 .pre .1 .0 .0 .wide), omega (arith, b9 .pre .0 .sized .blocks-most, c .before .before .block-count .ensures, c .loop-test .taken))
 
 block-text-requires : tie.Need-block-text-requires Inv-loop μ-loop
 block-text-requires c κs = let P = c .before .before .before .before .before .before .before .before .before .before .before .before .pre in

@@ -23,9 +23,13 @@ loop-holds : tie.Need-loop-holds Inv-loop μ-loop
 loop-holds c = (omega arith, refl, refl)
 
 local-text-requires : tie.Need-local-text-requires Inv-loop μ-loop
-local-text-requires c κs = let P = c .before .before .before .before .before .before .before .before .before .before .before .before .before .pre in
-    let l : c .before .before .before .loop .v < locals (c .before .before .before .before .before .before .before .before .before .before .before .before .before .args .words .now) = omega (arith, c .before .before .before .before .local-count .ensures, c .before .before .loop-test .taken) in
-    (P .0, (P .1 .0, (P .1 .1 .0, ((l, local-short (c .before .before .before .before .before .before .before .before .before .before .before .before .before .args .words .now) (P .1 .1 .1 .0) l), (omega (arith, P .1 .1 .1 .1 .0, c .before .before .before .loop .inv .1), omega (arith, P .1 .1 .1 .1 .1, c .before .before .before .loop .inv .2))))))
+local-text-requires c κs =
+    let b3 = c .before .before .before in
+    let b4 = b3 .before in
+    let b13 = b4 .before .before .before .before .before .before .before .before .before in
+    let P = b13 .pre in
+    let l : b3 .loop .v < locals (b13 .args .words .now) = omega (arith, b4 .local-count .ensures, c .before .before .loop-test .taken) in
+    (P .0, (P .1 .0, (P .1 .1 .0, ((l, local-short (b13 .args .words .now) (P .1 .1 .1 .0) l), (omega (arith, P .1 .1 .1 .1 .0, b3 .loop .inv .1), omega (arith, P .1 .1 .1 .1 .1, b3 .loop .inv .2))))))
 
 slice-reshare-prefix-say : tie.Need-slice-reshare-prefix-say Inv-loop μ-loop
 slice-reshare-prefix-say c = omega (arith, c .before .before .before .before .local-text .ensures .fits, c .before .before .before .before .local-text .ensures .long)
@@ -43,7 +47,10 @@ loop-less : tie.Need-loop-less Inv-loop μ-loop
 loop-less c = omega arith
 
 loop-again : tie.Need-loop-again Inv-loop μ-loop
-loop-again c = (omega arith, omega (arith, c .before .before .before .before .before .before .local-text .kept, c .before .before .before .before .before .before .before .before .before .before .loop .inv .1), c .before .before .before .before .before .before .local-text .ensures .long ∙ c .before .before .before .before .before .before .before .before .before .before .loop .inv .2)
+loop-again c =
+    let b6 = c .before .before .before .before .before .before in
+    let b10 = b6 .before .before .before .before in
+    (omega arith, omega (arith, b6 .local-text .kept, b10 .loop .inv .1), b6 .local-text .ensures .long ∙ b10 .loop .inv .2)
 
 same-length : tie.Need-same-length Inv-loop μ-loop
 same-length c = c .before .loop .inv .1

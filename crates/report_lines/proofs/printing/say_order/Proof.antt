@@ -6,14 +6,14 @@ use borrow.Author.Needs.{needs}
 use Rattle.report_lines.proofs.printing.say_order.Statement.{statement}
 use Rattle.report_lines.proofs.printing.say_order.Tie as tie
 
-order-line-requires : tie.Need-order-line-requires
-order-line-requires c κs = search needs
+order-text-requires : tie.Need-order-text-requires
+order-text-requires c κs = search needs
 
 slice-reshare-prefix-say : tie.Need-slice-reshare-prefix-say
-slice-reshare-prefix-say c = omega (arith, c .before .before .order-line .ensures .fits, c .before .before .order-line .ensures .long)
+slice-reshare-prefix-say c = omega (arith, c .before .before .order-text .ensures .fits, c .before .before .order-text .ensures .long)
 
 slice-aggregate-say : tie.Need-slice-aggregate-say
-slice-aggregate-say c = sym (length-take-le _ _ (omega (arith, c .before .before .before .order-line .ensures .fits, c .before .before .before .order-line .ensures .long)))
+slice-aggregate-say c = sym (length-take-le _ _ (omega (arith, c .before .before .before .order-text .ensures .fits, c .before .before .before .order-text .ensures .long)))
 
 say-requires : tie.Need-say-requires
 say-requires c κs = search needs
@@ -28,7 +28,7 @@ pub say-order-spec : {M : Type 1} → statement M
 say-order-spec =
     tie.close
     (tie.spec
-    order-line-requires
+    order-text-requires
     slice-reshare-prefix-say
     slice-aggregate-say
     say-requires

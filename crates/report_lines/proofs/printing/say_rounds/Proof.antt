@@ -6,14 +6,14 @@ use borrow.Author.Needs.{needs}
 use Rattle.report_lines.proofs.printing.say_rounds.Statement.{statement}
 use Rattle.report_lines.proofs.printing.say_rounds.Tie as tie
 
-rounds-line-requires : tie.Need-rounds-line-requires
-rounds-line-requires c κs = search needs
+rounds-text-requires : tie.Need-rounds-text-requires
+rounds-text-requires c κs = search needs
 
 slice-reshare-prefix-say : tie.Need-slice-reshare-prefix-say
-slice-reshare-prefix-say c = omega (arith, c .before .before .rounds-line .ensures .fits, c .before .before .rounds-line .ensures .long)
+slice-reshare-prefix-say c = omega (arith, c .before .before .rounds-text .ensures .fits, c .before .before .rounds-text .ensures .long)
 
 slice-aggregate-say : tie.Need-slice-aggregate-say
-slice-aggregate-say c = sym (length-take-le _ _ (omega (arith, c .before .before .before .rounds-line .ensures .fits, c .before .before .before .rounds-line .ensures .long)))
+slice-aggregate-say c = sym (length-take-le _ _ (omega (arith, c .before .before .before .rounds-text .ensures .fits, c .before .before .before .rounds-text .ensures .long)))
 
 say-requires : tie.Need-say-requires
 say-requires c κs = search needs
@@ -28,7 +28,7 @@ pub say-rounds-spec : {M : Type 1} → statement M
 say-rounds-spec =
     tie.close
     (tie.spec
-    rounds-line-requires
+    rounds-text-requires
     slice-reshare-prefix-say
     slice-aggregate-say
     say-requires

@@ -6,14 +6,12 @@ use native.Mathlib.Omega.{arith}
 use lib.ListN.{length, getD, take, length-append}
 use lib.Seq.{take-all}
 use Rattle.plank_core.specs.Lists.{bind}
-use Rattle.report_lines.specs.Lines.{Put, named, number}
+use Rattle.report_lines.specs.Lines.{named, number}
+use Rattle.report_lines.specs.Putting.{Put}
 use Rattle.report_lines.proofs.Putting.{put-as, put-nothing, put-id}
 use Rattle.report_lines.proofs.Numbers.{number-short}
 use Rattle.report_lines.proofs.text.put_ids.Statement.{statement}
 use Rattle.report_lines.proofs.text.put_ids.Tie as tie
-use Rattle.report_lines.proofs.text.put_ids.Reads as reads
-use Rattle.report_lines.proofs.text.put_ids.Lts as lts
-use Rattle.report_lines.proofs.text.put_named.Reads as put-named-reads
 
 abbrev Inv-loop : tie.InvT-loop
 Inv-loop line₀ at name ids m₀ k₀ line m k = (k ≤ length ids) × (m ≤ at + 13 * k) × Put (bind (take k ids) (named name)) at line₀ line m
@@ -31,7 +29,10 @@ shared-slice-read-put-named : tie.Need-shared-slice-read-put-named Inv-loop μ-l
 shared-slice-read-put-named c = c .before .before .loop-test .taken
 
 put-named-requires : tie.Need-put-named-requires Inv-loop μ-loop
-put-named-requires c κs = (c .before .before .before .before .before .before .before .pre .0, omega (arith, c .before .before .before .before .before .before .before .pre .1, c .before .before .before .loop .inv .1, c .before .before .before .loop .inv .2 .long, c .before .before .loop-test .taken))
+put-named-requires c κs =
+    let b3 = c .before .before .before in
+    let b7 = b3 .before .before .before .before in
+    (b7 .pre .0, omega (arith, b7 .pre .1, b3 .loop .inv .1, b3 .loop .inv .2 .long, c .before .before .loop-test .taken))
 
 add-k : tie.Need-add-k Inv-loop μ-loop
 add-k c = omega arith
@@ -40,15 +41,22 @@ loop-less : tie.Need-loop-less Inv-loop μ-loop
 loop-less c = omega arith
 
 loop-again : tie.Need-loop-again Inv-loop μ-loop
-loop-again c = let L = c .before .before .before .before .before .before .loop in
+loop-again c =
+    let b3 = c .before .before .before in
+    let b5 = b3 .before .before in
+    let b6 = b5 .before in
+    let b10 = b6 .before .before .before .before in
+    let L = b6 .loop in
     let n = c .before .before .put-named .ensures in
-    (omega arith, omega (arith, c .before .before .before .before .before .before .before .before .before .before .pre .0, L .inv .1, n .next, length-append (c .before .before .before .before .before .before .before .before .before .before .args .name .now) (number (getD (c .before .before .before .before .before .before .before .before .before .before .args .ids .now) (c .before .before .before .before .before .before .loop .k) 0)), number-short (getD (c .before .before .before .before .before .before .before .before .before .before .args .ids .now) (c .before .before .before .before .before .before .loop .k) 0) (omega (arith, c .before .before .before .shared-slice-known3 .given (c .before .before .before .before .before .before .loop .k)))), put-id (named (c .before .before .before .before .before .before .before .before .before .before .args .name .now)) (c .before .before .before .before .before .before .before .before .before .before .args .ids .now) (c .before .before .before .before .before .loop-test .taken) (L .inv .2) n)
+    (omega arith, omega (arith, b10 .pre .0, L .inv .1, n .next, length-append (b10 .args .name .now) (number (getD (b10 .args .ids .now) (b6 .loop .k) 0)), number-short (getD (b10 .args .ids .now) (b6 .loop .k) 0) (omega (arith, b3 .shared-slice-known3 .given (b6 .loop .k)))), put-id (named (b10 .args .name .now)) (b10 .args .ids .now) (b5 .loop-test .taken) (L .inv .2) n)
 
 same-length : tie.Need-same-length Inv-loop μ-loop
 same-length c = c .before .loop .inv .2 .long
 
 returns : tie.Need-returns Inv-loop μ-loop
-returns c = put-as (ap (λ (l : List ℕ). bind l (named (c .before .before .before .before .before .args .name .now))) (take-all (c .before .loop .k) (c .before .before .before .before .before .args .ids .now) (c .loop-test .left))) (c .before .loop .inv .2)
+returns c =
+    let b5 = c .before .before .before .before .before in
+    put-as (ap (λ (l : List ℕ). bind l (named (b5 .args .name .now))) (take-all (c .before .loop .k) (b5 .args .ids .now) (c .loop-test .left))) (c .before .loop .inv .2)
 
 pub put-ids-spec : {M : Type 1} → statement M
 put-ids-spec =

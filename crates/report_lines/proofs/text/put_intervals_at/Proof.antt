@@ -2,7 +2,7 @@
 use mathlib.Core.Path.{_≡_, ap}
 use Prim.Native.Nat.{ℕ, _+_, _-_, _*_, _≤_}
 use native.Mathlib.Omega.{arith}
-use Rattle.report_lines.specs.Lines.{Put, intervalAt}
+use Rattle.report_lines.specs.Putting.{Put, intervalAt}
 use Rattle.report_lines.proofs.Putting.{put-as, put-nothing, put-item}
 use Rattle.plank_core.specs.Lists.{bind, upto}
 use Rattle.report_lines.proofs.Intervals.{interval-at-short}
@@ -25,7 +25,9 @@ add-put-interval-at : tie.Need-add-put-interval-at Inv-loop μ-loop
 add-put-interval-at c = omega (arith, c .before .before .before .before .before .pre .1, c .before .loop-test .taken)
 
 put-interval-at-requires : tie.Need-put-interval-at-requires Inv-loop μ-loop
-put-interval-at-requires c κs = (omega (arith, c .before .before .before .before .before .pre .0, c .before .before .loop .inv .1, c .before .before .loop .inv .2 .long, c .before .loop-test .taken), omega (arith, c .before .before .before .before .before .pre .1, c .before .loop-test .taken))
+put-interval-at-requires c κs =
+    let b5 = c .before .before .before .before .before in
+    (omega (arith, b5 .pre .0, c .before .before .loop .inv .1, c .before .before .loop .inv .2 .long, c .before .loop-test .taken), omega (arith, b5 .pre .1, c .before .loop-test .taken), b5 .pre .2 (c .before .before .loop .k) (c .before .loop-test .taken))
 
 add-k : tie.Need-add-k Inv-loop μ-loop
 add-k c = omega arith
@@ -34,9 +36,13 @@ loop-less : tie.Need-loop-less Inv-loop μ-loop
 loop-less c = omega arith
 
 loop-again : tie.Need-loop-again Inv-loop μ-loop
-loop-again c = let L = c .before .before .before .before .before .loop in
+loop-again c =
+    let b5 = c .before .before .before .before .before in
+    let b6 = b5 .before in
+    let b8 = b6 .before .before in
+    let L = b5 .loop in
     let n = c .before .before .put-interval-at .ensures in
-    (omega arith, omega (arith, L .inv .1, n .next, interval-at-short (c .before .before .before .before .before .before .before .before .args .answer .now) (c .before .before .before .before .before .before .before .before .args .first + 3 * L .k) (λ i. omega (arith, c .before .before .before .before .before .before .shared-slice-known .given i))), put-item (λ k. intervalAt (c .before .before .before .before .before .before .before .before .args .answer .now) (c .before .before .before .before .before .before .before .before .args .first + 3 * k)) (L .inv .2) n)
+    (omega arith, omega (arith, L .inv .1, n .next, interval-at-short (b8 .args .answer .now) (b8 .args .first + 3 * L .k) (λ i. omega (arith, b6 .shared-slice-known .given i))), put-item (λ k. intervalAt (b8 .args .answer .now) (b8 .args .first + 3 * k)) (L .inv .2) n)
 
 same-length : tie.Need-same-length Inv-loop μ-loop
 same-length c = c .before .loop .inv .2 .long

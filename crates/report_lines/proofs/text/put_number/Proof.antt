@@ -18,7 +18,9 @@ slice-aggregate-put-text : tie.Need-slice-aggregate-put-text
 slice-aggregate-put-text c = c .before .before .decimal .ensures .0 .1
 
 put-text-requires : tie.Need-put-text-requires
-put-text-requires c κs = let e = c .before .before .decimal .ensures .1 .1 ∙ decimal-is _ _ (c .before .before .decimal .ensures .1 .0) in omega (arith, c .before .before .before .before .before .pre, ap length e, number-short (c .before .before .before .before .before .args .n) (omega (arith, c .before .before .before .before .before .fits)))
+put-text-requires c κs =
+    let b5 = c .before .before .before .before .before in
+    let e = c .before .before .decimal .ensures .1 .1 ∙ decimal-is _ _ (c .before .before .decimal .ensures .1 .0) in omega (arith, b5 .pre, ap length e, number-short (b5 .args .n) (omega (arith, b5 .fits)))
 
 same-length : tie.Need-same-length
 same-length c = search needs

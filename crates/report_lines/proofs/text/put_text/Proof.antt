@@ -31,7 +31,9 @@ loop-less : tie.Need-loop-less Inv-loop μ-loop
 loop-less c = omega arith
 
 loop-again : tie.Need-loop-again Inv-loop μ-loop
-loop-again c = copied-more (c .before .before .before .args .text .now) (c .before .before .before .args .at) (c .before .before .before .args .line .now) (c .before .before .before .pre) (c .before .loop-test .taken) (c .before .before .loop .inv)
+loop-again c =
+    let b3 = c .before .before .before in
+    copied-more (b3 .args .text .now) (b3 .args .at) (b3 .args .line .now) (b3 .pre) (c .before .loop-test .taken) (c .before .before .loop .inv)
 
 add-result : tie.Need-add-result Inv-loop μ-loop
 add-result c = omega (arith, c .before .before .pre, c .before .loop .inv .some)

@@ -39,6 +39,9 @@ slice-aggregate-discover-allocations-4 c = search needs
 discover-allocations-requires : tie.Need-discover-allocations-requires
 discover-allocations-requires c κs = search needs
 
+cast-t24 : tie.Need-cast-t24
+cast-t24 c = search needs
+
 mul-t25 : tie.Need-mul-t25
 mul-t25 c = search needs
 
@@ -55,7 +58,7 @@ same-length : tie.Need-same-length
 same-length c = search needs
 
 returns : tie.Need-returns
-returns c = c .before .before .words-answer .ensures ∙ ap (λ (v : ℕ). answered (bind (v ∷ []) bytesOf) (c .before .before .before .before .before .before .before .before .before .before .before .before .before .before .before .before .before .before .before .before .before .args .out .now)) (c .before .before .before .before .before .before .before .discover-allocations .ensures .owner-is (c .before .before .before .before .before .before .before .before .before .before .before .before .before .before .before .before .before .before .before .before .before .args .local) (c .before .before .before .before .before .before .before .before .before .before .before .before .before .before .before .before .before .before .before .before .before .pre .1 .1 .2))
+returns c = c .before .before .words-answer .ensures ∙ ap (λ (v : ℕ). answered (bind (v ∷ []) bytesOf) (c .before .before .before .before .before .before .before .before .before .before .before .before .before .before .before .before .before .before .before .before .before .before .args .out .now)) (c .before .before .before .before .before .before .before .before .discover-allocations .ensures .owner-is (c .before .before .before .before .before .before .before .before .before .before .before .before .before .before .before .before .before .before .before .before .before .before .args .v .0) (c .before .before .before .before .before .before .before .before .before .before .before .before .before .before .before .before .before .before .before .before .before .before .pre .1 .1 .2))
 
 pub owner-answer-spec : {M : Type 1} → statement M
 owner-answer-spec =
@@ -69,6 +72,7 @@ owner-answer-spec =
     slice-aggregate-discover-allocations-3
     slice-aggregate-discover-allocations-4
     discover-allocations-requires
+    cast-t24
     mul-t25
     array-read-t28
     slice-aggregate-words-answer

@@ -14,7 +14,7 @@ use Rattle.sir_analyses.proofs.def_use.input_counts.Statement.{statemen
 use Rattle.sir_analyses.proofs.def_use.input_counts.Tie as tie
 
 abbrev Inv-loop : tie.InvT-loop
-Inv-loop words local counts₀ last o₀ counts o = (o ≤ last) × (length counts ≡ 1024) × ((p : ℕ) → p < o → getD counts p 0 ≡ length (positions local (ins words p) 0))
+Inv-loop words local counts₀ last o₀ counts o = (o ≤ last) × (length counts ≡ 1024) × ((p : ℕ) → p < o → getD counts p 0 ≡ length (positions (local .0) (ins words p) 0))
 
 abbrev μ-loop : tie.MeasureT-loop
 μ-loop words local counts₀ last o₀ counts o = last - o
@@ -73,10 +73,10 @@ loop-again c = let S = c .before .before .before .before .before .before .before
     let L = c .before .before .before .loop in
     let h : L .o < operations (S .args .words .now) = omega (arith, c .before .before .before .before .operation-count .ensures, c .before .before .loop-test .taken) in
     let m = S .pre .0 .sized .operations-most in
-    let e = c .count-local .ensures ∙ ap (λ (l : List ℕ). length (positions (S .args .local) l 0)) (c .before .op-inputs .ensures) in (
+    let e = c .count-local .ensures ∙ ap (λ (l : List ℕ). length (positions (S .args .local .0) l 0)) (c .before .op-inputs .ensures) in (
       omega arith,
       length-set (L .counts) (L .o) _ ∙ L .inv .1,
-      below-next (λ p. getD (set (L .counts) (L .o) (c .count-local .result)) p 0 ≡ length (positions (S .args .local) (ins (S .args .words .now) p) 0)) (L .o)
+      below-next (λ p. getD (set (L .counts) (L .o) (c .count-local .result)) p 0 ≡ length (positions (S .args .local .0) (ins (S .args .words .now) p) 0)) (L .o)
           (λ p q. getD-set-other (L .counts) (L .o) p _ 0 (λ (y : p ≡ L .o). omega arith) ∙ L .inv .2 p q)
           (getD-set-same (L .counts) (L .o) _ 0 (omega (arith, L .inv .1)) ∙ e),
     )

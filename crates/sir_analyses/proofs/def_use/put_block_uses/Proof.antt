@@ -15,9 +15,9 @@ put-operation-uses-requires c κs = let S = c .before .before .before .before in
     let w = S .args .words .now in
     let b = S .args .b .0 in
     let o = operationUses w (S .args .counts .now) b in
-    let d = conditionUses w (S .args .local) b in
-    let t = outputUses w (S .args .local) b in
-    let l : length (blockUses w (S .args .counts .now) (S .args .local) b) ≡ length o + length d + length t = length-append (o ++ d) t ∙ ap (λ (x : ℕ). x + length t) (length-append o d) in
+    let d = conditionUses w (S .args .local .0) b in
+    let t = outputUses w (S .args .local .0) b in
+    let l : length (blockUses w (S .args .counts .now) (S .args .local .0) b) ≡ length o + length d + length t = length-append (o ++ d) t ∙ ap (λ (x : ℕ). x + length t) (length-append o d) in
     (S .pre .0, (S .pre .1 .0, (S .pre .1 .1 .0, omega (arith, S .pre .1 .1 .1, l))))
 
 put-condition-use-requires : tie.Need-put-condition-use-requires
@@ -25,9 +25,9 @@ put-condition-use-requires c κs = let S = c .before .before .before .before .be
     let w = S .args .words .now in
     let b = S .args .b .0 in
     let o = operationUses w (S .args .counts .now) b in
-    let d = conditionUses w (S .args .local) b in
-    let t = outputUses w (S .args .local) b in
-    let l : length (blockUses w (S .args .counts .now) (S .args .local) b) ≡ length o + length d + length t = length-append (o ++ d) t ∙ ap (λ (x : ℕ). x + length t) (length-append o d) in
+    let d = conditionUses w (S .args .local .0) b in
+    let t = outputUses w (S .args .local .0) b in
+    let l : length (blockUses w (S .args .counts .now) (S .args .local .0) b) ≡ length o + length d + length t = length-append (o ++ d) t ∙ ap (λ (x : ℕ). x + length t) (length-append o d) in
     (S .pre .0, (S .pre .1 .0 .0, (omega (arith, S .pre .1 .1 .0, c .before .before .before .put-operation-uses .kept), omega (arith, S .pre .1 .1 .1, l, c .before .before .before .put-operation-uses .ensures .next))))
 
 put-output-uses-requires : tie.Need-put-output-uses-requires
@@ -35,9 +35,9 @@ put-output-uses-requires c κs = let S = c .before .before .before .before .befo
     let w = S .args .words .now in
     let b = S .args .b .0 in
     let o = operationUses w (S .args .counts .now) b in
-    let d = conditionUses w (S .args .local) b in
-    let t = outputUses w (S .args .local) b in
-    let l : length (blockUses w (S .args .counts .now) (S .args .local) b) ≡ length o + length d + length t = length-append (o ++ d) t ∙ ap (λ (x : ℕ). x + length t) (length-append o d) in
+    let d = conditionUses w (S .args .local .0) b in
+    let t = outputUses w (S .args .local .0) b in
+    let l : length (blockUses w (S .args .counts .now) (S .args .local .0) b) ≡ length o + length d + length t = length-append (o ++ d) t ∙ ap (λ (x : ℕ). x + length t) (length-append o d) in
     (S .pre .0, (S .pre .1 .0 .0, (omega (arith, S .pre .1 .1 .0, c .before .before .before .before .before .before .before .put-operation-uses .kept, c .before .before .before .put-condition-use .kept), omega (arith, S .pre .1 .1 .1, l, c .before .before .before .before .before .before .before .put-operation-uses .ensures .next, c .before .before .before .put-condition-use .ensures .next))))
 
 same-length : tie.Need-same-length

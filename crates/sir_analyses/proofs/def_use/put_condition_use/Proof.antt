@@ -16,10 +16,10 @@ same-length : tie.Need-same-length
 same-length c = search needs
 
 returns : tie.Need-returns
-returns c = let S = c .before .before .before .before .before .before .before .before in puts-as (sym (condition-use (S .args .words .now) (S .args .local) (S .args .b .0) (sym (c .before .before .before .before .before .is-condition .ensures) ∙ c .before .before .before .before .if1 .taken))) (c .before .before .put-triple .ensures)
+returns c = let S = c .before .before .before .before .before .before .before .before in puts-as (sym (condition-use (S .args .words .now) (S .args .local .0) (S .args .b .0) (sym (c .before .before .before .before .before .is-condition .ensures) ∙ c .before .before .before .before .if1 .taken))) (c .before .before .put-triple .ensures)
 
 returns-2 : tie.Need-returns-2
-returns-2 c = let S = c .before .before .before .before in puts-as (sym (no-condition-use (S .args .words .now) (S .args .local) (S .args .b .0) (sym (c .before .is-condition .ensures) ∙ c .if1 .left))) puts-nothing
+returns-2 c = let S = c .before .before .before .before in puts-as (sym (no-condition-use (S .args .words .now) (S .args .local .0) (S .args .b .0) (sym (c .before .is-condition .ensures) ∙ c .if1 .left))) puts-nothing
 
 pub put-condition-use-spec : {M : Type 1} → statement M
 put-condition-use-spec =

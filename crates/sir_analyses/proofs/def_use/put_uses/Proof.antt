@@ -14,13 +14,13 @@ use Rattle.sir_analyses.proofs.def_use.put_uses.Statement.{statement}
 use Rattle.sir_analyses.proofs.def_use.put_uses.Tie as tie
 
 abbrev Inv-loop : tie.InvT-loop
-Inv-loop words rpo counts local out₀ limit m₀ i₀ out m i = (i ≤ length rpo) × Putting limit 0 (usesOf words counts local) out₀ (bind (drop i rpo) (blockUses words counts local)) out m
+Inv-loop words rpo counts local out₀ limit m₀ i₀ out m i = (i ≤ length rpo) × Putting limit 0 (usesOf words counts (local .0)) out₀ (bind (drop i rpo) (blockUses words counts (local .0))) out m
 
 abbrev μ-loop : tie.MeasureT-loop
 μ-loop words rpo counts local out₀ limit m₀ i₀ out m i = length rpo - i
 
 loop-holds : tie.Need-loop-holds Inv-loop μ-loop
-loop-holds c = let S = c .before .before .before .before in (omega arith, putting-as (ap (λ (l : List ℕ). bind l (blockUses (S .args .words .now) (S .args .counts .now) (S .args .local))) (sym (S .pre .1 .0 .0))) putting-none)
+loop-holds c = let S = c .before .before .before .before in (omega arith, putting-as (ap (λ (l : List ℕ). bind l (blockUses (S .args .words .now) (S .args .counts .now) (S .args .local .0))) (sym (S .pre .1 .0 .0))) putting-none)
 
 mul-t9 : tie.Need-mul-t9 Inv-loop μ-loop
 mul-t9 c = omega arith
@@ -33,7 +33,7 @@ put-block-uses-requires c κs = let S = c .before .before .before .before .befor
     let L = c .before .before .before .loop in
     let w = S .args .words .now in
     let rpo = S .args .rpo .now in
-    let g = blockUses w (S .args .counts .now) (S .args .local) in
+    let g = blockUses w (S .args .counts .now) (S .args .local .0) in
     let e = block-next g rpo (L .i) (c .before .before .loop-test .taken) in
     let q = putting-count (g (getD rpo (L .i) 0)) (bind (drop (L .i + 1) rpo) g) {k = 2 ^ 59 - 3} (omega (arith, S .pre .1 .1 .1)) (putting-as e (L .inv .1)) in
     (S .pre .0, ((rpo-below w (S .pre .0) (S .pre .1 .0 .0) (getD rpo (L .i) 0) (getD-mem rpo (L .i) 0 (c .before .before .loop-test .taken)), S .pre .1 .0 .1), (omega (arith, S .pre .1 .1 .0, L .inv .1 .long), omega (arith, q))))
@@ -49,7 +49,7 @@ loop-again c = let S = c .before .before .before .before .before .before .before
     let L = c .before .before .before .before .before .before .loop in
     let w = S .args .words .now in
     let rpo = S .args .rpo .now in
-    let g = blockUses w (S .args .counts .now) (S .args .local) in
+    let g = blockUses w (S .args .counts .now) (S .args .local .0) in
     let e = block-next g rpo (L .i) (c .before .before .before .before .before .loop-test .taken) in
     (omega arith, putting-more (S .pre .1 .1 .0) (putting-as e (L .inv .1)) (c .before .before .put-block-uses .ensures))
 
@@ -57,7 +57,7 @@ same-length : tie.Need-same-length Inv-loop μ-loop
 same-length c = c .before .loop .inv .1 .long
 
 returns : tie.Need-returns Inv-loop μ-loop
-returns c = let S = c .before .before .before .before .before .before in putting-all (block-end (blockUses (S .args .words .now) (S .args .counts .now) (S .args .local)) (S .args .rpo .now) (c .before .loop .i) (c .loop-test .left)) (c .before .loop .inv .1)
+returns c = let S = c .before .before .before .before .before .before in putting-all (block-end (blockUses (S .args .words .now) (S .args .counts .now) (S .args .local .0)) (S .args .rpo .now) (c .before .loop .i) (c .loop-test .left)) (c .before .loop .inv .1)
 
 pub put-uses-spec : {M : Type 1} → statement M
 put-uses-spec =

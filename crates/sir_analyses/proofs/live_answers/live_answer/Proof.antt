@@ -5,9 +5,8 @@ use Prim.Native.Nat.{ℕ, _<_}
 use native.Mathlib.Omega.{arith}
 use Rattle.plank_core.specs.Lists.{bind}
 use Rattle.sir_data.specs.Pages.{bytesOf}
-use Rattle.sir_data.specs.Records.{blocks}
 use Rattle.sir_analyses.specs.Answers.{answered}
-use Rattle.sir_analyses.specs.Questions.{liveCount, liveWords}
+use Rattle.sir_analyses.specs.Questions.{liveId, liveCount, liveWords}
 use Rattle.sir_analyses.specs.declared.live_answers.LiveQuestion.{LiveQuestion}
 use Rattle.sir_analyses.proofs.SetAnswers.{row-answer}
 use borrow.Author.Needs.{needs}
@@ -41,8 +40,8 @@ slice-aggregate-live-sets-5 c = search needs
 live-sets-requires : tie.Need-live-sets-requires
 live-sets-requires c κs = (c .before .before .before .before .before .before .before .before .before .before .before .before .before .before .pre .0, (c .before .before .before .before .before .before .before .before .before .before .before .before .before .before .pre .1 .0, (c .before .before .before .before .before .before .before .operand-sets .ensures, (refl, refl, refl))))
 
-enum-told : tie.Need-enum-told
-enum-told c = search needs
+enum-known-question : tie.Need-enum-known-question
+enum-known-question c = search needs
 
 slice-aggregate-entry-answer : tie.Need-slice-aggregate-entry-answer
 slice-aggregate-entry-answer c = search needs
@@ -54,22 +53,25 @@ slice-aggregate-entry-answer-3 : tie.Need-slice-aggregate-entry-answer-3
 slice-aggregate-entry-answer-3 c = search needs
 
 entry-answer-requires : tie.Need-entry-answer-requires
-entry-answer-requires c κs = (c .before .before .before .before .before .before .before .before .before .before .before .before .before .before .before .before .before .before .before .before .before .before .before .before .pre .0, ((c .before .before .before .before .before .before .before .before .before .before .before .before .before .before .before .before .before .before .before .before .before .before .before .before .pre .1 .0 .0, c .before .before .before .before .before .before .before .before .before .live-sets .ensures .1), subst (λ (q : LiveQuestion). c .before .before .before .before .before .before .before .before .before .before .before .before .before .before .before .before .before .before .before .before .before .before .before .before .args .id < liveCount q (c .before .before .before .before .before .before .before .before .before .before .before .before .before .before .before .before .before .before .before .before .before .before .before .before .args .words .now)) (c .before .before .before .before .enum-told .given .1) (c .before .before .before .before .before .before .before .before .before .before .before .before .before .before .before .before .before .before .before .before .before .before .before .before .pre .1 .1)))
+entry-answer-requires c κs = (c .before .before .before .before .before .before .before .before .before .before .before .before .before .before .before .before .before .before .before .before .before .before .before .before .before .pre .0, ((c .before .before .before .before .before .before .before .before .before .before .before .before .before .before .before .before .before .before .before .before .before .before .before .before .before .pre .1 .0 .0, c .before .before .before .before .before .before .before .before .before .before .live-sets .ensures .1), subst (λ (q : LiveQuestion). liveId q < liveCount q (c .before .before .before .before .before .before .before .before .before .before .before .before .before .before .before .before .before .before .before .before .before .before .before .before .before .args .words .now)) (c .before .before .before .before .before .question .given .1) (c .before .before .before .before .before .before .before .before .before .before .before .before .before .before .before .before .before .before .before .before .before .before .before .before .before .pre .1 .1)))
 
-enum-told-2 : tie.Need-enum-told-2
-enum-told-2 c = search needs
+enum-known-question-2 : tie.Need-enum-known-question-2
+enum-known-question-2 c = search needs
 
 slice-aggregate-row-of : tie.Need-slice-aggregate-row-of
 slice-aggregate-row-of c = search needs
 
+cast-row-of : tie.Need-cast-row-of
+cast-row-of c = search needs
+
 row-of-requires : tie.Need-row-of-requires
-row-of-requires c κs = let l : c .before .before .before .before .before .before .before .before .before .before .before .before .before .before .before .before .before .before .before .before .before .args .id < blocks (c .before .before .before .before .before .before .before .before .before .before .before .before .before .before .before .before .before .before .before .before .before .args .words .now) = subst (λ (q : LiveQuestion). c .before .before .before .before .before .before .before .before .before .before .before .before .before .before .before .before .before .before .before .before .before .args .id < liveCount q (c .before .before .before .before .before .before .before .before .before .before .before .before .before .before .before .before .before .before .before .before .before .args .words .now)) (c .before .enum-told2 .given .1) (c .before .before .before .before .before .before .before .before .before .before .before .before .before .before .before .before .before .before .before .before .before .pre .1 .1) in omega (arith, l, c .before .before .before .before .before .before .live-sets .ensures .1 .exits-long, c .before .before .before .before .before .before .before .before .before .before .before .before .before .before .before .before .before .before .before .before .before .pre .0 .sized .blocks-most)
+row-of-requires c κs = let l = subst (λ (q : LiveQuestion). liveId q < liveCount q (c .before .before .before .before .before .before .before .before .before .before .before .before .before .before .before .before .before .before .before .before .before .before .before .args .words .now)) (c .before .before .before .question2 .given .1) (c .before .before .before .before .before .before .before .before .before .before .before .before .before .before .before .before .before .before .before .before .before .before .before .pre .1 .1) in omega (arith, l, c .before .before .before .before .before .before .before .before .live-sets .ensures .1 .exits-long, c .before .before .before .before .before .before .before .before .before .before .before .before .before .before .before .before .before .before .before .before .before .before .before .pre .0 .sized .blocks-most)
 
 set-answer-requires : tie.Need-set-answer-requires
-set-answer-requires c κs = row-answer (c .before .before .before .before .before .before .before .before .before .before .before .before .before .before .before .before .before .before .before .before .before .before .before .pre .0) (c .before .before .before .before .before .before .before .before .live-sets .ensures .1) (subst (λ (q : LiveQuestion). c .before .before .before .before .before .before .before .before .before .before .before .before .before .before .before .before .before .before .before .before .before .before .before .args .id < liveCount q (c .before .before .before .before .before .before .before .before .before .before .before .before .before .before .before .before .before .before .before .before .before .before .before .args .words .now)) (c .before .before .before .enum-told2 .given .1) (c .before .before .before .before .before .before .before .before .before .before .before .before .before .before .before .before .before .before .before .before .before .before .before .pre .1 .1)) (c .before .row-of .ensures) .0
+set-answer-requires c κs = row-answer (c .before .before .before .before .before .before .before .before .before .before .before .before .before .before .before .before .before .before .before .before .before .before .before .before .before .pre .0) (c .before .before .before .before .before .before .before .before .before .before .live-sets .ensures .1) (subst (λ (q : LiveQuestion). liveId q < liveCount q (c .before .before .before .before .before .before .before .before .before .before .before .before .before .before .before .before .before .before .before .before .before .before .before .before .before .args .words .now)) (c .before .before .before .before .before .question2 .given .1) (c .before .before .before .before .before .before .before .before .before .before .before .before .before .before .before .before .before .before .before .before .before .before .before .before .before .pre .1 .1)) (c .before .row-of .ensures) .0
 
-enum-told-3 : tie.Need-enum-told-3
-enum-told-3 c = search needs
+enum-known-question-3 : tie.Need-enum-known-question-3
+enum-known-question-3 c = search needs
 
 slice-aggregate-intervals-answer : tie.Need-slice-aggregate-intervals-answer
 slice-aggregate-intervals-answer c = search needs
@@ -81,10 +83,10 @@ slice-aggregate-intervals-answer-3 : tie.Need-slice-aggregate-intervals-answer-3
 slice-aggregate-intervals-answer-3 c = search needs
 
 intervals-answer-requires : tie.Need-intervals-answer-requires
-intervals-answer-requires c κs = (c .before .before .before .before .before .before .before .before .before .before .before .before .before .before .before .before .before .before .before .before .before .before .before .before .pre .0, ((c .before .before .before .before .before .before .before .before .before .before .before .before .before .before .before .before .before .before .before .before .before .before .before .before .pre .1 .0 .1, c .before .before .before .before .before .before .before .before .before .before .before .before .before .before .before .before .before .operand-sets .ensures), (c .before .before .before .before .before .before .before .before .before .live-sets .ensures .1 .exits-long, c .before .before .before .before .before .before .before .before .before .live-sets .ensures .1 .exit-rows, subst (λ (q : LiveQuestion). c .before .before .before .before .before .before .before .before .before .before .before .before .before .before .before .before .before .before .before .before .before .before .before .before .args .id < liveCount q (c .before .before .before .before .before .before .before .before .before .before .before .before .before .before .before .before .before .before .before .before .before .before .before .before .args .words .now)) (c .before .before .before .before .enum-told3 .given .1) (c .before .before .before .before .before .before .before .before .before .before .before .before .before .before .before .before .before .before .before .before .before .before .before .before .pre .1 .1))))
+intervals-answer-requires c κs = (c .before .before .before .before .before .before .before .before .before .before .before .before .before .before .before .before .before .before .before .before .before .before .before .before .before .pre .0, ((c .before .before .before .before .before .before .before .before .before .before .before .before .before .before .before .before .before .before .before .before .before .before .before .before .before .pre .1 .0 .1, c .before .before .before .before .before .before .before .before .before .before .before .before .before .before .before .before .before .before .operand-sets .ensures), (c .before .before .before .before .before .before .before .before .before .before .live-sets .ensures .1 .exits-long, c .before .before .before .before .before .before .before .before .before .before .live-sets .ensures .1 .exit-rows, subst (λ (q : LiveQuestion). liveId q < liveCount q (c .before .before .before .before .before .before .before .before .before .before .before .before .before .before .before .before .before .before .before .before .before .before .before .before .before .args .words .now)) (c .before .before .before .before .before .question3 .given .1) (c .before .before .before .before .before .before .before .before .before .before .before .before .before .before .before .before .before .before .before .before .before .before .before .before .before .pre .1 .1))))
 
-enum-told-4 : tie.Need-enum-told-4
-enum-told-4 c = search needs
+enum-told : tie.Need-enum-told
+enum-told c = search needs
 
 slice-aggregate-words-answer : tie.Need-slice-aggregate-words-answer
 slice-aggregate-words-answer c = search needs
@@ -96,25 +98,25 @@ same-length : tie.Need-same-length
 same-length c = search needs
 
 returns : tie.Need-returns
-returns c = c .before .before .entry-answer .ensures ∙ ap (λ (q : LiveQuestion). answered (bind (liveWords q (c .before .before .before .before .before .before .before .before .before .before .before .before .before .before .before .before .before .before .before .before .before .before .before .before .before .before .before .args .words .now) (c .before .before .before .before .before .before .before .before .before .before .before .before .before .before .before .before .before .before .before .before .before .before .before .before .before .before .before .args .id)) bytesOf) (c .before .before .before .before .before .before .before .before .before .before .before .before .before .before .before .before .before .before .before .before .before .before .before .before .before .before .before .args .out .now)) (sym (c .before .before .before .before .before .before .before .enum-told .given .1))
+returns c = c .before .before .entry-answer .ensures ∙ ap (λ (q : LiveQuestion). answered (bind (liveWords q (c .before .before .before .before .before .before .before .before .before .before .before .before .before .before .before .before .before .before .before .before .before .before .before .before .before .before .before .before .args .words .now) (liveId q)) bytesOf) (c .before .before .before .before .before .before .before .before .before .before .before .before .before .before .before .before .before .before .before .before .before .before .before .before .before .before .before .before .args .out .now)) (sym (c .before .before .before .before .before .before .before .before .question .given .1))
 
 same-length-2 : tie.Need-same-length-2
 same-length-2 c = search needs
 
 returns-2 : tie.Need-returns-2
-returns-2 c = c .before .before .set-answer .ensures ∙ ap (λ (l : List ℕ). answered (bind l bytesOf) (c .before .before .before .before .before .before .before .before .before .before .before .before .before .before .before .before .before .before .before .before .before .before .before .before .before .before .args .out .now)) (row-answer (c .before .before .before .before .before .before .before .before .before .before .before .before .before .before .before .before .before .before .before .before .before .before .before .before .before .before .pre .0) (c .before .before .before .before .before .before .before .before .before .before .before .live-sets .ensures .1) (subst (λ (q : LiveQuestion). c .before .before .before .before .before .before .before .before .before .before .before .before .before .before .before .before .before .before .before .before .before .before .before .before .before .before .args .id < liveCount q (c .before .before .before .before .before .before .before .before .before .before .before .before .before .before .before .before .before .before .before .before .before .before .before .before .before .before .args .words .now)) (c .before .before .before .before .before .before .enum-told2 .given .1) (c .before .before .before .before .before .before .before .before .before .before .before .before .before .before .before .before .before .before .before .before .before .before .before .before .before .before .pre .1 .1)) (c .before .before .before .before .row-of .ensures) .1) ∙ ap (λ (q : LiveQuestion). answered (bind (liveWords q (c .before .before .before .before .before .before .before .before .before .before .before .before .before .before .before .before .before .before .before .before .before .before .before .before .before .before .args .words .now) (c .before .before .before .before .before .before .before .before .before .before .before .before .before .before .before .before .before .before .before .before .before .before .before .before .before .before .args .id)) bytesOf) (c .before .before .before .before .before .before .before .before .before .before .before .before .before .before .before .before .before .before .before .before .before .before .before .before .before .before .args .out .now)) (sym (c .before .before .before .before .before .before .enum-told2 .given .1))
+returns-2 c = c .before .before .set-answer .ensures ∙ ap (λ (l : List ℕ). answered (bind l bytesOf) (c .before .before .before .before .before .before .before .before .before .before .before .before .before .before .before .before .before .before .before .before .before .before .before .before .before .before .before .before .args .out .now)) (row-answer (c .before .before .before .before .before .before .before .before .before .before .before .before .before .before .before .before .before .before .before .before .before .before .before .before .before .before .before .before .pre .0) (c .before .before .before .before .before .before .before .before .before .before .before .before .before .live-sets .ensures .1) (subst (λ (q : LiveQuestion). liveId q < liveCount q (c .before .before .before .before .before .before .before .before .before .before .before .before .before .before .before .before .before .before .before .before .before .before .before .before .before .before .before .before .args .words .now)) (c .before .before .before .before .before .before .before .before .question2 .given .1) (c .before .before .before .before .before .before .before .before .before .before .before .before .before .before .before .before .before .before .before .before .before .before .before .before .before .before .before .before .pre .1 .1)) (c .before .before .before .before .row-of .ensures) .1) ∙ ap (λ (q : LiveQuestion). answered (bind (liveWords q (c .before .before .before .before .before .before .before .before .before .before .before .before .before .before .before .before .before .before .before .before .before .before .before .before .before .before .before .before .args .words .now) (liveId q)) bytesOf) (c .before .before .before .before .before .before .before .before .before .before .before .before .before .before .before .before .before .before .before .before .before .before .before .before .before .before .before .before .args .out .now)) (sym (c .before .before .before .before .before .before .before .before .question2 .given .1))
 
 same-length-3 : tie.Need-same-length-3
 same-length-3 c = search needs
 
 returns-3 : tie.Need-returns-3
-returns-3 c = c .before .before .intervals-answer .ensures ∙ ap (λ (q : LiveQuestion). answered (bind (liveWords q (c .before .before .before .before .before .before .before .before .before .before .before .before .before .before .before .before .before .before .before .before .before .before .before .before .before .before .before .args .words .now) (c .before .before .before .before .before .before .before .before .before .before .before .before .before .before .before .before .before .before .before .before .before .before .before .before .before .before .before .args .id)) bytesOf) (c .before .before .before .before .before .before .before .before .before .before .before .before .before .before .before .before .before .before .before .before .before .before .before .before .before .before .before .args .out .now)) (sym (c .before .before .before .before .before .before .before .enum-told3 .given .1))
+returns-3 c = c .before .before .intervals-answer .ensures ∙ ap (λ (q : LiveQuestion). answered (bind (liveWords q (c .before .before .before .before .before .before .before .before .before .before .before .before .before .before .before .before .before .before .before .before .before .before .before .before .before .before .before .before .args .words .now) (liveId q)) bytesOf) (c .before .before .before .before .before .before .before .before .before .before .before .before .before .before .before .before .before .before .before .before .before .before .before .before .before .before .before .before .args .out .now)) (sym (c .before .before .before .before .before .before .before .before .question3 .given .1))
 
 same-length-4 : tie.Need-same-length-4
 same-length-4 c = search needs
 
 returns-4 : tie.Need-returns-4
-returns-4 c = c .before .before .words-answer .ensures ∙ ap (λ (n : ℕ). answered (bind (n ∷ []) bytesOf) (c .before .before .before .before .before .before .before .before .before .before .before .before .before .before .before .before .before .before .before .before .before .before .before .before .before .args .out .now)) (c .before .before .before .before .before .before .before .before .before .before .live-sets .ensures .0) ∙ ap (λ (q : LiveQuestion). answered (bind (liveWords q (c .before .before .before .before .before .before .before .before .before .before .before .before .before .before .before .before .before .before .before .before .before .before .before .before .before .args .words .now) (c .before .before .before .before .before .before .before .before .before .before .before .before .before .before .before .before .before .before .before .before .before .before .before .before .before .args .id)) bytesOf) (c .before .before .before .before .before .before .before .before .before .before .before .before .before .before .before .before .before .before .before .before .before .before .before .before .before .args .out .now)) (sym (c .before .before .before .before .before .enum-told4 .given .1))
+returns-4 c = c .before .before .words-answer .ensures ∙ ap (λ (n : ℕ). answered (bind (n ∷ []) bytesOf) (c .before .before .before .before .before .before .before .before .before .before .before .before .before .before .before .before .before .before .before .before .before .before .before .before .before .args .out .now)) (c .before .before .before .before .before .before .before .before .before .before .live-sets .ensures .0) ∙ ap (λ (q : LiveQuestion). answered (bind (liveWords q (c .before .before .before .before .before .before .before .before .before .before .before .before .before .before .before .before .before .before .before .before .before .before .before .before .before .args .words .now) (liveId q)) bytesOf) (c .before .before .before .before .before .before .before .before .before .before .before .before .before .before .before .before .before .before .before .before .before .before .before .before .before .args .out .now)) (sym (c .before .before .before .before .before .enum-told .given .1))
 
 pub live-answer-spec : {M : Type 1} → statement M
 live-answer-spec =
@@ -129,21 +131,22 @@ live-answer-spec =
     slice-aggregate-live-sets-4
     slice-aggregate-live-sets-5
     live-sets-requires
-    enum-told
+    enum-known-question
     slice-aggregate-entry-answer
     slice-aggregate-entry-answer-2
     slice-aggregate-entry-answer-3
     entry-answer-requires
-    enum-told-2
+    enum-known-question-2
     slice-aggregate-row-of
+    cast-row-of
     row-of-requires
     set-answer-requires
-    enum-told-3
+    enum-known-question-3
     slice-aggregate-intervals-answer
     slice-aggregate-intervals-answer-2
     slice-aggregate-intervals-answer-3
     intervals-answer-requires
-    enum-told-4
+    enum-told
     slice-aggregate-words-answer
     words-answer-requires
     same-length

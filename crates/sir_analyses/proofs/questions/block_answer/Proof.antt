@@ -17,7 +17,7 @@ refuse-requires : tie.Need-refuse-requires
 refuse-requires c κs = search needs
 
 returns : tie.Need-returns
-returns c = id-refused (blocks (c .before .before .before .before .before .before .before .args .words .now)) (blockWords (c .before .before .before .before .before .before .before .args .question) (c .before .before .before .before .before .before .before .args .words .now)) (c .before .before .before .before .before .before .before .args .b .0) (c .before .before .before .before .before .before .before .args .out .now) (omega (arith, c .before .before .block-count .ensures, c .before .if1 .taken)) (c .refuse .ensures .0) (c .refuse .ensures .1)
+returns c = id-refused (blocks (c .before .before .before .before .before .before .before .before .args .words .now)) (blockWords (c .before .before .before .before .before .before .before .before .args .question) (c .before .before .before .before .before .before .before .before .args .words .now)) (c .before .before .before .before .before .before .before .before .args .b .0) (c .before .before .before .before .before .before .before .before .args .out .now) (omega (arith, c .before .before .before .block-count .ensures, c .before .if1 .taken)) (c .refuse .ensures .0) (c .refuse .ensures .1)
 
 enum-told : tie.Need-enum-told
 enum-told c = search needs
@@ -29,31 +29,31 @@ enum-told-2 : tie.Need-enum-told-2
 enum-told-2 c = search needs
 
 live-answer-requires : tie.Need-live-answer-requires
-live-answer-requires c κs = (c .before .before .before .before .before .before .before .before .before .pre .well-formed, ((c .before .before .before .before .before .before .before .before .before .pre .seen-are, c .before .before .before .before .before .before .before .before .before .pre .rpo-is), omega (arith, c .before .before .before .before .block-count .ensures, c .before .before .before .if1 .left)))
+live-answer-requires c κs = (c .before .before .before .before .before .before .before .before .before .before .pre .well-formed, ((c .before .before .before .before .before .before .before .before .before .before .pre .seen-are, c .before .before .before .before .before .before .before .before .before .before .pre .rpo-is), omega (arith, c .before .before .before .before .before .block-count .ensures, c .before .before .before .if1 .left)))
 
 enum-told-3 : tie.Need-enum-told-3
 enum-told-3 c = search needs
 
 live-answer-requires-2 : tie.Need-live-answer-requires-2
-live-answer-requires-2 c κs = (c .before .before .before .before .before .before .before .before .before .pre .well-formed, ((c .before .before .before .before .before .before .before .before .before .pre .seen-are, c .before .before .before .before .before .before .before .before .before .pre .rpo-is), omega (arith, c .before .before .before .before .block-count .ensures, c .before .before .before .if1 .left)))
+live-answer-requires-2 c κs = (c .before .before .before .before .before .before .before .before .before .before .pre .well-formed, ((c .before .before .before .before .before .before .before .before .before .before .pre .seen-are, c .before .before .before .before .before .before .before .before .before .before .pre .rpo-is), omega (arith, c .before .before .before .before .before .block-count .ensures, c .before .before .before .if1 .left)))
 
 same-length : tie.Need-same-length
 same-length c = search needs
 
 returns-2 : tie.Need-returns-2
-returns-2 c = c .before .before .predecessors-answer .ensures ∙ id-answered (blocks (c .before .before .before .before .before .before .before .before .before .before .before .before .args .words .now)) (predecessorsAnswer (c .before .before .before .before .before .before .before .before .before .before .before .before .args .words .now)) (c .before .before .before .before .before .before .before .before .before .before .before .before .args .b .0) (c .before .before .before .before .before .before .before .before .before .before .before .before .args .out .now) (omega (arith, c .before .before .before .before .before .before .before .block-count .ensures, c .before .before .before .before .before .before .if1 .left)) ∙ ap (λ (q : BlockQuestion). asked (blocks (c .before .before .before .before .before .before .before .before .before .before .before .before .args .words .now)) (blockWords q (c .before .before .before .before .before .before .before .before .before .before .before .before .args .words .now)) (c .before .before .before .before .before .before .before .before .before .before .before .before .args .b .0) (c .before .before .before .before .before .before .before .before .before .before .before .before .args .out .now)) (sym (c .before .before .before .before .enum-told .given .1))
+returns-2 c = c .before .before .predecessors-answer .ensures ∙ id-answered (blocks (c .before .before .before .before .before .before .before .before .before .before .before .before .before .args .words .now)) (predecessorsAnswer (c .before .before .before .before .before .before .before .before .before .before .before .before .before .args .words .now)) (c .before .before .before .before .before .before .before .before .before .before .before .before .before .args .b .0) (c .before .before .before .before .before .before .before .before .before .before .before .before .before .args .out .now) (omega (arith, c .before .before .before .before .before .before .before .before .block-count .ensures, c .before .before .before .before .before .before .if1 .left)) ∙ ap (λ (q : BlockQuestion). asked (blocks (c .before .before .before .before .before .before .before .before .before .before .before .before .before .args .words .now)) (blockWords q (c .before .before .before .before .before .before .before .before .before .before .before .before .before .args .words .now)) (c .before .before .before .before .before .before .before .before .before .before .before .before .before .args .b .0) (c .before .before .before .before .before .before .before .before .before .before .before .before .before .args .out .now)) (sym (c .before .before .before .before .enum-told .given .1))
 
 same-length-2 : tie.Need-same-length-2
 same-length-2 c = search needs
 
 returns-3 : tie.Need-returns-3
-returns-3 c = c .before .before .live-answer .ensures ∙ id-answered (blocks (c .before .before .before .before .before .before .before .before .before .before .before .before .args .words .now)) (entryAnswer (c .before .before .before .before .before .before .before .before .before .before .before .before .args .words .now)) (c .before .before .before .before .before .before .before .before .before .before .before .before .args .b .0) (c .before .before .before .before .before .before .before .before .before .before .before .before .args .out .now) (omega (arith, c .before .before .before .before .before .before .before .block-count .ensures, c .before .before .before .before .before .before .if1 .left)) ∙ ap (λ (q : BlockQuestion). asked (blocks (c .before .before .before .before .before .before .before .before .before .before .before .before .args .words .now)) (blockWords q (c .before .before .before .before .before .before .before .before .before .before .before .before .args .words .now)) (c .before .before .before .before .before .before .before .before .before .before .before .before .args .b .0) (c .before .before .before .before .before .before .before .before .before .before .before .before .args .out .now)) (sym (c .before .before .before .before .enum-told2 .given .1))
+returns-3 c = c .before .before .live-answer .ensures ∙ id-answered (blocks (c .before .before .before .before .before .before .before .before .before .before .before .before .before .args .words .now)) (entryAnswer (c .before .before .before .before .before .before .before .before .before .before .before .before .before .args .words .now)) (c .before .before .before .before .before .before .before .before .before .before .before .before .before .args .b .0) (c .before .before .before .before .before .before .before .before .before .before .before .before .before .args .out .now) (omega (arith, c .before .before .before .before .before .before .before .before .block-count .ensures, c .before .before .before .before .before .before .if1 .left)) ∙ ap (λ (q : BlockQuestion). asked (blocks (c .before .before .before .before .before .before .before .before .before .before .before .before .before .args .words .now)) (blockWords q (c .before .before .before .before .before .before .before .before .before .before .before .before .before .args .words .now)) (c .before .before .before .before .before .before .before .before .before .before .before .before .before .args .b .0) (c .before .before .before .before .before .before .before .before .before .before .before .before .before .args .out .now)) (sym (c .before .before .before .before .enum-told2 .given .1))
 
 same-length-3 : tie.Need-same-length-3
 same-length-3 c = search needs
 
 returns-4 : tie.Need-returns-4
-returns-4 c = c .before .before .live-answer2 .ensures ∙ id-answered (blocks (c .before .before .before .before .before .before .before .before .before .before .before .before .args .words .now)) (exitAnswer (c .before .before .before .before .before .before .before .before .before .before .before .before .args .words .now)) (c .before .before .before .before .before .before .before .before .before .before .before .before .args .b .0) (c .before .before .before .before .before .before .before .before .before .before .before .before .args .out .now) (omega (arith, c .before .before .before .before .before .before .before .block-count .ensures, c .before .before .before .before .before .before .if1 .left)) ∙ ap (λ (q : BlockQuestion). asked (blocks (c .before .before .before .before .before .before .before .before .before .before .before .before .args .words .now)) (blockWords q (c .before .before .before .before .before .before .before .before .before .before .before .before .args .words .now)) (c .before .before .before .before .before .before .before .before .before .before .before .before .args .b .0) (c .before .before .before .before .before .before .before .before .before .before .before .before .args .out .now)) (sym (c .before .before .before .before .enum-told3 .given .1))
+returns-4 c = c .before .before .live-answer2 .ensures ∙ id-answered (blocks (c .before .before .before .before .before .before .before .before .before .before .before .before .before .args .words .now)) (exitAnswer (c .before .before .before .before .before .before .before .before .before .before .before .before .before .args .words .now)) (c .before .before .before .before .before .before .before .before .before .before .before .before .before .args .b .0) (c .before .before .before .before .before .before .before .before .before .before .before .before .before .args .out .now) (omega (arith, c .before .before .before .before .before .before .before .before .block-count .ensures, c .before .before .before .before .before .before .if1 .left)) ∙ ap (λ (q : BlockQuestion). asked (blocks (c .before .before .before .before .before .before .before .before .before .before .before .before .before .args .words .now)) (blockWords q (c .before .before .before .before .before .before .before .before .before .before .before .before .before .args .words .now)) (c .before .before .before .before .before .before .before .before .before .before .before .before .before .args .b .0) (c .before .before .before .before .before .before .before .before .before .before .before .before .before .args .out .now)) (sym (c .before .before .before .before .enum-told3 .given .1))
 
 pub block-answer-spec : {M : Type 1} → statement M
 block-answer-spec =

@@ -35,10 +35,10 @@ mul-out-2 : tie.Need-mul-out-2
 mul-out-2 c = search needs
 
 slice-write-out-2 : tie.Need-slice-write-out-2
-slice-write-out-2 c = omega (arith, c .before .before .function-blocks .ensures .long, length-set (c .before .before .before .before .before .before .args .out .now) (c .before .before .before .before .before .before .args .at) (c .before .before .before .before .before .before .args .f), c .before .before .before .before .before .before .pre .1)
+slice-write-out-2 c = omega (arith, c .before .before .function-blocks .ensures .long, length-set (c .before .before .before .before .before .before .args .out .now) (c .before .before .before .before .before .before .args .at) (c .before .before .before .before .before .before .args .f .0), c .before .before .before .before .before .before .pre .1)
 
 same-length : tie.Need-same-length
-same-length c = simp length-set (c .before .before .function-blocks .ensures .long ∙ length-set (c .before .before .before .before .before .before .args .out .now) (c .before .before .before .before .before .before .args .at) (c .before .before .before .before .before .before .args .f))
+same-length c = simp length-set (c .before .before .function-blocks .ensures .long ∙ length-set (c .before .before .before .before .before .before .args .out .now) (c .before .before .before .before .before .before .args .at) (c .before .before .before .before .before .before .args .f .0))
 
 returns : tie.Need-returns
 returns c = listed-headed (omega (arith, c .before .before .before .before .before .before .pre .1)) (c .before .before .function-blocks .ensures) (omega (arith, c .before .before .function-blocks .ensures .next)) refl

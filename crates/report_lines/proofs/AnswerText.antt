@@ -1,0 +1,145 @@
+-- The text by the bytes of an answer is the text by its intervals.
+use mathlib.Core.Path.{_≡_, refl, sym, ap, _∙_}
+use mathlib.Core.Bool.{Bool, true, false, cond}
+use mathlib.Core.List.{List, [], _∷_, _++_, append-assoc}
+use Prim.Native.Nat.{ℕ, zero, suc, _+_, _-_, _*_, _/_, _%_, _<_}
+use native.Mathlib.Omega.{arith}
+use lib.ListN.{length, getD, length-append}
+use lib.Seq.{getD-append-add}
+use borrow.Author.Tests.{ne-eqb}
+use Rattle.plank_core.specs.Lists.{bind, count, oneIf}
+use Rattle.sir_data.specs.Pages.{wordAt, bytesOf}
+use Rattle.sir_analyses.specs.Order.{blocksRpo}
+use Rattle.sir_analyses.specs.Liveness.{Interval, intervals}
+use Rattle.sir_analyses.specs.Allocation.{allocs, allocAt, base, marked, merged}
+use Rattle.sir_analyses.specs.Answers.{intervalWords, intervalsAnswer, allocationAnswer, kindOf}
+use Rattle.sir_analyses.specs.laws.Writing.{length-bytes}
+use Rattle.report_lines.specs.Lines.{ascii, named, intervalText, interval, localText, allocationText}
+use Rattle.report_lines.specs.Putting.{Words, intervalAt, intervalsAt, EndsSome, localLine, mark, allocationHead, allocationLine}
+use Rattle.report_lines.proofs.Fields.{Good, Goods, intervals-good, merged-good, alloc-small, base-small}
+
+-- word i of some words as bytes
+word-bytes : (xs : List ℕ) (i : ℕ) → i < length xs → getD xs i 0 < 4294967296 → wordAt (bind xs bytesOf) i ≡ getD xs i 0
+word-bytes [] i h l = absurd (omega arith)
+word-bytes (x ∷ xs) zero h l =
+    let p : x / 65536 ≡ x / 256 / 256 = omega arith in
+    let q : x / 16777216 ≡ x / 65536 / 256 = omega arith in
+    let a : x ≡ 256 * (x / 256) + x % 256 = omega arith in
+    let b : x / 256 ≡ 256 * (x / 65536) + x / 256 % 256 = omega arith in
+    let d : x / 65536 ≡ 256 * (x / 16777216) + x / 65536 % 256 = omega arith in
+    let f : x / 16777216 % 256 ≡ x / 16777216 = omega arith in
+    rw f (omega (arith, a, b, d))
+word-bytes (x ∷ xs) (suc i) h l =
+    let e₀ : 4 * suc i ≡ suc (suc (suc (suc (4 * i)))) = omega arith in
+    let e₁ : 4 * suc i + 1 ≡ suc (suc (suc (suc (4 * i + 1)))) = omega arith in
+    let e₂ : 4 * suc i + 2 ≡ suc (suc (suc (suc (4 * i + 2)))) = omega arith in
+    let e₃ : 4 * suc i + 3 ≡ suc (suc (suc (suc (4 * i + 3)))) = omega arith in
+    rw (e₁, e₂, e₃, e₀) (word-bytes xs i (omega arith) l)
+
+-- word j behind some front
+word-behind : {xs : List ℕ} (front ys : List ℕ) (j : ℕ) → xs ≡ front ++ ys → j < length ys → getD ys j 0 < 4294967296 → wordAt (bind xs bytesOf) (length front + j) ≡ getD ys j 0
+word-behind {xs} front ys j e h l =
+    let g : getD xs (length front + j) 0 ≡ getD ys j 0 = ap (λ (l : List ℕ). getD l (length front + j) 0) e ∙ getD-append-add front ys j 0 in
+    word-bytes xs (length front + j) (omega (arith, ap length e, length-append front ys)) (omega (arith, g)) ∙ g
+
+-- the three words of an interval
+abbrev three : Interval → List ℕ
+three i = i .block ∷ i .from ∷ i .to ∷ []
+
+module _ {xs : List ℕ} (front : List ℕ) (i : Interval) (is : List Interval) (e : xs ≡ front ++ intervalWords (i ∷ is)) (g : Good i) where
+  end-at : wordAt (bind xs bytesOf) (length front + 2) ≡ i .to
+  end-at = word-behind front (intervalWords (i ∷ is)) 2 e (omega arith) (g .end-small)
+
+  text-at : intervalAt (bind xs bytesOf) (length front) ≡ intervalText i
+  unfolding intervalAt
+  text-at =
+      let z : length front + 0 ≡ length front = omega arith in
+      let a : wordAt (bind xs bytesOf) (length front) ≡ i .block =
+      ap (wordAt (bind xs bytesOf)) (sym z) ∙ word-behind front (intervalWords (i ∷ is)) 0 e (omega arith) (g .block-small) in
+      let b : wordAt (bind xs bytesOf) (length front + 1) ≡ i .from = word-behind front (intervalWords (i ∷ is)) 1 e (omega arith) (g .start-small) in
+      ap (λ (n : ℕ). interval n (wordAt (bind xs bytesOf) (length front + 1)) (wordAt (bind xs bytesOf) (length front + 2))) a
+      ∙ ap (λ (n : ℕ). interval (i .block) n (wordAt (bind xs bytesOf) (length front + 2))) b
+      ∙ ap (λ (n : ℕ). interval (i .block) (i .from) n) end-at
+
+  next-is : xs ≡ (front ++ three i) ++ intervalWords is
+  next-is = e ∙ sym (append-assoc front (three i) (intervalWords is))
+
+texts-from : (first : ℕ) {xs : List ℕ} (is : List Interval) (s : ℕ) (front : List ℕ) → xs ≡ front ++ intervalWords is → length front ≡ first + 3 * s → Goods is
+    → bind (count s (length is)) (λ k. intervalAt (bind xs bytesOf) (first + 3 * k)) ≡ bind is intervalText
+texts-from first [] s front e l g = refl
+texts-from first {xs} (i ∷ is) s front e l g =
+    let a : intervalAt (bind xs bytesOf) (first + 3 * s) ≡ intervalText i = ap (intervalAt (bind xs bytesOf)) (sym l) ∙ text-at front i is e (g .0) in
+    let r = texts-from first is (suc s) (front ++ three i) (next-is front i is e (g .0)) (omega (arith, length-append front (three i))) (g .1) in
+    ap (λ (t : List ℕ). t ++ bind (count (suc s) (length is)) (λ k. intervalAt (bind xs bytesOf) (first + 3 * k))) a ∙ ap (λ (t : List ℕ). intervalText i ++ t) r
+
+ends-from : {xs : List ℕ} (is : List Interval) (k : ℕ) (front : List ℕ) → xs ≡ front ++ intervalWords is → Goods is → k < length is → 0 < wordAt (bind xs bytesOf) (length front + 3 * k + 2)
+ends-from [] k front e g l = absurd (omega arith)
+ends-from {xs} (i ∷ is) zero front e g l =
+    let z : length front + 3 * 0 + 2 ≡ length front + 2 = omega arith in
+    rw z (omega (arith, end-at front i is e (g .0), g .0 .end-some))
+ends-from {xs} (i ∷ is) (suc k) front e g l =
+    let z : length (front ++ three i) + 3 * k + 2 ≡ length front + 3 * suc k + 2 = omega (arith, length-append front (three i)) in
+    rw (sym z) (ends-from is k (front ++ three i) (next-is front i is e (g .0)) (g .1) (omega arith))
+
+pub length-words : (is : List Interval) → length (intervalWords is) ≡ 3 * length is
+length-words [] = refl
+length-words (i ∷ is) = let h = length-words is in omega arith
+
+module _ (w : List ℕ) (small : Words w) (seq : Words (blocksRpo w)) where
+  -- ---- the line of a local
+
+  local-count : (v : ℕ) → length (bind (intervalsAnswer w v) bytesOf) / 12 ≡ length (intervals w v)
+  local-count v = omega (arith, length-bytes (intervalsAnswer w v), length-words (intervals w v))
+
+  pub local-ends : (v : ℕ) → EndsSome (bind (intervalsAnswer w v) bytesOf) 0 (length (bind (intervalsAnswer w v) bytesOf) / 12)
+  local-ends v k l = ends-from (intervals w v) k [] refl (intervals-good w small seq v) (omega (arith, local-count v))
+
+  pub local-as : (v : ℕ) → ¬ (length (intervalsAnswer w v) ≡ 0) → localLine v (bind (intervalsAnswer w v) bytesOf) ≡ localText w v
+  unfolding localText
+  local-as v n =
+      let m : ¬ (length (intervals w v) ≡ 0) = λ e. n (omega (arith, length-words (intervals w v))) in
+      ap (λ (n : ℕ). named (ascii "v") v ++ intervalsAt (bind (intervalsAnswer w v) bytesOf) 0 n ++ ascii "\n") (local-count v)
+      ∙ ap (λ (t : List ℕ). named (ascii "v") v ++ t ++ ascii "\n") (texts-from 0 (intervals w v) 0 [] refl (omega arith) (intervals-good w small seq v))
+      ∙ rw (ne-eqb (length (intervals w v)) 0 m) refl
+
+  -- ---- the line of an allocation
+
+  module _ (a : ℕ) (l : a < length (allocs w)) where
+    abbrev front : List ℕ
+    front = allocAt w a .block ∷ allocAt w a .op ∷ base w (allocAt w a) ∷ (kindOf w (allocAt w a .op) ++ (oneIf (marked w a) ∷ length (merged w a) ∷ []))
+
+    allocation-count : (length (bind (allocationAnswer w a) bytesOf) - 32) / 12 ≡ length (merged w a)
+    allocation-count = omega (arith, length-bytes (allocationAnswer w a), length-words (merged w a))
+
+    pub allocation-ends : EndsSome (bind (allocationAnswer w a) bytesOf) 8 ((length (bind (allocationAnswer w a) bytesOf) - 32) / 12)
+    allocation-ends k h = ends-from (merged w a) k front refl (merged-good w small seq a) (omega (arith, allocation-count))
+
+    mark-as : (t : Bool) → mark (oneIf t) ≡ cond t (ascii " escaped") (ascii " kept")
+    mark-as true = refl
+    mark-as false = refl
+
+    one-small : (t : Bool) → oneIf t < 4294967296
+    one-small true = omega arith
+    one-small false = omega arith
+
+    pub allocation-as : allocationLine a (bind (allocationAnswer w a) bytesOf) ≡ allocationText w a
+    unfolding allocationText allocationHead
+    allocation-as =
+        let x = alloc-small w small seq a l in
+        let b : wordAt (bind (allocationAnswer w a) bytesOf) 0 ≡ allocAt w a .block = word-bytes (allocationAnswer w a) 0 (omega arith) (x .0) in
+        let o : wordAt (bind (allocationAnswer w a) bytesOf) 1 ≡ allocAt w a .op = word-bytes (allocationAnswer w a) 1 (omega arith) (x .1) in
+        let v : wordAt (bind (allocationAnswer w a) bytesOf) 2 ≡ base w (allocAt w a) = word-bytes (allocationAnswer w a) 2 (omega arith) (base-small w small seq (allocAt w a)) in
+        let m : wordAt (bind (allocationAnswer w a) bytesOf) 6 ≡ oneIf (marked w a) = word-bytes (allocationAnswer w a) 6 (omega arith) (one-small (marked w a)) in
+        let h : allocationHead a (bind (allocationAnswer w a) bytesOf) ≡
+        named (ascii "a") a ++ named (ascii " b") (allocAt w a .block) ++ named (ascii " op") (allocAt w a .op) ++ named (ascii " v") (base w (allocAt w a))
+        ++ cond (marked w a) (ascii " escaped") (ascii " kept") = rw (b, o, v, m) (rw (mark-as (marked w a)) refl) in
+        ap (λ (n : ℕ). allocationHead a (bind (allocationAnswer w a) bytesOf) ++ intervalsAt (bind (allocationAnswer w a) bytesOf) 8 n ++ ascii "\n") allocation-count
+        ∙ ap (λ (t : List ℕ). allocationHead a (bind (allocationAnswer w a) bytesOf) ++ t ++ ascii "\n") (texts-from 8 (merged w a) 0 front refl (omega arith) (merged-good w small seq a))
+        ∙ ap (λ (t : List ℕ). t ++ bind (merged w a) intervalText ++ ascii "\n") h
+
+-- what is lent is the answer
+pub local-ends-as : {xs ys : List ℕ} → xs ≡ ys → EndsSome ys 0 (length ys / 12) → EndsSome xs 0 (length xs / 12)
+local-ends-as e k = rw (sym e) at k
+
+pub allocation-ends-as : {xs ys : List ℕ} → xs ≡ ys → EndsSome ys 8 ((length ys - 32) / 12) → EndsSome xs 8 ((length xs - 32) / 12)
+allocation-ends-as e k = rw (sym e) at k
