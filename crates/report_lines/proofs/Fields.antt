@@ -12,7 +12,7 @@ use Rattle.plank_core.specs.laws.Lists.{mem-range, keep-out, map-each, bind-out
 use Rattle.sir_data.specs.Records.{blocksAt, blockWord, opWord, operandsAt, operand, ops, ins, outs, code}
 use Rattle.sir_data.specs.Codes.{isAlloc}
 use Rattle.sir_analyses.specs.Order.{blocksRpo}
-use Rattle.sir_analyses.specs.Liveness.{Set, has, members, Interval, Scan, close, scanOp, blockEnd, blockIntervals, intervals, exitSet, endReads}
+use Rattle.sir_analyses.specs.Liveness.{Set, has, members, Interval, Scan, close, closing, scanOp, blockEnd, blockIntervals, intervals, exitSet, endReads}
 use Rattle.sir_analyses.specs.Allocation.{Alloc, noAlloc, allocs, allocAt, base, before, insert, sort, furthest, join, merge, marked, merged, reach}
 use Rattle.report_lines.specs.Putting.{Words}
 
@@ -44,18 +44,13 @@ record ScanOk (c : Scan) : Type 0 where
   closed-good : Goods (c .closed)
 
 close-ok : (b from : ℕ) (c : Scan) → b < 4294967296 → from < 4294967296 → ScanOk c → ScanOk (close b from c)
-close-ok b from c p q k = go (eqb (c .open′) 0) refl
+close-ok b from c p q k = record { open-small = omega arith; closed-good = goods-append (c .closed) (closing b from (c .open′)) (k .closed-good) (go (eqb (c .open′) 0) refl) }
   where
-    go : (t : Bool) → eqb (c .open′) 0 ≡ t → ScanOk (cond t c (record { open′ = 0; closed = c .closed ++ (record { block = b; from = from; to = c .open′ } ∷ []) }))
-    go true e = k
+    go : (t : Bool) → eqb (c .open′) 0 ≡ t → Goods (cond t [] (record { block = b; from = from; to = c .open′ } ∷ []))
+    go true e = tt
     go false e =
         let n : ¬ (c .open′ ≡ 0) = eqb-false (c .open′) 0 e in
-        record {
-          open-small = omega arith;
-          closed-good =
-              goods-append (c .closed) (record { block = b; from = from; to = c .open′ } ∷ []) (k .closed-good)
-              (record { block-small = p; start-small = q; end-some = omega arith; end-small = k .open-small }, tt);
-        }
+        (record { block-small = p; start-small = q; end-some = omega arith; end-small = k .open-small }, tt)
 
 scan-ok : (w : List ℕ) (b v o : ℕ) (c : Scan) → b < 4294967296 → suc o < 4294967296 → ScanOk c → ScanOk (scanOp w b v o c)
 scan-ok w b v o c p q k = second _ (first (mem v (outs w o))) (mem v (ins w o) && eqb (cond (mem v (outs w o)) (close b (suc o) c) c .open′) 0)
