@@ -1,12 +1,13 @@
 -- What the questions of the code's enums are about, and the words that answer them.
 -- Used by inner contracts; no exported promise speaks of it.
 use mathlib.Core.List.{List}
-use Prim.Native.Nat.{ℕ}
+use Prim.Native.Nat.{ℕ, _<_}
 use lib.ListN.{length}
 use Rattle.sir_data.specs.Records.{blocks, locals}
 use Rattle.sir_analyses.specs.Allocation.{allocs}
 use Rattle.sir_analyses.specs.Answers.{orderAnswer, predecessorsAnswer, usesAnswer, entryAnswer, exitAnswer, roundsAnswer, intervalsAnswer, allocationAnswer, ownerAnswer}
 use Rattle.sir_analyses.specs.declared.live_answers.LiveQuestion.{LiveQuestion}
+use Rattle.sir_analyses.specs.declared.questions.AllocationQuestion.{AllocationQuestion}
 use Rattle.sir_analyses.specs.declared.questions.BlockQuestion.{BlockQuestion}
 use Rattle.sir_analyses.specs.declared.questions.LocalQuestion.{LocalQuestion}
 use Rattle.sir_analyses.specs.declared.questions.Question.{Question}
@@ -24,6 +25,24 @@ liveId (LiveQuestion.EntrySet b) = b .0
 liveId (LiveQuestion.ExitSet b) = b .0
 liveId (LiveQuestion.Intervals v) = v .0
 liveId LiveQuestion.Rounds = 0
+
+-- how many ids there are to ask about allocations and owners, the id asked about, and the words of the answer
+abbrev pub allocationCount : AllocationQuestion → List ℕ → ℕ
+allocationCount (AllocationQuestion.Record a) = λ w. length (allocs w)
+allocationCount (AllocationQuestion.Owner v) = locals
+
+abbrev pub allocationId : AllocationQuestion → ℕ
+allocationId (AllocationQuestion.Record a) = a .0
+allocationId (AllocationQuestion.Owner v) = v .0
+
+abbrev pub allocationWords : AllocationQuestion → List ℕ → ℕ → List ℕ
+allocationWords (AllocationQuestion.Record a) = allocationAnswer
+allocationWords (AllocationQuestion.Owner v) = ownerAnswer
+
+-- a local whose owner is asked for is known to be one
+abbrev pub Known : AllocationQuestion → List ℕ → Type 0
+Known (AllocationQuestion.Record a) w = Unit {0}
+Known (AllocationQuestion.Owner v) w = v .0 < locals w
 
 -- how many ids there are to ask about; order and rounds have no id, and count as asked about the only one
 abbrev pub idCount : Question → List ℕ → ℕ

@@ -32,7 +32,7 @@ ghost use Rattle.sir_analyses.specs.Allocation.{allocs, rule12};
 ghost use Rattle.sir_analyses.specs.Claims.{OrderRule, LivenessRule, MarkRule, SourceRule};
 ghost use Rattle.sir_analyses.specs.Walk.{Lifetimes};
 ghost use Rattle.sir_analyses.specs.Loading.{Ready};
-ghost use Rattle.sir_analyses.specs.Questions.{blockWords, localWords, idOf, idCount, answerWords};
+ghost use Rattle.sir_analyses.specs.Questions.{Known, allocationCount, allocationId, allocationWords, blockWords, localWords, idOf, idCount, answerWords};
 
 // What is asked of a block.
 pub enum BlockQuestion {
@@ -109,7 +109,9 @@ fn local_answer(
     match question {
         LocalQuestion::Uses => uses_answer(words, rpo, v, out),
         LocalQuestion::Intervals => live_answer(words, seen, rpo, LiveQuestion::Intervals(v), out),
-        LocalQuestion::Owner => local_owner(words, rpo, v, out),
+        LocalQuestion::Owner => {
+            allocations_answer(words, seen, rpo, AllocationQuestion::Owner(v), out)
+        }
     }
 }
 
@@ -124,6 +126,30 @@ fn asked_allocation(words: &[u32], seen: &[u64], rpo: &[u32], a: AllocId, out: &
         return refuse(13);
     }
     allocation_answer(words, seen, rpo, &keys[..count], a, out)
+}
+
+// What is asked of the allocations, or of their pointers.
+pub enum AllocationQuestion {
+    Record(AllocId),
+    Owner(LocalId),
+}
+
+// Both questions on allocations. Their tables are large: a function of its own keeps them out of the frame of every other question.
+fn allocations_answer(
+    words: &[u32],
+    seen: &[u64],
+    rpo: &[u32],
+    question: AllocationQuestion,
+    out: &mut [u8],
+) -> Answer
+    requires { ⌜ Ready (now words) (now seen) (now rpo) ⌝ }
+    requires { ⌜ Known question (now words) ⌝ }
+    ensures { λ r. ⌜ made (r .number) (r .length) (now (out .exit)) ≡ asked (allocationCount question (now (words .entry))) (allocationWords question (now (words .entry))) (allocationId question) (now (out .entry)) ⌝ }
+{
+    match question {
+        AllocationQuestion::Record(a) => asked_allocation(words, seen, rpo, a, out),
+        AllocationQuestion::Owner(v) => local_owner(words, rpo, v, out),
+    }
 }
 
 // The answer to a question from the words of an accepted image, the keys of its visit and the order's sequence.
@@ -144,7 +170,9 @@ fn answer(
         Question::Rounds => live_answer(words, seen, rpo, LiveQuestion::Rounds, out),
         Question::OfBlock(q, b) => block_answer(words, seen, rpo, q, b, out),
         Question::OfLocal(q, v) => local_answer(words, seen, rpo, q, v, out),
-        Question::Allocation(a) => asked_allocation(words, seen, rpo, a, out),
+        Question::Allocation(a) => {
+            allocations_answer(words, seen, rpo, AllocationQuestion::Record(a), out)
+        }
     }
 }
 

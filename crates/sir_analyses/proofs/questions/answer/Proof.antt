@@ -38,8 +38,8 @@ local-answer-requires c κs = search needs
 enum-known-question-3 : tie.Need-enum-known-question-3
 enum-known-question-3 c = search needs
 
-asked-allocation-requires : tie.Need-asked-allocation-requires
-asked-allocation-requires c κs = search needs
+allocations-answer-requires : tie.Need-allocations-answer-requires
+allocations-answer-requires c κs = search needs
 
 same-length : tie.Need-same-length
 same-length c = search needs
@@ -69,7 +69,7 @@ same-length-5 : tie.Need-same-length-5
 same-length-5 c = search needs
 
 returns-5 : tie.Need-returns-5
-returns-5 c = c .before .before .asked-allocation .ensures ∙ ap (λ (q : Question). asked (idCount q (c .before .before .before .before .before .before .before .before .before .before .before .before .args .words .now)) (answerWords q (c .before .before .before .before .before .before .before .before .before .before .before .before .args .words .now)) (idOf q) (c .before .before .before .before .before .before .before .before .before .before .before .before .args .out .now)) (sym (c .before .before .before .before .before .question3 .given .1))
+returns-5 c = c .before .before .allocations-answer .ensures ∙ ap (λ (q : Question). asked (idCount q (c .before .before .before .before .before .before .before .before .before .before .before .before .args .words .now)) (answerWords q (c .before .before .before .before .before .before .before .before .before .before .before .before .args .words .now)) (idOf q) (c .before .before .before .before .before .before .before .before .before .before .before .before .args .out .now)) (sym (c .before .before .before .before .before .question3 .given .1))
 
 pub answer-spec : {M : Type 1} → statement M
 answer-spec =
@@ -84,7 +84,7 @@ answer-spec =
     enum-known-question-2
     local-answer-requires
     enum-known-question-3
-    asked-allocation-requires
+    allocations-answer-requires
     same-length
     returns
     same-length-2

@@ -2,7 +2,7 @@
 use mathlib.Core.Path.{sym, ap, _∙_}
 use native.Mathlib.Omega.{arith}
 use Rattle.sir_data.specs.Records.{locals}
-use Rattle.sir_analyses.specs.Answers.{usesAnswer, intervalsAnswer, ownerAnswer, asked}
+use Rattle.sir_analyses.specs.Answers.{usesAnswer, intervalsAnswer, asked}
 use Rattle.sir_analyses.specs.Questions.{localWords}
 use Rattle.sir_analyses.specs.declared.questions.LocalQuestion.{LocalQuestion}
 use Rattle.sir_analyses.proofs.Outcomes.{id-refused, id-answered}
@@ -34,8 +34,8 @@ live-answer-requires c κs = (c .before .before .before .before .before .before 
 enum-told-3 : tie.Need-enum-told-3
 enum-told-3 c = search needs
 
-local-owner-requires : tie.Need-local-owner-requires
-local-owner-requires c κs = (c .before .before .before .before .before .before .before .before .before .before .pre .well-formed, ((c .before .before .before .before .before .before .before .before .before .before .pre .rpo-is, c .before .before .before .before .before .before .before .before .before .before .pre .bases-differ, c .before .before .before .before .before .before .before .before .before .before .pre .keys-few), omega (arith, c .before .before .before .before .before .local-count .ensures, c .before .before .before .if1 .left)))
+allocations-answer-requires : tie.Need-allocations-answer-requires
+allocations-answer-requires c κs = (c .before .before .before .before .before .before .before .before .before .before .pre, omega (arith, c .before .before .before .before .before .local-count .ensures, c .before .before .before .if1 .left))
 
 same-length : tie.Need-same-length
 same-length c = search needs
@@ -53,7 +53,7 @@ same-length-3 : tie.Need-same-length-3
 same-length-3 c = search needs
 
 returns-4 : tie.Need-returns-4
-returns-4 c = c .before .before .local-owner .ensures ∙ id-answered (locals (c .before .before .before .before .before .before .before .before .before .before .before .before .before .args .words .now)) (ownerAnswer (c .before .before .before .before .before .before .before .before .before .before .before .before .before .args .words .now)) (c .before .before .before .before .before .before .before .before .before .before .before .before .before .args .v .0) (c .before .before .before .before .before .before .before .before .before .before .before .before .before .args .out .now) (omega (arith, c .before .before .before .before .before .before .before .before .local-count .ensures, c .before .before .before .before .before .before .if1 .left)) ∙ ap (λ (q : LocalQuestion). asked (locals (c .before .before .before .before .before .before .before .before .before .before .before .before .before .args .words .now)) (localWords q (c .before .before .before .before .before .before .before .before .before .before .before .before .before .args .words .now)) (c .before .before .before .before .before .before .before .before .before .before .before .before .before .args .v .0) (c .before .before .before .before .before .before .before .before .before .before .before .before .before .args .out .now)) (sym (c .before .before .before .before .enum-told3 .given .1))
+returns-4 c = c .before .before .allocations-answer .ensures ∙ ap (λ (q : LocalQuestion). asked (locals (c .before .before .before .before .before .before .before .before .before .before .before .before .before .args .words .now)) (localWords q (c .before .before .before .before .before .before .before .before .before .before .before .before .before .args .words .now)) (c .before .before .before .before .before .before .before .before .before .before .before .before .before .args .v .0) (c .before .before .before .before .before .before .before .before .before .before .before .before .before .args .out .now)) (sym (c .before .before .before .before .enum-told3 .given .1))
 
 pub local-answer-spec : {M : Type 1} → statement M
 local-answer-spec =
@@ -67,7 +67,7 @@ local-answer-spec =
     enum-told-2
     live-answer-requires
     enum-told-3
-    local-owner-requires
+    allocations-answer-requires
     same-length
     returns-2
     same-length-2
