@@ -26,15 +26,17 @@ liveId (LiveQuestion.ExitSet b) = b .0
 liveId (LiveQuestion.Intervals v) = v .0
 liveId LiveQuestion.Rounds = 0
 
--- how many ids there are to ask about allocations and owners, the id asked about, and the words of the answer
+-- how many ids there are to ask about: allocations, or locals that may have an owner
 abbrev pub allocationCount : AllocationQuestion → List ℕ → ℕ
 allocationCount (AllocationQuestion.Record a) = λ w. length (allocs w)
 allocationCount (AllocationQuestion.Owner v) = locals
 
+-- the id that is asked about
 abbrev pub allocationId : AllocationQuestion → ℕ
 allocationId (AllocationQuestion.Record a) = a .0
 allocationId (AllocationQuestion.Owner v) = v .0
 
+-- the words of an answer on allocations about an id
 abbrev pub allocationWords : AllocationQuestion → List ℕ → ℕ → List ℕ
 allocationWords (AllocationQuestion.Record a) = allocationAnswer
 allocationWords (AllocationQuestion.Owner v) = ownerAnswer
