@@ -84,7 +84,13 @@ fn slowest() {
         return;
     }
     let renaming = worst(Size::FULL).into_iter().filter(|(name, _)| name.contains("all locals in and out"));
-    let images = renaming.chain([("32 rings, and an allocation beside them", rings_with_an_allocation())]);
+    let images = renaming.chain([
+        ("32 rings, and an allocation beside them", rings_with_an_allocation()),
+        (
+            "medium size: every block all operations, every call all operands, one allocation",
+            calls_with_an_allocation(),
+        ),
+    ]);
     let mut result = vec![0; RESULT_BYTES];
     for (name, image) in images {
         let image = Timed::new(&image);
@@ -97,8 +103,18 @@ fn slowest() {
     }
 }
 
-/// Rings with an allocation in the first block, so that its answer waits for all passes. With the most rings that an image
-/// can have, 128, Plank had no answer after almost four minutes.
+/// All operations in every block and all operands in every call, and behind them an allocation that the first block alone holds.
+fn calls_with_an_allocation() -> Image {
+    let (_, mut image) = worst(Size::MEDIUM).swap_remove(0);
+    let base = image.locals;
+    image.locals += 1;
+    image.operation_with(Code::StaticAllocZeroed, &[], &[base], [32, 0]);
+    image.operation(Code::SelfDestruct, &[base], &[]);
+    image.blocks[0].operations = image.operations_from(0);
+    image
+}
+
+/// Rings with an allocation in the first block, so that its answer waits for all passes.
 fn rings_with_an_allocation() -> Image {
     let mut image = rings::image(Rings { rings: 32, inputs: MAX_LOCALS - 2, ..Rings::most(Size::FULL) });
     let base = image.locals;
