@@ -50,7 +50,7 @@ module _ {s old new : List ℕ} {r : ℕ} (k : Read s old new r) where
     front-good = subst WellFormed (sym front-is) (accepted s none-broken .1)
 
     last-rule : refusal s ≡ cond (rule12 (payload s)) 12 0
-    last-rule = first-append (pageRules s ++ recordRules (payload s)) ((12, rule12 (payload s)) ∷ []) (omega arith, (omega arith, (omega arith, (omega arith, (omega arith, (omega arith, (omega arith, (omega arith, (omega arith, (omega arith, (omega arith, tt))))))))))) ∙ rw none-broken
+    last-rule = first-append (pageRules s ++ recordRules (payload s)) ((12, rule12 (payload s)) ∷ []) refl ∙ rw none-broken
 
     pub refused-last : rule12 (take (126 * (length s / 512)) new) ≡ true → 12 ≡ refusal s
     refused-last t = sym (last-rule ∙ rw (ap rule12 (sym front-is) ∙ t))

@@ -7,7 +7,8 @@ use mathlib.Core.List.{List, [], _∷_, _++_}
 use Rattle.sir_data.specs.Pages.{payload}
 use Rattle.sir_data.specs.Rules.{first, pageRules, recordRules}
 use Rattle.sir_data.specs.WellFormed.{WellFormed}
-use Rattle.sir_data.specs.laws.WellFormed.{first-left, first-right, well-formed}
+use Rattle.sir_data.specs.laws.Rules.{first-left, first-right}
+use Rattle.sir_data.specs.laws.WellFormed.{well-formed}
 use Rattle.sir_analyses.specs.Allocation.{rule12}
 use Rattle.sir_analyses.specs.Answers.{refusal}
 use Rattle.sir_analyses.specs.Claims.{OrderRule, LivenessRule, MarkRule, SourceRule}

@@ -6,7 +6,7 @@ use lib.ListN.{length, drop}
 use Rattle.sir_data.specs.Pages.{payload}
 use Rattle.sir_data.specs.Rules.{first, pageRules, recordRules}
 
--- image s read into the slice `old`, which is `new` after it: r is the lowest refusal of 1 to 11, or 0
+-- image s read into the slice `old`, which is `new` after it: r is the first refusal of 1 to 11 in their sequence, or 0
 pub record Read (s old new : List ℕ) (r : ℕ) : Type 0 where
   pub number : r ≡ first (pageRules s ++ recordRules (payload s))
   -- pages in order: the payload stands at the front

@@ -2,7 +2,7 @@
 -- tells whether its refusal applies; a name ending in `Ok` tells the opposite.
 use mathlib.Core.Bool.{Bool, true, not, _&&_, _||_, cond}
 use Prim.Native.Nat.{ℕ, _+_, _-_, _*_, _/_}
-use mathlib.Core.List.{List, [], _∷_}
+use mathlib.Core.List.{List, [], _∷_, _++_}
 use lib.ListN.{length, drop}
 use lib.Dec.{eqb, leb, ltb}
 use Rattle.plank_core.specs.Lists.{upto, count, all, any, distinct}
@@ -103,16 +103,31 @@ rule10 w = not (all (λ b. all (λ s. eqb (length (outputs w b)) (length (inputs
 unfoldable pub rule11 : List ℕ → Bool
 rule11 w = not (all (λ b. distinct (inputs w b)) (upto (blocks w)))
 
--- the number of the first refusal in the list that applies, or 0
+-- a sequence of rules, each the number of a refusal and whether it applies: the number of the first that applies, or 0
 abbrev pub first : List (ℕ × Bool) → ℕ
 first [] = 0
 first (r ∷ rs) = cond (r .1) (r .0) (first rs)
 
--- refusals 4 to 11, lowest first: the front end that wrote the image
-abbrev pub recordRules : List ℕ → List (ℕ × Bool)
-recordRules w =
-    (4, rule4 w) ∷ (5, rule5 w) ∷ (6, rule6 w) ∷ (7, rule7 w) ∷ (8, rule8 w) ∷ (9, rule9 w) ∷ (10, rule10 w) ∷ (11, rule11 w) ∷ []
-
--- refusals 1 to 3, lowest first: carriage
+-- refusals 1 to 3 in their sequence: carriage
 abbrev pub pageRules : List ℕ → List (ℕ × Bool)
 pageRules s = (1, badLength s) ∷ (2, badNumber s) ∷ (3, badCheck s) ∷ []
+
+-- refusals 4 and 5: the head
+abbrev pub headRules : List ℕ → List (ℕ × Bool)
+headRules w = (4, rule4 w) ∷ (5, rule5 w) ∷ []
+
+-- refusals 7 and 8: kinds, codes, fields, ranges and ids
+abbrev pub fieldRules : List ℕ → List (ℕ × Bool)
+fieldRules w = (7, rule7 w) ∷ (8, rule8 w) ∷ []
+
+-- refusals 9 to 11: operands and what edges pass
+abbrev pub operandRules : List ℕ → List (ℕ × Bool)
+operandRules w = (9, rule9 w) ∷ (10, rule10 w) ∷ (11, rule11 w) ∷ []
+
+-- refusals 4 to 11 in their sequence: the front end that wrote the image. `fit` stands in the place of 6
+abbrev pub rulesOf : Bool → List ℕ → List (ℕ × Bool)
+rulesOf fit w = headRules w ++ ((6, fit) ∷ []) ++ fieldRules w ++ operandRules w
+
+-- those of words that are read from pages
+abbrev pub recordRules : List ℕ → List (ℕ × Bool)
+recordRules w = rulesOf (rule6 w) w

@@ -10,7 +10,7 @@ ghost use Rattle.sir_data.specs.Pages.{payload};
 ghost use Rattle.sir_data.specs.Rules.{first, pageRules, recordRules};
 ghost use Rattle.sir_data.specs.Image.{Read};
 
-// 0, or the lowest number of 1 to 11 that refuses the image. Where the pages are in order, its payload words go to the
+// The number of the first rule of 1 to 11 that refuses the image, or 0. Where the pages are in order, its payload words go to the
 // front of `words`, which has room for those of 117 pages.
 pub fn read_image(image: &[u8], words: &mut [u32]) -> u32
     requires { ⌜ 14742 ≤ length (now words) ⌝ }
@@ -24,7 +24,7 @@ pub fn read_image(image: &[u8], words: &mut [u32]) -> u32
     check_records(&words[..n])
 }
 
-// 0, or the lowest number of 1 to 11 that refuses the image.
+// The number of the first rule of 1 to 11 that refuses the image, or 0.
 pub fn refusal(image: &[u8]) -> u32
     ensures { λ r. ⌜ r ≡ first (pageRules (now (image .entry)) ++ recordRules (payload (now (image .entry)))) ⌝ }
 {

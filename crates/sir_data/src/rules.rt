@@ -1,4 +1,4 @@
-// Rules 4 to 11 on the payload words, and the lowest that is broken.
+// The record rules on the payload words, and the first in the sequence that applies.
 use crate::block_rules::each_block_fields_ok;
 use crate::block_rules::each_block_ids_ok;
 use crate::block_rules::rule_10;
@@ -19,12 +19,13 @@ use crate::records::target_count;
 use crate::records::targets_at;
 ghost use mathlib.Core.Path.{_≡_};
 ghost use mathlib.Core.Bool.{not, _&&_};
+ghost use mathlib.Core.List.{_++_};
 ghost use Prim.Native.Nat.{_≤_};
 ghost use lib.Dec.{eqb, ltb};
 ghost use lib.ListN.{length, drop};
 ghost use Rattle.plank_core.specs.Lists.{all, any, upto};
 ghost use Rattle.sir_data.specs.Records.{functions, blocks, operandWords, caseTargets, locals, initFunction, mainPlusOne, wordCount, entryBlock, operand, target};
-ghost use Rattle.sir_data.specs.Rules.{rule4, rule5, rule6, rule7, rule8, optionalBelow, first, recordRules};
+ghost use Rattle.sir_data.specs.Rules.{rule4, rule5, rule6, rule7, rule8, optionalBelow, first, headRules, fieldRules, operandRules, recordRules};
 ghost use Rattle.sir_data.specs.WellFormed.{Sized, InRange};
 
 // Rule 4: the edition is not 1.
@@ -182,11 +183,39 @@ fn rule_8(words: &[u32]) -> bool
     !targets_ok(words)
 }
 
-// 0, or the lowest of the rules 9 to 11 that is broken, where ranges and ids are in order.
-fn check_in_range(words: &[u32]) -> u32
+// The first of the head's rules that applies, or 0.
+fn check_head(words: &[u32]) -> u32
+    requires { ⌜ 9 ≤ length (now words) ⌝ }
+    ensures { λ r. ⌜ r ≡ first (headRules (now (words .entry))) ⌝ }
+{
+    if rule_4(words) {
+        return 4;
+    }
+    if rule_5(words) {
+        return 5;
+    }
+    0
+}
+
+// The first of the rules on kinds, codes, fields, ranges and ids that applies, or 0.
+fn check_fields(words: &[u32]) -> u32
+    requires { ⌜ Sized (now words) ⌝ }
+    ensures { λ r. ⌜ r ≡ first (fieldRules (now (words .entry))) ⌝ }
+{
+    if rule_7(words) {
+        return 7;
+    }
+    if rule_8(words) {
+        return 8;
+    }
+    0
+}
+
+// The first of the rules on operands and edges that applies, or 0, where ranges and ids are in order.
+fn check_operands(words: &[u32]) -> u32
     requires { ⌜ Sized (now words) ⌝ }
     requires { ⌜ InRange (now words) ⌝ }
-    ensures { λ r. ⌜ r ≡ first (drop 5 (recordRules (now (words .entry)))) ⌝ }
+    ensures { λ r. ⌜ r ≡ first (operandRules (now (words .entry))) ⌝ }
 {
     if rule_9(words) {
         return 9;
@@ -200,30 +229,26 @@ fn check_in_range(words: &[u32]) -> u32
     0
 }
 
-// 0, or the lowest of the rules 7 to 11 that is broken, where the counts are in order and their words are there.
+// The first of the rules behind the fit that applies, or 0, where the counts are in order and their words are there.
 fn check_sized(words: &[u32]) -> u32
     requires { ⌜ Sized (now words) ⌝ }
-    ensures { λ r. ⌜ r ≡ first (drop 3 (recordRules (now (words .entry)))) ⌝ }
+    ensures { λ r. ⌜ r ≡ first (fieldRules (now (words .entry)) ++ operandRules (now (words .entry))) ⌝ }
 {
-    if rule_7(words) {
-        return 7;
+    let broken = check_fields(words);
+    if broken != 0 {
+        return broken;
     }
-    if rule_8(words) {
-        return 8;
-    }
-    check_in_range(words)
+    check_operands(words)
 }
 
-// 0, or the lowest of the rules 4 to 11 that is broken. A rule is looked at only where those before it are kept.
+// The first of the record rules that applies, or 0. A rule is looked at only where none before it applies.
 pub fn check_records(words: &[u32]) -> u32
     requires { ⌜ 9 ≤ length (now words) ⌝ }
     ensures { λ r. ⌜ r ≡ first (recordRules (now (words .entry))) ⌝ }
 {
-    if rule_4(words) {
-        return 4;
-    }
-    if rule_5(words) {
-        return 5;
+    let broken = check_head(words);
+    if broken != 0 {
+        return broken;
     }
     if rule_6(words) {
         return 6;

@@ -1,4 +1,4 @@
--- Facts on numbers and lists, from rules that are not broken.
+-- Facts on numbers and lists, from rules that do not apply.
 use mathlib.Core.Path.{_≡_, refl}
 use mathlib.Core.Logic.{⊎-elim}
 use mathlib.Core.Bool.{Bool, true, false, not, _&&_, _||_, cond}
@@ -12,9 +12,9 @@ use Rattle.plank_core.specs.Lists.{count, range, upto, all, distinct}
 use Rattle.plank_core.specs.laws.Lists.{or-false-left, or-false-right, and-true-left, and-true-right, mem-count, mem-range, map-each, all-mem, all-upto, none}
 use Rattle.sir_data.specs.Records.{functions, blocks, operations, operandWords, caseTargets, locals, initFunction, mainPlusOne, wordCount, entryBlock, blockWord, opWord, operand, target, run, inputs, outputs, ops, control, field, optional, successors, code, ins, outs, extra}
 use Rattle.sir_data.specs.Codes.{arityOk, isCall, isStaticAlloc}
-use Rattle.sir_data.specs.Rules.{rule4, rule5, rule6, rule7, rule8, rule9, rule10, rule11, first, recordRules, zeroFrom, blockFieldsOk, opFieldsOk, rangeOk, optionalBelow, controlIdsOk, blockIdsOk, opIdsOk}
+use Rattle.sir_data.specs.Rules.{rule5, rule6, rule7, rule8, rule9, rule10, rule11, first, headRules, fieldRules, operandRules, rulesOf, recordRules, zeroFrom, blockFieldsOk, opFieldsOk, rangeOk, optionalBelow, controlIdsOk, blockIdsOk, opIdsOk}
 use Rattle.sir_data.specs.WellFormed.{Sized, InRange, WellFormed}
-use Rattle.sir_data.specs.laws.Rules.{keeps}
+use Rattle.sir_data.specs.laws.Rules.{first-left, first-right, applies, kept}
 
 -- ---- a rule's parts
 
@@ -42,46 +42,7 @@ ands-each a (b ∷ bs) h =
     let r = ands-each (a && b) bs h in
     (and-true-left a b (r .0), (and-true-right a b (r .0), r .1))
 
--- ---- no rule is broken
-
--- none of two lists is broken: none of the first, and none of the second
-pub first-left : (rs qs : List (ℕ × Bool)) → first (rs ++ qs) ≡ 0 → first rs ≡ 0
-first-left [] qs h = refl
-first-left (r ∷ rs) qs h = go (r .1) h (first-left rs qs)
-  where
-    go : (t : Bool) → cond t (r .0) (first (rs ++ qs)) ≡ 0 → (first (rs ++ qs) ≡ 0 → first rs ≡ 0) → cond t (r .0) (first rs) ≡ 0
-    go true e rest = e
-    go false e rest = rest e
-
-pub first-right : (rs qs : List (ℕ × Bool)) → all (λ r. ltb 0 (r .0)) rs ≡ true → first (rs ++ qs) ≡ 0 → first qs ≡ 0
-first-right [] qs p h = h
-first-right (r ∷ rs) qs p h = go (r .1) h (first-right rs qs (and-true-right (ltb 0 (r .0)) (all (λ q. ltb 0 (q .0)) rs) p))
-  where
-    go : (t : Bool) → cond t (r .0) (first (rs ++ qs)) ≡ 0 → (first (rs ++ qs) ≡ 0 → first qs ≡ 0) → first qs ≡ 0
-    go true e rest = absurd (omega (arith, ltb-true 0 (r .0) (and-true-left (ltb 0 (r .0)) (all (λ q. ltb 0 (q .0)) rs) p)))
-    go false e rest = rest e
-
-pub record Rules (w : List ℕ) : Type 0 where
-  pub r4 : rule4 w ≡ false
-  pub r5 : rule5 w ≡ false
-  pub r6 : rule6 w ≡ false
-  pub r7 : rule7 w ≡ false
-  pub r8 : rule8 w ≡ false
-  pub r9 : rule9 w ≡ false
-  pub r10 : rule10 w ≡ false
-  pub r11 : rule11 w ≡ false
-
-pub rules : (w : List ℕ) → first (recordRules w) ≡ 0 → Rules w
-rules w h =
-    let k4 = keeps (recordRules w) h (omega arith) in
-    let k5 = k4 .1 (omega arith) in
-    let k6 = k5 .1 (omega arith) in
-    let k7 = k6 .1 (omega arith) in
-    let k8 = k7 .1 (omega arith) in
-    let k9 = k8 .1 (omega arith) in
-    let k10 = k9 .1 (omega arith) in
-    let k11 = k10 .1 (omega arith) in
-    record { r4 = (cc); r5 = (cc); r6 = (cc); r7 = (cc); r8 = (cc); r9 = (cc); r10 = (cc); r11 = (cc) }
+-- ---- the tests of rule 8
 
 optional-ok : (k n m : ℕ) → optionalBelow k n ≡ true → List·Memᴰ m (optional k) → m < n
 optional-ok zero n m h i = absurd (List·Memᴰ·not-nil i)
@@ -172,21 +133,16 @@ opIds w o =
     rangeOk (opWord w o 3) (opWord w o 4) (operandWords w) ∷ (not (isCall (code w o)) || ltb (extra w o 0) (functions w))
     ∷ (not (isStaticAlloc (code w o)) || not (eqb (extra w o 1) 4294967295)) ∷ []
 
-module _ (w : List ℕ) (r5 : rule5 w ≡ false) (r6 : rule6 w ≡ false) where
+-- ---- what each group of rules gives where none of it applies
+
+-- the head, and as many words as it calls for
+module _ (w : List ℕ) (head : first (headRules w) ≡ 0) where
   five : Each false (ltb 64 (functions w) ∷ limits w)
   unfolding rule5
-  five = ors-each (ltb 64 (functions w)) (limits w) r5
+  five = ors-each (ltb 64 (functions w)) (limits w) (kept 5 (headRules w) refl head)
 
-  six : length w ≡ 126 * ((wordCount w + 125) / 126)
-  unfolding rule6
-  six = go (eqb (length w) (126 * ((wordCount w + 125) / 126))) refl
-    where
-      go : (t : Bool) → eqb (length w) (126 * ((wordCount w + 125) / 126)) ≡ t → length w ≡ 126 * ((wordCount w + 125) / 126)
-      go true e = eqb-true _ _ e
-      go false e = none true refl (rw e at r6)
-
-  pub sized : Sized w
-  sized =
+  pub sized : wordCount w ≤ length w → Sized w
+  sized fits =
       record {
         functions-most = ltb-false _ _ (five .0);
         blocks-most = ltb-false _ _ (five .1 .0);
@@ -196,8 +152,13 @@ module _ (w : List ℕ) (r5 : rule5 w ≡ false) (r6 : rule6 w ≡ false) where
         locals-most = ltb-false _ _ (five .1 .1 .1 .1 .1 .0);
         functions-some = let n = eqb-false (functions w) 0 (five .1 .1 .1 .1 .1 .1 .0) in omega arith;
         blocks-some = let n = eqb-false (blocks w) 0 (five .1 .1 .1 .1 .1 .1 .1 .0) in omega arith;
-        size = size-ok (length w) (wordCount w) six;
+        size = fits;
       }
+
+-- the fit of pages
+pub fits : (w : List ℕ) → rule6 w ≡ false → wordCount w ≤ length w
+unfolding rule6
+fits w h = size-ok (length w) (wordCount w) (eqb-true _ _ (not-false _ (or-false-left (not (eqb (length w) (126 * ((wordCount w + 125) / 126)))) _ h)))
 
 switch-ok : (c x0 x1 x2 x3 B L C : ℕ)
     → cond (eqb c 2) (ltb x0 B) (cond (eqb c 3) (ltb x0 L && ltb x1 B && ltb x2 B) (cond (eqb c 4) (ltb x0 L && leb (x1 + x2) C && optionalBelow x3 B) true)) ≡ true
@@ -206,14 +167,14 @@ switch-ok c x0 x1 x2 x3 B L C h e =
     let g : (ltb x0 L && leb (x1 + x2) C && optionalBelow x3 B) ≡ true = rw e at h in
     leb-true (x1 + x2) C (ands-each (ltb x0 L) (leb (x1 + x2) C ∷ optionalBelow x3 B ∷ []) g .1 .0)
 
-module _ (w : List ℕ) (r7 : rule7 w ≡ false) (r8 : rule8 w ≡ false) where
+module _ (w : List ℕ) (fields : first (fieldRules w) ≡ 0) where
   eight : Each true (ltb (initFunction w) (functions w) ∷ ids w)
   unfolding rule8
-  eight = ands-each (ltb (initFunction w) (functions w)) (ids w) (not-false _ r8)
+  eight = ands-each (ltb (initFunction w) (functions w)) (ids w) (not-false _ (kept 8 (fieldRules w) refl fields))
 
   seven : Each true (all (blockFieldsOk w) (upto (blocks w)) ∷ all (opFieldsOk w) (upto (operations w)) ∷ [])
   unfolding rule7
-  seven = ands-each (all (blockFieldsOk w) (upto (blocks w))) (all (opFieldsOk w) (upto (operations w)) ∷ []) (not-false _ r7)
+  seven = ands-each (all (blockFieldsOk w) (upto (blocks w))) (all (opFieldsOk w) (upto (operations w)) ∷ []) (not-false _ (kept 7 (fieldRules w) refl fields))
 
   block-ids : (b : ℕ) → b < blocks w → Each true (rangeOk (blockWord w b 0) (blockWord w b 1) (operandWords w) ∷ blockIds w b)
   block-ids b l = ands-each (rangeOk (blockWord w b 0) (blockWord w b 1) (operandWords w)) (blockIds w b) (all-upto (blockIdsOk w) (blocks w) (eight .1 .1 .1 .0) b l)
@@ -264,16 +225,26 @@ module _ (w : List ℕ) (r7 : rule7 w ≡ false) (r8 : rule8 w ≡ false) where
         written = λ o v l m. run-ok w (opWord w o 3) (opWord w o 4) v operand-ok (op-ids o l .1 .0) m;
       }
 
--- all the facts, wherever no record rule is broken
+-- all the facts, wherever no rule applies and the words are there
+module _ (w : List ℕ) (fit : Bool) (there : wordCount w ≤ length w) (accepted : first (rulesOf fit w) ≡ 0) where
+  -- rule k of the sequence does not apply
+  not-broken : (k : ℕ) → applies k (rulesOf fit w) ≡ false
+  not-broken k = kept k (rulesOf fit w) refl accepted
+
+  abbrev behind : List (ℕ × Bool)
+  behind = (6, fit) ∷ fieldRules w ++ operandRules w
+
+  pub formed : WellFormed w
+  unfolding rule9 rule10 rule11
+  formed =
+      record {
+        sized = sized w (first-left (headRules w) behind accepted) there;
+        in-range = in-range w (first-left (fieldRules w) (operandRules w) (first-right (headRules w ++ ((6, fit) ∷ [])) (fieldRules w ++ operandRules w) refl accepted));
+        arity-ok = λ o l. all-upto (λ p. arityOk (code w p) (length (ins w p)) (length (outs w p))) (operations w) (not-false _ (not-broken 9)) o l;
+        passed = λ b s l m. eqb-true _ _ (all-mem (λ t. eqb (length (outputs w b)) (length (inputs w t))) (successors w b)
+            (all-upto (λ c. all (λ t. eqb (length (outputs w c)) (length (inputs w t))) (successors w c)) (blocks w) (not-false _ (not-broken 10)) b l) s m);
+        inputs-once = λ b l. all-upto (λ c. distinct (inputs w c)) (blocks w) (not-false _ (not-broken 11)) b l;
+      }
+
 pub well-formed : (w : List ℕ) → first (recordRules w) ≡ 0 → WellFormed w
-unfolding rule9 rule10 rule11
-well-formed w h =
-    let rs = rules w h in
-    record {
-      sized = sized w (rs .r5) (rs .r6);
-      in-range = in-range w (rs .r7) (rs .r8);
-      arity-ok = λ o l. all-upto (λ p. arityOk (code w p) (length (ins w p)) (length (outs w p))) (operations w) (not-false _ (rs .r9)) o l;
-      passed = λ b s l m. eqb-true _ _ (all-mem (λ t. eqb (length (outputs w b)) (length (inputs w t))) (successors w b)
-          (all-upto (λ c. all (λ t. eqb (length (outputs w c)) (length (inputs w t))) (successors w c)) (blocks w) (not-false _ (rs .r10)) b l) s m);
-      inputs-once = λ b l. all-upto (λ c. distinct (inputs w c)) (blocks w) (not-false _ (rs .r11)) b l;
-    }
+well-formed w h = formed w (rule6 w) (fits w (kept 6 (recordRules w) refl h)) h

@@ -1,4 +1,4 @@
--- `check_pages` meets its contract: the first rule that is broken gives its number.
+-- `check_pages` meets its contract: the first rule that applies gives its number.
 use borrow.Author.Needs.{needs}
 use mathlib.Core.Path.{sym, _∙_}
 use Rattle.sir_data.proofs.pages.check_pages.Statement.{statement}

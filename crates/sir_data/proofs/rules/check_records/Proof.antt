@@ -1,55 +1,56 @@
--- `check_records` meets its contract: the first rule that is broken gives its number.
-use mathlib.Core.Path.{sym, _∙_}
-use Rattle.sir_data.specs.laws.WellFormed.{sized}
+-- `check_records` meets its contract: the head decides, then the fit, then what is behind it.
+use mathlib.Core.Path.{_≡_, refl, sym, _∙_}
+use mathlib.Core.Bool.{Bool, true, false}
+use mathlib.Core.List.{List, _∷_, _++_}
+use Prim.Native.Nat.{ℕ}
+use Rattle.sir_data.specs.Rules.{rule6, first, headRules, fieldRules, operandRules}
+use Rattle.sir_data.specs.laws.Rules.{by-later, by-earlier}
+use Rattle.sir_data.specs.laws.WellFormed.{sized, fits}
 use borrow.Author.Needs.{needs}
 use Rattle.sir_data.proofs.rules.check_records.Statement.{statement}
 use Rattle.sir_data.proofs.rules.check_records.Tie as tie
 
-rule-4-requires : tie.Need-rule-4-requires
-rule-4-requires c κs = search needs
+-- the rules behind the head
+abbrev behind : List ℕ → List (ℕ × Bool)
+behind w = (6, rule6 w) ∷ fieldRules w ++ operandRules w
+
+-- past the first test no rule of the head applies
+head-kept : (c : tie.Else1) → first (headRules (c .before .before .before .args .words .now)) ≡ 0
+head-kept c = sym (c .before .check-head .ensures) ∙ c .if1 .left
+
+check-head-requires : tie.Need-check-head-requires
+check-head-requires c κs = search needs
 
 returns : tie.Need-returns
-returns c = simp (sym (c .before .rule-4 .ensures) ∙ c .if1 .taken)
-
-rule-5-requires : tie.Need-rule-5-requires
-rule-5-requires c κs = search needs
-
-returns-2 : tie.Need-returns-2
-returns-2 c =
-    let c1 = c .before .before in
-    simp (sym (c1 .before .rule-4 .ensures) ∙ c1 .if1 .left, sym (c .before .rule-5 .ensures) ∙ c .if2 .taken)
+returns c =
+    let w = c .before .before .before .args .words .now in
+    let head = c .before .check-head .ensures in
+    head ∙ sym (by-earlier (headRules w) (behind w) refl (λ z. c .if1 .taken (head ∙ z)))
 
 rule-6-requires : tie.Need-rule-6-requires
 rule-6-requires c κs = search needs
 
-returns-3 : tie.Need-returns-3
-returns-3 c =
-    let c2 = c .before .before in
-    let c1 = c2 .before .before in
-    simp (sym (c1 .before .rule-4 .ensures) ∙ c1 .if1 .left, sym (c2 .before .rule-5 .ensures) ∙ c2 .if2 .left, sym (c .before .rule-6 .ensures) ∙ c .if3 .taken)
+returns-2 : tie.Need-returns-2
+returns-2 c =
+    let past = c .before .before in
+    let w = past .before .before .before .args .words .now in
+    let unfit : rule6 w ≡ true = sym (c .before .rule-6 .ensures) ∙ c .if2 .taken in
+    sym (by-later (headRules w) (behind w) refl (head-kept past) ∙ simp unfit)
 
 check-sized-requires : tie.Need-check-sized-requires
 check-sized-requires c κs =
-    let c2 = c .before .before in
-    let start = c2 .before .before .before .before .before in
-    sized (start .args .words .now) (sym (c2 .before .rule-5 .ensures) ∙ c2 .if2 .left) (sym (c .before .rule-6 .ensures) ∙ c .if3 .left)
+    let past = c .before .before in
+    let w = past .before .before .before .args .words .now in
+    sized w (head-kept past) (fits w (sym (c .before .rule-6 .ensures) ∙ c .if2 .left))
 
-returns-4 : tie.Need-returns-4
-returns-4 c =
-    let c3 = c .before in
-    let c2 = c3 .before .before in
-    let c1 = c2 .before .before in
-    simp (sym (c1 .before .rule-4 .ensures) ∙ c1 .if1 .left, sym (c2 .before .rule-5 .ensures) ∙ c2 .if2 .left, sym (c3 .before .rule-6 .ensures) ∙ c3 .if3 .left) (c .check-sized .ensures)
+returns-3 : tie.Need-returns-3
+returns-3 c =
+    let past = c .before .before .before in
+    let w = past .before .before .before .args .words .now in
+    let fit : rule6 w ≡ false = sym (c .before .before .rule-6 .ensures) ∙ c .before .if2 .left in
+    c .check-sized .ensures ∙ sym (by-later (headRules w) (behind w) refl (head-kept past) ∙ simp fit)
 
 pub check-records-spec : {M : Type 1} → statement M
 check-records-spec =
     tie.close
-    (tie.spec
-    rule-4-requires
-    returns
-    rule-5-requires
-    returns-2
-    rule-6-requires
-    returns-3
-    check-sized-requires
-    returns-4)
+    (tie.spec check-head-requires returns rule-6-requires returns-2 check-sized-requires returns-3)

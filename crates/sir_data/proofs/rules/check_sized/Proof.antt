@@ -1,37 +1,33 @@
--- `check_sized` meets its contract: the first rule that is broken gives its number.
-use mathlib.Core.Path.{sym, _∙_}
+-- `check_sized` meets its contract: the fields decide, or the operands.
+use mathlib.Core.Path.{_≡_, refl, sym, _∙_}
+use Rattle.sir_data.specs.Rules.{fieldRules, operandRules}
+use Rattle.sir_data.specs.laws.Rules.{by-later, by-earlier}
 use Rattle.sir_data.specs.laws.WellFormed.{in-range}
 use borrow.Author.Needs.{needs}
 use Rattle.sir_data.proofs.rules.check_sized.Statement.{statement}
 use Rattle.sir_data.proofs.rules.check_sized.Tie as tie
 
-rule-7-requires : tie.Need-rule-7-requires
-rule-7-requires c κs = search needs
+check-fields-requires : tie.Need-check-fields-requires
+check-fields-requires c κs = search needs
 
 returns : tie.Need-returns
-returns c = simp (sym (c .before .rule-7 .ensures) ∙ c .if1 .taken)
+returns c =
+    let w = c .before .before .before .args .words .now in
+    let fields = c .before .check-fields .ensures in
+    fields ∙ sym (by-earlier (fieldRules w) (operandRules w) refl (λ z. c .if1 .taken (fields ∙ z)))
 
-rule-8-requires : tie.Need-rule-8-requires
-rule-8-requires c κs = search needs
+check-operands-requires : tie.Need-check-operands-requires
+check-operands-requires c κs =
+    let start = c .before .before .before in
+    (start .pre, in-range (start .args .words .now) (sym (c .before .check-fields .ensures) ∙ c .if1 .left))
 
 returns-2 : tie.Need-returns-2
 returns-2 c =
-    let c1 = c .before .before in
-    simp (sym (c1 .before .rule-7 .ensures) ∙ c1 .if1 .left, sym (c .before .rule-8 .ensures) ∙ c .if2 .taken)
-
-check-in-range-requires : tie.Need-check-in-range-requires
-check-in-range-requires c κs =
-    let c1 = c .before .before in
-    let start = c1 .before .before .before in
-    (start .pre, in-range (start .args .words .now) (sym (c1 .before .rule-7 .ensures) ∙ c1 .if1 .left) (sym (c .before .rule-8 .ensures) ∙ c .if2 .left))
-
-returns-3 : tie.Need-returns-3
-returns-3 c =
-    let c2 = c .before in
-    let c1 = c2 .before .before in
-    simp (sym (c1 .before .rule-7 .ensures) ∙ c1 .if1 .left, sym (c2 .before .rule-8 .ensures) ∙ c2 .if2 .left) (c .check-in-range .ensures)
+    let past = c .before in
+    let w = past .before .before .before .args .words .now in
+    c .check-operands .ensures ∙ sym (by-later (fieldRules w) (operandRules w) refl (sym (past .before .check-fields .ensures) ∙ past .if1 .left))
 
 pub check-sized-spec : {M : Type 1} → statement M
 check-sized-spec =
     tie.close
-    (tie.spec rule-7-requires returns rule-8-requires returns-2 check-in-range-requires returns-3)
+    (tie.spec check-fields-requires returns check-operands-requires returns-2)

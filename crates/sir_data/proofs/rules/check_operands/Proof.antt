@@ -1,8 +1,8 @@
--- `check_in_range` meets its contract: the first rule that is broken gives its number.
+-- `check_operands` meets its contract: the first rule that applies gives its number.
 use mathlib.Core.Path.{sym, _∙_}
 use borrow.Author.Needs.{needs}
-use Rattle.sir_data.proofs.rules.check_in_range.Statement.{statement}
-use Rattle.sir_data.proofs.rules.check_in_range.Tie as tie
+use Rattle.sir_data.proofs.rules.check_operands.Statement.{statement}
+use Rattle.sir_data.proofs.rules.check_operands.Tie as tie
 
 rule-9-requires : tie.Need-rule-9-requires
 rule-9-requires c κs = search needs
@@ -33,8 +33,8 @@ returns-4 c =
     let c1 = c2 .before .before in
     simp (sym (c1 .before .rule-9 .ensures) ∙ c1 .if1 .left, sym (c2 .before .rule-10 .ensures) ∙ c2 .if2 .left, sym (c .before .rule-11 .ensures) ∙ c .if3 .left)
 
-pub check-in-range-spec : {M : Type 1} → statement M
-check-in-range-spec =
+pub check-operands-spec : {M : Type 1} → statement M
+check-operands-spec =
     tie.close
     (tie.spec
     rule-9-requires
