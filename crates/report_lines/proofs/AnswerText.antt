@@ -12,7 +12,8 @@ use Rattle.sir_data.specs.Pages.{wordAt, bytesOf}
 use Rattle.sir_analyses.specs.Order.{blocksRpo}
 use Rattle.sir_analyses.specs.Liveness.{Interval, intervals}
 use Rattle.sir_analyses.specs.Allocation.{allocs, allocAt, base, marked, merged}
-use Rattle.sir_analyses.specs.Answers.{intervalWords, intervalsAnswer, allocationAnswer, kindOf}
+use Rattle.sir_analyses.specs.Answers.{intervalWords, intervalsAnswer, allocationAnswer}
+use Rattle.sir_analyses.specs.Kinds.{kindOf, kindWords}
 use Rattle.sir_analyses.specs.laws.Writing.{length-bytes}
 use Rattle.report_lines.specs.Lines.{ascii, named, intervalText, interval, localText, allocationText}
 use Rattle.report_lines.specs.Putting.{Words, intervalAt, intervalsAt, EndsSome, localLine, mark, allocationHead, allocationLine}
@@ -106,7 +107,7 @@ module _ (w : List ℕ) (small : Words w) (seq : Words (blocksRpo w)) where
 
   module _ (a : ℕ) (l : a < length (allocs w)) where
     abbrev front : List ℕ
-    front = allocAt w a .block ∷ allocAt w a .op ∷ base w (allocAt w a) ∷ (kindOf w (allocAt w a .op) ++ (oneIf (marked w a) ∷ length (merged w a) ∷ []))
+    front = allocAt w a .block ∷ allocAt w a .op ∷ base w (allocAt w a) ∷ (kindWords (kindOf w (allocAt w a .op)) ++ (oneIf (marked w a) ∷ length (merged w a) ∷ []))
 
     allocation-count : (length (bind (allocationAnswer w a) bytesOf) - 32) / 12 ≡ length (merged w a)
     allocation-count = omega (arith, length-bytes (allocationAnswer w a), length-words (merged w a))

@@ -17,12 +17,13 @@ use Rattle.plank_core.specs.laws.Loops.{range-all}
 use Rattle.sir_data.specs.Pages.{bytesOf}
 use Rattle.sir_data.specs.Records.{blocks, locals}
 use Rattle.sir_analyses.specs.Allocation.{allocs}
-use Rattle.sir_analyses.specs.Answers.{orderAnswer, entryAnswer, exitAnswer, intervalsAnswer, allocationAnswer, Outcome, made, refused, answered}
+use Rattle.sir_analyses.specs.Answers.{orderAnswer, entryAnswer, exitAnswer, intervalsAnswer, allocationAnswer}
+use Rattle.sir_analyses.specs.Calls.{Outcome, made, refused, answered}
 use Rattle.sir_analyses.specs.Discovery.{allocKey, allocKeys}
 use Rattle.sir_analyses.specs.Order.{isVisited}
 use Rattle.sir_analyses.specs.Tables.{LiveRows}
 use Rattle.sir_analyses.specs.Writing.{Puts}
-use Rattle.sir_analyses.specs.laws.Writing.{length-bytes, puts-all}
+use Rattle.sir_analyses.specs.laws.Writing.{length-bytes, puts-within}
 use Rattle.report_lines.specs.Counting.{tooLong, localTooLong, allocationTooLong, someTooLong}
 use Rattle.report_lines.specs.Lines.{visitedBlocks}
 
@@ -41,7 +42,7 @@ pub stands : (xs : List ℕ) {out out′ : List ℕ} {r : ℕ} → length out �
 stands xs {out} {out′} {r} l e p =
     let w : Puts (length out) 0 xs out out′ r = rw (sym l) at p in
     let f : 4 * length xs ≤ length out = omega (arith, short xs e) in
-    ap (take (4 * r)) (w .left ∙ puts-all xs out f)
+    ap (take (4 * r)) (w .left ∙ puts-within 65536 xs out f f)
     ∙ take-at (bind xs bytesOf) (drop (4 * length xs) out) (4 * r) (omega (arith, length-bytes xs, p .next))
 
 -- the same of an answer that was asked for: 14 tells that it is too long

@@ -9,7 +9,8 @@ use Rattle.plank_core.specs.Lists.{bind, upto, any}
 use Rattle.sir_data.specs.Pages.{payload}
 use Rattle.sir_data.specs.Records.{locals}
 use Rattle.sir_analyses.specs.Allocation.{allocs}
-use Rattle.sir_analyses.specs.Answers.{refusal, orderAnswer, roundsAnswer, entryAnswer, exitAnswer, intervalsAnswer, allocationAnswer}
+use Rattle.sir_analyses.specs.Answers.{orderAnswer, roundsAnswer, entryAnswer, exitAnswer, intervalsAnswer, allocationAnswer}
+use Rattle.sir_analyses.specs.Calls.{refusal}
 use Rattle.report_lines.specs.Lines.{visitedBlocks}
 
 -- an answer of so many words needs more than 65,536 bytes

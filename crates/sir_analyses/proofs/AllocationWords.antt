@@ -1,11 +1,11 @@
 -- The locals that an allocation owns as a set, and the words of its answer.
 use mathlib.Core.Path.{_≡_, refl, sym, ap, _∙_}
 use mathlib.Core.Bool.{Bool, true, false, _&&_, _||_}
-use mathlib.Core.List.{List, [], _∷_, _++_, append-nil}
+use mathlib.Core.List.{List, [], _∷_, _++_, append-nil, append-assoc}
 use Prim.Native.Nat.{ℕ, _+_, _-_, _*_, _/_, _%_, _≤_, _<_}
 use native.Mathlib.Omega.{arith}
 use native.Mathlib.Numerals.{add-one}
-use lib.ListN.{length, getD, replicate}
+use lib.ListN.{length, getD, replicate, length-append}
 use lib.Dec.{eqb, ltb}
 use borrow.Author.Tests.{eqb-true, eqb-false, lt-ltb, le-ltb, ltb-true, ltb-false}
 use Rattle.plank_core.specs.Lists.{upto, oneIf}
@@ -15,17 +15,18 @@ use Rattle.sir_data.specs.Records.{blocks, operations, locals, code, outs}
 use Rattle.sir_data.specs.Codes.{isAlloc}
 use Rattle.sir_data.specs.WellFormed.{WellFormed}
 use Rattle.sir_analyses.specs.Liveness.{Set, has, Interval}
-use Rattle.sir_analyses.specs.Allocation.{allocs, allocAt, reach, marked, merged}
-use Rattle.sir_analyses.specs.Answers.{intervalWords, kindOf, allocationAnswer}
-use Rattle.sir_analyses.specs.Kinds.{headWords}
+use Rattle.sir_analyses.specs.Allocation.{allocs, allocAt, base, reach, marked, merged}
+use Rattle.sir_analyses.specs.Answers.{intervalWords, allocationAnswer}
+use Rattle.sir_analyses.specs.Kinds.{kindOf, kindWords}
+use Rattle.sir_analyses.specs.declared.allocation_words.AllocKind.{AllocKind}
 use Rattle.sir_analyses.specs.Tables.{Same}
-use Rattle.sir_analyses.specs.Discovery.{allocKeys, Discovered, Unmarked}
+use Rattle.sir_analyses.specs.Discovery.{allocKeys, Discovered, Site, Unmarked, headWords}
 use Rattle.sir_analyses.specs.Sweep.{sweepFrom}
 use Rattle.sir_analyses.specs.Writing.{Puts}
 use Rattle.sir_analyses.proofs.GenKill.{beyond}
 use Rattle.sir_analyses.proofs.Marks.{reach-length}
 use Rattle.sir_analyses.proofs.SweepProof.{sweep-merged}
-use Rattle.sir_analyses.proofs.Discovery.{alloc-op, key-op, key-block}
+use Rattle.sir_analyses.proofs.Discovery.{keys-long, alloc-op, key-op, key-block}
 use Rattle.sir_analyses.proofs.Writing.{puts-as, puts-then, puts-past}
 
 -- ---- the locals below v for which a test holds
@@ -69,8 +70,8 @@ module _ {w owner marks : List ℕ} (good : WellFormed w) (d : Discovered w owne
       go true e = ap (eqb (getD owner v 0)) (add-one a) ∙ sym (d .reach-is a v l u (ltb-true v (locals w) e))
       go false e = sym (beyond (reach w (allocAt w a)) v (omega (arith, reach-length w good a, ltb-false v (locals w) e)))
 
-  pub owned-unmarked : {key : ℕ} {set : List ℕ} → key ≡ getD (allocKeys w) a 0 → (length set ≡ 8) × Below (λ v. eqb (getD owner v 0) (a + 1)) (locals w) set → Unmarked w key set a
-  owned-unmarked {key} {set} e b = record { known = l; key-is = e; unmarked = u; long = b .0; same = owned-reach set (b .1) }
+  pub owned-unmarked : {b o : ℕ} {set : List ℕ} → Site w a b o → (length set ≡ 8) × Below (λ v. eqb (getD owner v 0) (a + 1)) (locals w) set → Unmarked w b o set a
+  owned-unmarked {b} {o} {set} x s = record { site = x; unmarked = u; long = s .0; same = owned-reach set (s .1) }
 
 -- the table of marks tells
 pub mark-told : {w owner marks : List ℕ} → Discovered w owner marks → {a : ℕ} → a < length (allocs w) → {told t : Bool} → told ≡ contains marks (0 + a) → told ≡ t → marked w a ≡ t
@@ -82,39 +83,65 @@ interval-count (i ∷ is) = let h = interval-count is in omega arith
 
 -- ---- the answer: its head, then the intervals
 
-pub head-made : (w : List ℕ) (key mark count : ℕ) {v k s i : ℕ} → v ≡ getD (outs w (key % 1024)) 0 0 → k ∷ s ∷ i ∷ [] ≡ kindOf w (key % 1024)
-    → key / 1024 ∷ key % 1024 ∷ v ∷ k ∷ s ∷ i ∷ mark ∷ count ∷ [] ≡ headWords w key mark count
-head-made w key mark count p q = rw p (ap (λ (xs : List ℕ). key / 1024 ∷ key % 1024 ∷ getD (outs w (key % 1024)) 0 0 ∷ (xs ++ (mark ∷ count ∷ []))) q)
+pub head-made : (w : List ℕ) (b o mark count : ℕ) {v k s i : ℕ} → v ≡ getD (outs w o) 0 0 → k ∷ s ∷ i ∷ [] ≡ kindWords (kindOf w o)
+    → b ∷ o ∷ v ∷ k ∷ s ∷ i ∷ mark ∷ count ∷ [] ≡ headWords w b o mark count
+head-made w b o mark count p q = rw p (ap (λ (xs : List ℕ). b ∷ o ∷ getD (outs w o) 0 0 ∷ (xs ++ (mark ∷ count ∷ []))) q)
 
-module _ (w : List ℕ) {k a : ℕ} (good : WellFormed w) (l : a < length (allocs w)) (e : k ≡ getD (allocKeys w) a 0) where
-  pub key-known : (k % 1024 < operations w) × (isAlloc (code w (k % 1024)) ≡ true)
-  key-known = rw (ap (λ (k : ℕ). k % 1024) e ∙ key-op w good a l) (alloc-op w good a l)
+-- a kind has three words, and so a head has eight
+kind-long : (k : AllocKind) → length (kindWords k) ≡ 3
+kind-long (AllocKind.Static size id) = refl
+kind-long (AllocKind.Dynamic local) = refl
 
-  head-is : (m n : ℕ) → m ≡ oneIf (marked w a) → n ≡ length (merged w a) → headWords w k m n ++ intervalWords (merged w a) ≡ allocationAnswer w a
-  head-is m n p q = rw (ap (λ (k : ℕ). k % 1024) e ∙ key-op w good a l, ap (λ (k : ℕ). k / 1024) e ∙ key-block w good a l, p, q) refl
+head-long : (w : List ℕ) (b o mark count : ℕ) → length (headWords w b o mark count) ≡ 8
+head-long w b o mark count = let l = length-append (kindWords (kindOf w o)) (mark ∷ count ∷ []) in omega (arith, kind-long (kindOf w o))
 
-  pub marked-answer : marked w a ≡ true → headWords w k 1 0 ≡ allocationAnswer w a
-  marked-answer t = sym (append-nil (headWords w k 1 0)) ∙ ap (λ (is : List Interval). headWords w k 1 0 ++ intervalWords is) (sym none) ∙ head-is 1 0 (rw t refl) (rw none refl)
+-- the site of an allocation, from its key
+pub key-site : (w : List ℕ) (good : WellFormed w) {keys : List ℕ} {a : ℕ} → a < length keys → keys ≡ allocKeys w → Site w a (getD keys a 0 / 1024) (getD keys a 0 % 1024)
+key-site w good {keys} {a} l e =
+    let k : a < length (allocs w) = omega (arith, ap length e, keys-long w) in
+    record {
+      known = k;
+      block-is = ap (λ (ks : List ℕ). getD ks a 0 / 1024) e ∙ key-block w good a k;
+      op-is = ap (λ (ks : List ℕ). getD ks a 0 % 1024) e ∙ key-op w good a k;
+    }
+
+module _ (w : List ℕ) {a b o : ℕ} (good : WellFormed w) (x : Site w a b o) where
+  pub site-known : (o < operations w) × (isAlloc (code w o) ≡ true)
+  site-known = rw (x .op-is) (alloc-op w good a (x .known))
+
+  head-is : (m n : ℕ) → m ≡ oneIf (marked w a) → n ≡ length (merged w a) → headWords w b o m n ++ intervalWords (merged w a) ≡ allocationAnswer w a
+  head-is m n p q =
+      rw (x .op-is, x .block-is, p, q)
+      (ap (λ (l : List ℕ). allocAt w a .block ∷ allocAt w a .op ∷ base w (allocAt w a) ∷ l) (append-assoc (kindWords (kindOf w (allocAt w a .op))) (oneIf (marked w a) ∷ length (merged w a) ∷ []) (intervalWords (merged w a))))
+
+  pub marked-answer : marked w a ≡ true → headWords w b o 1 0 ≡ allocationAnswer w a
+  marked-answer t = sym (append-nil (headWords w b o 1 0)) ∙ ap (λ (is : List Interval). headWords w b o 1 0 ++ intervalWords is) (sym none) ∙ head-is 1 0 (rw t refl) (rw none refl)
     where
       none : merged w a ≡ []
       none = rw t refl
+
+  pub marked-long : marked w a ≡ true → 8 ≡ length (allocationAnswer w a)
+  marked-long t = sym (head-long w b o 1 0) ∙ ap length (marked-answer t)
 
 -- what a sweep for some locals puts behind the head
 abbrev Sweeps : List ℕ → List ℕ → ℕ → List ℕ → List ℕ → ℕ → Type 0
 Sweeps w set limit out out′ r = (s : Set) → length s ≡ locals w → Same set s → Puts limit 8 (intervalWords (sweepFrom w s (upto (blocks w)))) out out′ r
 
-module _ {w set : List ℕ} {k a : ℕ} (good : WellFormed w) (x : Unmarked w k set a) where
+module _ {w set : List ℕ} {b o a : ℕ} (good : WellFormed w) (x : Unmarked w b o set a) where
   swept : {limit r : ℕ} {out out′ : List ℕ} → Sweeps w set limit out out′ r → Puts limit 8 (intervalWords (merged w a)) out out′ r
   swept p = puts-as (ap intervalWords (sweep-merged w good a (x .unmarked))) (p (reach w (allocAt w a)) (reach-length w good a) (x .same))
 
+  pub answer-long : length (allocationAnswer w a) ≡ 8 + length (intervalWords (merged w a))
+  answer-long = sym (ap length (head-is w good (x .site) (oneIf (marked w a)) (length (merged w a)) refl refl)) ∙ length-append (headWords w b o (oneIf (marked w a)) (length (merged w a))) (intervalWords (merged w a)) ∙ rw (head-long w b o (oneIf (marked w a)) (length (merged w a)))
+
   -- counting gives the number of words, and leaves the slice alone
   pub swept-count : {n : ℕ} {out counted : List ℕ} → Sweeps w set 0 out counted n → (n ≡ length (allocationAnswer w a)) × (counted ≡ out)
-  swept-count {n} {out} {counted} p = let q = swept p in (omega (arith, q .next), q .left ∙ puts-past 0 8 _ out (omega arith))
+  swept-count {n} {out} {counted} p = let q = swept p in (omega (arith, q .next, answer-long), q .left ∙ puts-past 0 8 _ out (omega arith))
 
   pub swept-answer : {limit n m r : ℕ} {out headed left : List ℕ} → n ≡ length (allocationAnswer w a)
-      → Puts limit 0 (headWords w k 0 ((n - 8) / 3)) out headed m → Sweeps w set limit headed left r → Puts limit 0 (allocationAnswer w a) out left r
+      → Puts limit 0 (headWords w b o 0 ((n - 8) / 3)) out headed m → Sweeps w set limit headed left r → Puts limit 0 (allocationAnswer w a) out left r
   swept-answer {limit} {n} {m} {r} {out} {headed} {left} e p q =
-      let z : (n - 8) / 3 ≡ length (merged w a) = omega (arith, e, interval-count (merged w a)) in
-      let g : m ≡ 8 = p .next in
-      let p′ : Puts limit 0 (headWords w k 0 ((n - 8) / 3)) out headed 8 = rw g at p in
-      puts-as (head-is w good (x .known) (x .key-is) 0 ((n - 8) / 3) (rw (x .unmarked) refl) z) (puts-then p′ (swept q))
+      let z : (n - 8) / 3 ≡ length (merged w a) = omega (arith, e, answer-long, interval-count (merged w a)) in
+      let g : m ≡ 8 = omega (arith, p .next, head-long w b o 0 ((n - 8) / 3)) in
+      let p′ : Puts limit 0 (headWords w b o 0 ((n - 8) / 3)) out headed 8 = rw g at p in
+      puts-as (head-is w good (x .site) 0 ((n - 8) / 3) (rw (x .unmarked) refl) z) (puts-then p′ (swept q))

@@ -3,7 +3,7 @@ pub mod Visiting
 pub mod Writing
 pub mod Keys
 pub mod Loads
-pub mod Outcomes
+pub mod Calls
 pub mod Edges
 pub mod UseWords
 pub mod OrderOnce

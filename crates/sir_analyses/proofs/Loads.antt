@@ -14,7 +14,8 @@ use Rattle.sir_data.specs.laws.Rules.{first-append}
 use Rattle.sir_data.specs.laws.Image.{length-payload, accepted}
 use Rattle.sir_analyses.specs.Order.{blocksRpo}
 use Rattle.sir_analyses.specs.Allocation.{rule12}
-use Rattle.sir_analyses.specs.Answers.{refusal, orderAnswer}
+use Rattle.sir_analyses.specs.Answers.{orderAnswer}
+use Rattle.sir_analyses.specs.Calls.{refusal}
 use Rattle.sir_analyses.specs.Visiting.{VisitedAll, SeenBlocks, blocksIn, orderIn, Listed}
 use Rattle.sir_analyses.specs.Loading.{Prepared}
 use Rattle.sir_analyses.proofs.Discovery.{keys-long, keys-most}

@@ -10,7 +10,7 @@ use Rattle.sir_data.specs.WellFormed.{WellFormed}
 use Rattle.sir_data.specs.laws.Rules.{first-left, first-right}
 use Rattle.sir_data.specs.laws.WellFormed.{well-formed}
 use Rattle.sir_analyses.specs.Allocation.{rule12}
-use Rattle.sir_analyses.specs.Answers.{refusal}
+use Rattle.sir_analyses.specs.Calls.{refusal}
 use Rattle.sir_analyses.specs.Claims.{OrderRule, LivenessRule, MarkRule, SourceRule}
 use Rattle.sir_analyses.specs.Walk.{Lifetimes}
 use Rattle.sir_analyses.proofs.OrderProof.{order-rule}

@@ -9,7 +9,7 @@ use borrow.Author.Tests.{le-leb}
 use Rattle.sir_data.specs.Pages.{bytesOf}
 use Rattle.sir_analyses.specs.Writing.{wordPut, wordsPut, Puts}
 use Rattle.sir_analyses.specs.laws.Writing.{puts-past, puts-append, puts-length}
-pub use Rattle.sir_analyses.specs.laws.Writing.{length-bytes, puts-past, puts-append, puts-length, puts-all}
+pub use Rattle.sir_analyses.specs.laws.Writing.{length-bytes, puts-past, puts-append, puts-length, puts-within}
 
 -- ---- some words are put, the rest are to come
 

@@ -2,18 +2,19 @@
 -- Used by inner contracts; no exported promise speaks of it.
 use mathlib.Core.Path.{_≡_}
 use mathlib.Core.Bool.{false}
-use mathlib.Core.List.{List, [], _∷_, map, reverse}
+use mathlib.Core.List.{List, [], _∷_, _++_, map, reverse}
 use Prim.Native.Nat.{ℕ, zero, suc, _+_, _*_, _≤_, _<_}
 use lib.ListN.{length, getD, take}
 use lib.Dec.{eqb}
 use Rattle.plank_core.specs.Lists.{keep, _∈_}
 use Rattle.plank_core.specs.DenseIndexSet.{contains, members, rowOf}
-use Rattle.sir_data.specs.Records.{locals, ops, code}
+use Rattle.sir_data.specs.Records.{locals, ops, code, outs}
 use Rattle.sir_data.specs.Codes.{isAlloc}
 use Rattle.sir_analyses.specs.Liveness.{has}
 use Rattle.sir_analyses.specs.Allocation.{Alloc, allocs, allocAt, reach, marked, owners}
 use Rattle.sir_analyses.specs.Tables.{Same}
 use Rattle.sir_analyses.specs.Propagation.{State, Propagates}
+use Rattle.sir_analyses.specs.Kinds.{kindOf, kindWords}
 
 -- an allocation as one number
 abbrev pub allocKey : Alloc → ℕ
@@ -83,10 +84,19 @@ pub record Discovered (w owner marks : List ℕ) : Type 0 where
   pub mark-is : (a : ℕ) → a < length (allocs w) → contains marks a ≡ marked w a
   pub reach-is : (a v : ℕ) → a < length (allocs w) → marked w a ≡ false → v < locals w → has (reach w (allocAt w a)) v ≡ eqb (getD owner v 0) (suc a)
 
--- allocation a, which is unmarked, has this key, and this set of words shows its reach
-pub record Unmarked (w : List ℕ) (key : ℕ) (set : List ℕ) (a : ℕ) : Type 0 where
+-- allocation a stands at operation o of block b
+pub record Site (w : List ℕ) (a b o : ℕ) : Type 0 where
   pub known : a < length (allocs w)
-  pub key-is : key ≡ getD (allocKeys w) a 0
+  pub block-is : b ≡ allocAt w a .block
+  pub op-is : o ≡ allocAt w a .op
+
+-- allocation a, which stands there, is unmarked, and this set of words shows its reach
+pub record Unmarked (w : List ℕ) (b o : ℕ) (set : List ℕ) (a : ℕ) : Type 0 where
+  pub site : Site w a b o
   pub unmarked : marked w a ≡ false
   pub long : length set ≡ 8
   pub same : Same set (reach w (allocAt w a))
+
+-- the first eight words of the record of an allocation at operation o of block b
+abbrev pub headWords : List ℕ → ℕ → ℕ → ℕ → ℕ → List ℕ
+headWords w b o mark count = b ∷ o ∷ getD (outs w o) 0 0 ∷ (kindWords (kindOf w o) ++ (mark ∷ count ∷ []))

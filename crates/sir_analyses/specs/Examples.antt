@@ -13,7 +13,8 @@ use Rattle.sir_data.specs.Rules.{first, recordRules, rule4, rule5, rule6, rule7
 use Rattle.sir_analyses.specs.Liveness.{Interval, blockEnd}
 use Rattle.sir_analyses.specs.Allocation.{rule12, sort, merge, marked}
 use Rattle.sir_analyses.specs.Source.{sourceState, sourceMarked, sourceIntervals}
-use Rattle.sir_analyses.specs.Answers.{orderAnswer, predecessorsAnswer, entryAnswer, exitAnswer, usesAnswer, intervalsAnswer, intervalWords, allocationAnswer, ownerAnswer, roundsAnswer, Outcome, outcome}
+use Rattle.sir_analyses.specs.Answers.{orderAnswer, predecessorsAnswer, entryAnswer, exitAnswer, usesAnswer, intervalsAnswer, intervalWords, allocationAnswer, ownerAnswer, roundsAnswer}
+use Rattle.sir_analyses.specs.Calls.{Outcome, asked, noRules, known, inWords}
 use Rattle.sir_analyses.specs.Walk.{Event, op, edge, Walk, enter, step, follow, Holds, given, kept, moved, Executed, now, before}
 
 -- ---- images of one page, written as blocks with their operations
@@ -255,11 +256,11 @@ table =
     ∷ (usesAnswer report 1, 0 ∷ 0 ∷ 2 ∷ 0 ∷ 2 ∷ 0 ∷ [])
     ∷ (ownerAnswer report 2, 1 ∷ [])
     -- as bytes, into a slice of 9: rounds; exit of block 0; a block that is not there; order, for which it is too short; a bad check
-    ∷ (outcomeWords (outcome (λ w. 1) (λ w i. roundsAnswer w) (pageBytes report) 0 (replicate 9 7)), 0 ∷ 4 ∷ 2 ∷ 0 ∷ 0 ∷ 0 ∷ 7 ∷ 7 ∷ 7 ∷ 7 ∷ 7 ∷ [])
-    ∷ (outcomeWords (outcome blocks exitAnswer (pageBytes report) 0 (replicate 9 7)), 0 ∷ 4 ∷ 1 ∷ 0 ∷ 0 ∷ 0 ∷ 7 ∷ 7 ∷ 7 ∷ 7 ∷ 7 ∷ [])
-    ∷ (outcomeWords (outcome blocks exitAnswer (pageBytes report) 2 (replicate 9 7)), 13 ∷ 0 ∷ replicate 9 7)
-    ∷ (outcomeWords (outcome (λ w. 1) (λ w i. orderAnswer w) (pageBytes report) 0 (replicate 9 7)), 14 ∷ 0 ∷ replicate 9 7)
-    ∷ (outcomeWords (outcome blocks exitAnswer pageOne 0 (replicate 9 7)), 3 ∷ 0 ∷ replicate 9 7)
+    ∷ (outcomeWords (asked noRules (inWords roundsAnswer) (pageBytes report) (replicate 9 7)), 0 ∷ 4 ∷ 2 ∷ 0 ∷ 0 ∷ 0 ∷ 7 ∷ 7 ∷ 7 ∷ 7 ∷ 7 ∷ [])
+    ∷ (outcomeWords (asked (known blocks 0) (inWords (λ w. exitAnswer w 0)) (pageBytes report) (replicate 9 7)), 0 ∷ 4 ∷ 1 ∷ 0 ∷ 0 ∷ 0 ∷ 7 ∷ 7 ∷ 7 ∷ 7 ∷ 7 ∷ [])
+    ∷ (outcomeWords (asked (known blocks 2) (inWords (λ w. exitAnswer w 2)) (pageBytes report) (replicate 9 7)), 13 ∷ 0 ∷ replicate 9 7)
+    ∷ (outcomeWords (asked noRules (inWords orderAnswer) (pageBytes report) (replicate 9 7)), 14 ∷ 0 ∷ replicate 9 7)
+    ∷ (outcomeWords (asked (known blocks 0) (inWords (λ w. exitAnswer w 0)) pageOne (replicate 9 7)), 3 ∷ 0 ∷ replicate 9 7)
     -- misreadings: taking non-zero first
     ∷ (orderAnswer (branching 1 2), 0 ∷ 3 ∷ 0 ∷ 1 ∷ 2 ∷ [])
     -- removing outputs after adding inputs, which loses `v = v + 1`

@@ -9,12 +9,13 @@ pub mod Bases
 pub mod Pointers
 pub mod Propagation
 pub mod Source
+pub mod Kinds
 pub mod Discovery
 pub mod Answers
+pub mod Calls
 pub mod Loading
 pub mod Questions
 pub mod Scanning
-pub mod Kinds
 pub mod Sweep
 pub mod Claims
 pub mod Walk

@@ -1,4 +1,4 @@
--- What every question starts from: the refusal of the image by rules 1 to 12, or its words, the visit and the order's sequence.
+-- What every question starts from: the refusal of the image, or its words, the visit and the order's sequence.
 -- Used by inner contracts; no exported promise speaks of it.
 use mathlib.Core.Path.{_≡_}
 use mathlib.Core.List.{List}
@@ -11,7 +11,8 @@ use Rattle.sir_analyses.specs.Order.{blocksRpo}
 use Rattle.sir_analyses.specs.Allocation.{rule12}
 use Rattle.sir_analyses.specs.Discovery.{allocKeys}
 use Rattle.sir_analyses.specs.Visiting.{SeenBlocks, orderIn}
-use Rattle.sir_analyses.specs.Answers.{refusal, orderAnswer}
+use Rattle.sir_analyses.specs.Answers.{orderAnswer}
+use Rattle.sir_analyses.specs.Calls.{refusal}
 
 -- what questions are answered from: the words of an accepted image, the blocks seen, the order's sequence
 pub record Ready (w seen rpo : List ℕ) : Type 0 where

@@ -6,7 +6,7 @@ use mathlib.Core.Bool.{cond}
 use mathlib.Core.List.{List, [], _∷_, _++_}
 use Prim.Native.Nat.{ℕ, _+_, _*_}
 use lib.ListN.{length, take, drop}
-use lib.Dec.{leb}
+use lib.Dec.{leb, ltb}
 use Rattle.sir_data.specs.Pages.{bytesOf}
 
 -- the slice with x put as word n of an answer
@@ -22,3 +22,8 @@ wordsPut limit n (x ∷ xs) out = wordsPut limit (n + 1) xs (wordPut limit n x o
 pub record Puts (limit n : ℕ) (xs out out′ : List ℕ) (r : ℕ) : Type 0 where
   pub next : r ≡ n + length xs
   pub left : out′ ≡ wordsPut limit n xs out
+
+-- number and length of a call whose answer has n words, for a slice of `room` bytes
+pub record Finished (n room number len : ℕ) : Type 0 where
+  pub number-is : number ≡ cond (ltb room (4 * n)) 14 0
+  pub len-is : len ≡ cond (ltb room (4 * n)) 0 (4 * n)

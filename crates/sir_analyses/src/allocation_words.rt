@@ -1,6 +1,8 @@
 // The first eight words of an allocation's record.
 use crate::allocation_liveness::base_ptr;
 use crate::answers::put_words;
+use plank_core::index::AllocId;
+use plank_core::index::BlockId;
 use plank_core::index::LocalId;
 use plank_core::index::OpIdx;
 use sir_data::codes::is_dynamic_alloc;
@@ -8,14 +10,14 @@ use sir_data::records::op_inputs;
 use sir_data::records::op_word;
 ghost use mathlib.Core.Path.{_≡_};
 ghost use mathlib.Core.Bool.{true};
-ghost use mathlib.Core.List.{_∷_, []};
-ghost use Prim.Native.Nat.{_≤_, _<_, _%_};
+ghost use mathlib.Core.List.{List, _∷_, []};
+ghost use Prim.Native.Nat.{ℕ, _≤_, _<_};
 ghost use lib.ListN.{length};
 ghost use Rattle.sir_data.specs.Records.{operations, code};
 ghost use Rattle.sir_data.specs.Codes.{isAlloc};
 ghost use Rattle.sir_data.specs.WellFormed.{WellFormed};
-ghost use Rattle.sir_analyses.specs.Answers.{kindOf};
-ghost use Rattle.sir_analyses.specs.Kinds.{kindWords, headWords};
+ghost use Rattle.sir_analyses.specs.Discovery.{allocKeys, Site, headWords};
+ghost use Rattle.sir_analyses.specs.Kinds.{kindOf, kindWords};
 ghost use Rattle.sir_analyses.specs.Writing.{Puts};
 
 // How an allocation gets its size: given, with a static id, or by a local.
@@ -28,7 +30,7 @@ pub enum AllocKind {
 pub fn alloc_kind(words: &[u32], o: OpIdx) -> AllocKind
     requires { ⌜ WellFormed (now words) ⌝ }
     requires { ⌜ (o .0 < operations (now words)) × (isAlloc (code (now words) (o .0)) ≡ true) ⌝ }
-    ensures { λ r. ⌜ kindWords r ≡ kindOf (now (words .entry)) (o .0) ⌝ }
+    ensures { λ r. ⌜ r ≡ kindOf (now (words .entry)) (o .0) ⌝ }
 {
     if is_dynamic_alloc(op_word(words, o, 0)) {
         let inputs = op_inputs(words, o);
@@ -58,23 +60,42 @@ fn kind_words(k: AllocKind) -> KindWords
     }
 }
 
-// The first eight words of an allocation, by its number from `find_allocations`.
+// Where an allocation stands.
+pub struct AllocSite {
+    pub block: BlockId,
+    pub op: OpIdx,
+}
+
+// The site of allocation a, from the keys of all allocations.
+pub fn site_of(keys: &[u32], a: AllocId) -> AllocSite
+    requires { ⌜ a .0 < length (now keys) ⌝ }
+    ensures { λ r. ⌜ ((w : List ℕ) → WellFormed w → now (keys .entry) ≡ allocKeys w → Site w (a .0) (r .block .0) (r .op .0)) ⌝ }
+{
+    let key = keys[a.0 as usize];
+    AllocSite {
+        block: BlockId(key / 1024),
+        op: OpIdx(key % 1024),
+    }
+}
+
+// The first eight words of an allocation's record.
 pub fn put_head(
     words: &[u32],
-    key: u32,
+    site: AllocSite,
     mark: u32,
     count: u32,
     out: &mut [u8],
     limit: usize,
 ) -> usize
     requires { ⌜ WellFormed (now words) ⌝ }
-    requires { ⌜ (key % 1024 < operations (now words)) × (isAlloc (code (now words) (key % 1024)) ≡ true) ⌝ }
+    requires { ⌜ (site .op .0 < operations (now words)) × (isAlloc (code (now words) (site .op .0)) ≡ true) ⌝ }
     requires { ⌜ limit ≤ length (now out) ⌝ }
-    ensures { λ r. ⌜ Puts limit 0 (headWords (now (words .entry)) key mark count) (now (out .entry)) (now (out .exit)) r ⌝ }
+    ensures { λ r. ⌜ Puts limit 0 (headWords (now (words .entry)) (site .block .0) (site .op .0) mark count) (now (out .entry)) (now (out .exit)) r ⌝ }
 {
-    let o = OpIdx(key % 1024);
+    let b = site.block;
+    let o = site.op;
     let base = base_ptr(words, o);
     let k = kind_words(alloc_kind(words, o));
-    let head = [key / 1024, o.0, base.0, k.kind, k.size, k.id, mark, count];
+    let head = [b.0, o.0, base.0, k.kind, k.size, k.id, mark, count];
     put_words(out, limit, 0, &head)
 }

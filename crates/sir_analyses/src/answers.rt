@@ -5,8 +5,8 @@ ghost use Prim.Native.Nat.{_+_, _<_, _≤_, _^_};
 ghost use lib.ListN.{length, take, drop};
 ghost use Rattle.plank_core.specs.Lists.{bind};
 ghost use Rattle.sir_data.specs.Pages.{bytesOf};
-ghost use Rattle.sir_analyses.specs.Answers.{made, answered};
-ghost use Rattle.sir_analyses.specs.Writing.{Puts};
+ghost use Rattle.sir_analyses.specs.Calls.{made, answered};
+ghost use Rattle.sir_analyses.specs.Writing.{Puts, Finished};
 
 // Stores the bytes of a word.
 fn store(out: &mut [u8], at: usize, word: u32)
@@ -67,19 +67,27 @@ pub fn refuse(number: u32) -> Answer
     Answer { number, length: 0 }
 }
 
+// What a call gives whose answer has n words: 14 where the slice has no room for them, with the length 0, up to which nothing is
+// stored.
+pub fn finish(n: usize, room: usize) -> Answer
+    requires { ⌜ n < 2 ^ 60 ⌝ }
+    ensures { λ r. ⌜ Finished n room (r .number) (r .length) ⌝ }
+{
+    if room < 4 * n {
+        return refuse(14);
+    }
+    Answer {
+        number: 0,
+        length: (4 * n) as u64,
+    }
+}
+
 // An answer whose words are at hand.
 pub fn words_answer(words: &[u32], out: &mut [u8]) -> Answer
     requires { ⌜ length (now words) < 2 ^ 60 ⌝ }
     ensures { λ r. ⌜ made (r .number) (r .length) (now (out .exit)) ≡ answered (bind (now (words .entry)) bytesOf) (now (out .entry)) ⌝ }
 {
-    let count = words.len();
-    if out.len() < 4 * count {
-        return refuse(14);
-    }
-    let room = out.len();
-    put_words(out, room, 0, words);
-    Answer {
-        number: 0,
-        length: (4 * count) as u64,
-    }
+    let answer = finish(words.len(), out.len());
+    put_words(out, answer.length as usize, 0, words);
+    answer
 }

@@ -3,6 +3,7 @@ pub mod allocation_answers;
 pub mod allocation_liveness;
 pub mod allocation_words;
 pub mod answers;
+pub mod ask;
 pub mod block_sets;
 pub mod def_use;
 pub mod live_answers;

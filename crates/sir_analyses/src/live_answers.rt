@@ -1,12 +1,13 @@
 // The answers that need liveness, but those on allocations: sets of a block, intervals of a local, rounds.
 use crate::answers::Answer;
-use crate::answers::refuse;
+use crate::answers::finish;
 use crate::answers::words_answer;
 use crate::block_sets::end_sets;
 use crate::block_sets::operand_sets;
 use crate::local_intervals::put_intervals;
 use crate::local_liveness::entry;
 use crate::local_liveness::live_sets;
+use crate::questions::LiveQuestion;
 use plank_core::dense_index_set::list;
 use plank_core::index::BlockId;
 use plank_core::index::LocalId;
@@ -19,13 +20,17 @@ ghost use Rattle.plank_core.specs.Lists.{bind};
 ghost use Rattle.plank_core.specs.DenseIndexSet.{members};
 ghost use Rattle.sir_data.specs.Pages.{bytesOf};
 ghost use Rattle.sir_data.specs.Records.{blocks, locals};
+ghost use Rattle.sir_data.specs.Rules.{first};
 ghost use Rattle.sir_data.specs.WellFormed.{WellFormed};
 ghost use Rattle.sir_analyses.specs.Order.{blocksRpo};
 ghost use Rattle.sir_analyses.specs.Liveness.{settled};
-ghost use Rattle.sir_analyses.specs.Answers.{entryAnswer, intervalsAnswer, made, answered};
-ghost use Rattle.sir_analyses.specs.Questions.{liveId, liveCount, liveWords};
+ghost use Rattle.sir_analyses.specs.Answers.{entryAnswer, intervalsAnswer};
+ghost use Rattle.sir_analyses.specs.Calls.{made, answered, inWords};
+ghost use Rattle.sir_analyses.specs.Loading.{Ready};
+ghost use Rattle.sir_analyses.specs.Questions.{ownRules, answerWords};
 ghost use Rattle.sir_analyses.specs.Visiting.{SeenBlocks};
 ghost use Rattle.sir_analyses.specs.Tables.{OperandRows, SameRows, LiveRows};
+ghost use Rattle.sir_analyses.specs.declared.questions.Question.{Question};
 
 // The members of a set.
 fn set_answer(set: &[u64], out: &mut [u8]) -> Answer
@@ -77,26 +82,13 @@ fn intervals_answer(
     let mut ends = [0u64; 2048];
     end_sets(words, &mut ends);
     let n = put_intervals(words, rpo, reads, writes, exits, &ends, v, out, 0);
-    if out.len() < 4 * n {
-        return refuse(14);
-    }
-    let room = out.len();
-    put_intervals(words, rpo, reads, writes, exits, &ends, v, out, room);
-    Answer {
-        number: 0,
-        length: (4 * n) as u64,
-    }
+    let answer = finish(n, out.len());
+    let limit = answer.length as usize;
+    put_intervals(words, rpo, reads, writes, exits, &ends, v, out, limit);
+    answer
 }
 
-// What is asked of liveness.
-pub enum LiveQuestion {
-    EntrySet(BlockId),
-    ExitSet(BlockId),
-    Intervals(LocalId),
-    Rounds,
-}
-
-// Makes the sets, and answers from them.
+// The answer to a question on liveness: makes the sets, and answers from them.
 pub fn live_answer(
     words: &[u32],
     seen: &[u64],
@@ -104,10 +96,9 @@ pub fn live_answer(
     question: LiveQuestion,
     out: &mut [u8],
 ) -> Answer
-    requires { ⌜ WellFormed (now words) ⌝ }
-    requires { ⌜ SeenBlocks (now words) (now seen) × (now rpo ≡ blocksRpo (now words)) ⌝ }
-    requires { ⌜ liveId question < liveCount question (now words) ⌝ }
-    ensures { λ r. ⌜ made (r .number) (r .length) (now (out .exit)) ≡ answered (bind (liveWords question (now (words .entry)) (liveId question)) bytesOf) (now (out .entry)) ⌝ }
+    requires { ⌜ Ready (now words) (now seen) (now rpo) ⌝ }
+    requires { ⌜ first (ownRules (Question.OfLiveness question) (now words)) ≡ 0 ⌝ }
+    ensures { λ r. ⌜ made (r .number) (r .length) (now (out .exit)) ≡ answered (inWords (answerWords (Question.OfLiveness question)) (now (words .entry))) (now (out .entry)) ⌝ }
 {
     let mut reads = [0u64; 8192];
     let mut writes = [0u64; 8192];

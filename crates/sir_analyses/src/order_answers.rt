@@ -1,10 +1,11 @@
-// The answers that need no liveness: the order, the predecessors of a block, the uses of a local.
+// The answers that need the order alone: the order itself, the predecessors of a block, the uses of a local.
 use crate::answers::Answer;
-use crate::answers::refuse;
+use crate::answers::finish;
 use crate::answers::words_answer;
 use crate::def_use::input_counts;
 use crate::def_use::put_uses;
 use crate::predecessors::put_predecessors;
+use crate::questions::OrderQuestion;
 use crate::reverse_post_order::order_words;
 use plank_core::index::BlockId;
 use plank_core::index::LocalId;
@@ -15,11 +16,15 @@ ghost use Rattle.plank_core.specs.Lists.{bind};
 ghost use Rattle.sir_data.specs.Pages.{bytesOf};
 ghost use Rattle.sir_data.specs.WellFormed.{WellFormed};
 ghost use Rattle.sir_analyses.specs.Order.{blocksRpo};
-ghost use Rattle.sir_analyses.specs.Answers.{predecessorsAnswer, usesAnswer, made, answered};
+ghost use Rattle.sir_analyses.specs.Answers.{orderAnswer, predecessorsAnswer, usesAnswer};
+ghost use Rattle.sir_analyses.specs.Calls.{made, answered, inWords};
+ghost use Rattle.sir_analyses.specs.Loading.{Ready};
+ghost use Rattle.sir_analyses.specs.Questions.{answerWords};
 ghost use Rattle.sir_analyses.specs.Visiting.{SeenBlocks, orderIn};
+ghost use Rattle.sir_analyses.specs.declared.questions.Question.{Question};
 
 // The order, from the keys of the visit.
-pub fn order_answer(post: &[u32], out: &mut [u8]) -> Answer
+fn visit_answer(post: &[u32], out: &mut [u8]) -> Answer
     requires { ⌜ length (orderIn (now post)) ≤ 384 ⌝ }
     ensures { λ r. ⌜ made (r .number) (r .length) (now (out .exit)) ≡ answered (bind (orderIn (now (post .entry))) bytesOf) (now (out .entry)) ⌝ }
 {
@@ -29,25 +34,19 @@ pub fn order_answer(post: &[u32], out: &mut [u8]) -> Answer
 }
 
 // Predecessors: counts, then writes.
-pub fn predecessors_answer(words: &[u32], seen: &[u64], b: BlockId, out: &mut [u8]) -> Answer
+fn predecessors_answer(words: &[u32], seen: &[u64], b: BlockId, out: &mut [u8]) -> Answer
     requires { ⌜ WellFormed (now words) ⌝ }
     requires { ⌜ SeenBlocks (now words) (now seen) ⌝ }
     ensures { λ r. ⌜ made (r .number) (r .length) (now (out .exit)) ≡ answered (bind (predecessorsAnswer (now (words .entry)) (b .0)) bytesOf) (now (out .entry)) ⌝ }
 {
     let n = put_predecessors(words, seen, b, out, 0);
-    if out.len() < 4 * n {
-        return refuse(14);
-    }
-    let room = out.len();
-    put_predecessors(words, seen, b, out, room);
-    Answer {
-        number: 0,
-        length: (4 * n) as u64,
-    }
+    let answer = finish(n, out.len());
+    put_predecessors(words, seen, b, out, answer.length as usize);
+    answer
 }
 
 // Uses: counts, then writes.
-pub fn uses_answer(words: &[u32], rpo: &[u32], v: LocalId, out: &mut [u8]) -> Answer
+fn uses_answer(words: &[u32], rpo: &[u32], v: LocalId, out: &mut [u8]) -> Answer
     requires { ⌜ WellFormed (now words) ⌝ }
     requires { ⌜ now rpo ≡ blocksRpo (now words) ⌝ }
     ensures { λ r. ⌜ made (r .number) (r .length) (now (out .exit)) ≡ answered (bind (usesAnswer (now (words .entry)) (v .0)) bytesOf) (now (out .entry)) ⌝ }
@@ -55,13 +54,27 @@ pub fn uses_answer(words: &[u32], rpo: &[u32], v: LocalId, out: &mut [u8]) -> An
     let mut counts = [0u32; 1024];
     input_counts(words, v, &mut counts);
     let n = put_uses(words, rpo, &counts, v, out, 0);
-    if out.len() < 4 * n {
-        return refuse(14);
-    }
-    let room = out.len();
-    put_uses(words, rpo, &counts, v, out, room);
-    Answer {
-        number: 0,
-        length: (4 * n) as u64,
+    let answer = finish(n, out.len());
+    put_uses(words, rpo, &counts, v, out, answer.length as usize);
+    answer
+}
+
+// The answer to a question of the order.
+pub fn order_answer(
+    words: &[u32],
+    seen: &[u64],
+    post: &[u32],
+    rpo: &[u32],
+    question: OrderQuestion,
+    out: &mut [u8],
+) -> Answer
+    requires { ⌜ Ready (now words) (now seen) (now rpo) ⌝ }
+    requires { ⌜ (orderIn (now post) ≡ orderAnswer (now words)) × (length (orderIn (now post)) ≤ 384) ⌝ }
+    ensures { λ r. ⌜ made (r .number) (r .length) (now (out .exit)) ≡ answered (inWords (answerWords (Question.OfOrder question)) (now (words .entry))) (now (out .entry)) ⌝ }
+{
+    match question {
+        OrderQuestion::Order => visit_answer(post, out),
+        OrderQuestion::Predecessors(b) => predecessors_answer(words, seen, b, out),
+        OrderQuestion::Uses(v) => uses_answer(words, rpo, v, out),
     }
 }

@@ -67,6 +67,6 @@ puts-fit limit n (x ∷ xs) front back f h l =
     ∙ append-assoc front (bytesOf x) _
     ∙ ap (λ (y : List ℕ). front ++ (bytesOf x ++ (bind xs bytesOf ++ y))) (drop-drop (4 * length xs) 4 back ∙ ap (λ (i : ℕ). drop i back) e))
 
--- an answer that fits is written whole, and the bytes past it stay
-pub puts-all : (xs out : List ℕ) → 4 * length xs ≤ length out → wordsPut (length out) 0 xs out ≡ bind xs bytesOf ++ drop (4 * length xs) out
-puts-all xs out h = puts-fit (length out) 0 xs [] out refl (omega arith) h
+-- an answer within the limit is written whole, and the bytes past it stay
+pub puts-within : (limit : ℕ) (xs out : List ℕ) → 4 * length xs ≤ limit → 4 * length xs ≤ length out → wordsPut limit 0 xs out ≡ bind xs bytesOf ++ drop (4 * length xs) out
+puts-within limit xs out h l = puts-fit limit 0 xs [] out refl (omega arith) l

@@ -6,7 +6,7 @@ use lib.Seq.{length-take-le}
 use borrow.Author.Tests.{eq-eqb, ne-eqb}
 use Rattle.report_lines.specs.Counting.{reported}
 use Rattle.report_lines.proofs.TooLong.{take-most}
-use Rattle.sir_analyses.specs.Answers.{refusal}
+use Rattle.sir_analyses.specs.Calls.{refusal}
 use borrow.Author.Needs.{needs}
 use Rattle.report_lines.proofs.printing.report.Statement.{statement}
 use Rattle.report_lines.proofs.printing.report.Tie as tie

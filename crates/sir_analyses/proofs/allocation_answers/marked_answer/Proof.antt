@@ -1,28 +1,37 @@
--- `marked_answer` meets its contract.
 use mathlib.Core.Path.{refl}
-use Rattle.sir_analyses.specs.Kinds.{headWords}
-use Rattle.sir_analyses.proofs.Outcomes.{too-short, written}
+use Rattle.sir_analyses.specs.Answers.{allocationAnswer}
+use Rattle.sir_analyses.proofs.Writing.{puts-as}
+use Rattle.sir_analyses.proofs.AllocationWords.{site-known, marked-answer, marked-long}
+use Rattle.sir_analyses.proofs.Calls.{finished, finish-as, finish-fits}
 use borrow.Author.Needs.{needs}
 use Rattle.sir_analyses.proofs.allocation_answers.marked_answer.Statement.{statement}
 use Rattle.sir_analyses.proofs.allocation_answers.marked_answer.Tie as tie
+use Rattle.sir_analyses.proofs.allocation_answers.marked_answer.Reads as reads
+use Rattle.sir_analyses.proofs.allocation_answers.marked_answer.Lts as lts
+use Rattle.sir_analyses.proofs.allocation_words.put_head.Reads as put-head-reads
+use Rattle.sir_analyses.proofs.answers.finish.Reads as finish-reads
 
-refuse-requires : tie.Need-refuse-requires
-refuse-requires c κs = search needs
+-- src/allocation_answers.rt:65:9
+finish-requires : tie.Need-finish-requires
+finish-requires c κs = search needs
 
-returns : tie.Need-returns
-returns c = let s = c .before .before .before .before in
-    too-short (headWords (s .args .words .now) (s .args .key) 1 0) (s .args .out .now) (c .before .if1 .taken) (c .refuse .ensures .0) (c .refuse .ensures .1) refl
-
+-- src/allocation_answers.rt:66:5
 put-head-requires : tie.Need-put-head-requires
-put-head-requires c κs = search needs
+put-head-requires c κs = let s = c .before .before .before .before in
+    (s .pre .0, (site-known (s .args .words .now) (s .pre .0) (s .pre .1 .1), finish-fits (c .before .finish .ensures)))
 
+-- src/allocation_answers.rt:60:1
 same-length : tie.Need-same-length
 same-length c = search needs
 
-returns-2 : tie.Need-returns-2
-returns-2 c = let s = c .before .before .before .before .before .before .before in
-    written (headWords (s .args .words .now) (s .args .key) 1 0) (s .args .out .now) (c .before .before .before .before .if1 .left) refl (c .before .before .put-head .ensures)
+-- src/allocation_answers.rt:60:1
+returns : tie.Need-returns
+returns c = let s = c .before .before .before .before .before .before .before in
+    let w = s .args .words .now in
+    λ a x t.
+    finished (allocationAnswer w a) (s .args .out .now)
+    (finish-as (allocationAnswer w a) (s .args .out .now) (marked-long w (s .pre .0) x t) refl (c .before .before .before .before .finish .ensures))
+    (puts-as (marked-answer w (s .pre .0) x t) (c .before .before .put-head .ensures))
 
 pub marked-answer-spec : {M : Type 1} → statement M
-marked-answer-spec =
-    tie.close (tie.spec refuse-requires returns put-head-requires same-length returns-2)
+marked-answer-spec = tie.close (tie.spec finish-requires put-head-requires same-length returns)

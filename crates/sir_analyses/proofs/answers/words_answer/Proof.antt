@@ -1,32 +1,28 @@
--- `words_answer` meets its contract.
-use mathlib.Core.Path.{refl}
-use Rattle.sir_analyses.proofs.Outcomes.{too-short, written}
+use native.Mathlib.Omega.{arith}
+use Rattle.sir_analyses.proofs.Calls.{finished, finish-fits}
 use borrow.Author.Needs.{needs}
 use Rattle.sir_analyses.proofs.answers.words_answer.Statement.{statement}
 use Rattle.sir_analyses.proofs.answers.words_answer.Tie as tie
+use Rattle.sir_analyses.proofs.answers.words_answer.Reads as reads
+use Rattle.sir_analyses.proofs.answers.words_answer.Lts as lts
+use Rattle.sir_analyses.proofs.answers.finish.Reads as finish-reads
+use Rattle.sir_analyses.proofs.answers.put_words.Reads as put-words-reads
 
-mul-if1 : tie.Need-mul-if1
-mul-if1 c = search needs
+-- src/answers.rt:90:9
+finish-requires : tie.Need-finish-requires
+finish-requires c κs = search needs
 
-refuse-requires : tie.Need-refuse-requires
-refuse-requires c κs = search needs
-
-returns : tie.Need-returns
-returns c = too-short (c .before .before .before .before .args .words .now) (c .before .before .before .before .args .out .now) (c .before .if1 .taken) (c .refuse .ensures .0) (c .refuse .ensures .1) refl
-
+-- src/answers.rt:91:5
 put-words-requires : tie.Need-put-words-requires
-put-words-requires c κs = search needs
+put-words-requires c κs = (finish-fits (c .before .finish .ensures), omega (arith, c .before .before .before .before .pre))
 
-mul-t6 : tie.Need-mul-t6
-mul-t6 c = search needs
-
+-- src/answers.rt:86:1
 same-length : tie.Need-same-length
 same-length c = search needs
 
-returns-2 : tie.Need-returns-2
-returns-2 c = written (c .before .before .before .before .before .before .before .args .words .now) (c .before .before .before .before .before .before .before .args .out .now) (c .before .before .before .before .if1 .left) refl (c .before .before .put-words .ensures)
+-- src/answers.rt:86:1
+returns : tie.Need-returns
+returns c = let a = c .before .before .before .before .before .before .before .args in finished (a .words .now) (a .out .now) (c .before .before .before .before .finish .ensures) (c .before .before .put-words .ensures)
 
 pub words-answer-spec : {M : Type 1} → statement M
-words-answer-spec =
-    tie.close
-    (tie.spec mul-if1 refuse-requires returns put-words-requires mul-t6 same-length returns-2)
+words-answer-spec = tie.close (tie.spec finish-requires put-words-requires same-length returns)

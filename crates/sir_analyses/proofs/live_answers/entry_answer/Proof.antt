@@ -4,7 +4,7 @@ use mathlib.Core.List.{List}
 use Prim.Native.Nat.{ℕ}
 use Rattle.plank_core.specs.Lists.{bind}
 use Rattle.sir_data.specs.Pages.{bytesOf}
-use Rattle.sir_analyses.specs.Answers.{answered}
+use Rattle.sir_analyses.specs.Calls.{answered}
 use borrow.Author.Tests.{not-true, not-false}
 use Rattle.sir_analyses.proofs.SetAnswers.{no-entry}
 use borrow.Author.Needs.{needs}

@@ -7,7 +7,7 @@ use lib.ListN.{length, replicate}
 use Rattle.plank_core.specs.Lists.{bind}
 use Rattle.plank_core.specs.laws.Members.{members-most}
 use Rattle.sir_data.specs.Pages.{bytesOf}
-use Rattle.sir_analyses.specs.Answers.{answered}
+use Rattle.sir_analyses.specs.Calls.{answered}
 use Rattle.sir_analyses.proofs.SetAnswers.{front-members}
 use Rattle.sir_analyses.proofs.Loads.{front-length}
 use borrow.Author.Needs.{needs}

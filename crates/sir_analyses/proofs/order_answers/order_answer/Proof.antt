@@ -1,46 +1,85 @@
--- `order_answer` meets its contract.
-use mathlib.Core.Path.{ap, _∙_}
+use mathlib.Core.Path.{sym, ap, _∙_}
 use mathlib.Core.List.{List}
 use Prim.Native.Nat.{ℕ}
-use native.Mathlib.Omega.{arith}
-use lib.ListN.{length}
 use Rattle.plank_core.specs.Lists.{bind}
 use Rattle.sir_data.specs.Pages.{bytesOf}
-use Rattle.sir_analyses.specs.Answers.{answered}
-use Rattle.sir_analyses.proofs.Loads.{front-length}
+use Rattle.sir_analyses.specs.Calls.{answered, inWords}
+use Rattle.sir_analyses.specs.Questions.{answerWords}
+use Rattle.sir_analyses.specs.declared.questions.OrderQuestion.{OrderQuestion}
+use Rattle.sir_analyses.specs.declared.questions.Question.{Question}
 use borrow.Author.Needs.{needs}
 use Rattle.sir_analyses.proofs.order_answers.order_answer.Statement.{statement}
 use Rattle.sir_analyses.proofs.order_answers.order_answer.Tie as tie
+use Rattle.sir_analyses.proofs.order_answers.order_answer.Reads as reads
+use Rattle.sir_analyses.proofs.order_answers.order_answer.Lts as lts
+use Rattle.sir_analyses.proofs.order_answers.predecessors_answer.Reads as predecessors-answer-reads
+use Rattle.sir_analyses.proofs.order_answers.uses_answer.Reads as uses-answer-reads
+use Rattle.sir_analyses.proofs.order_answers.visit_answer.Reads as visit-answer-reads
 
-slice-aggregate-order-words : tie.Need-slice-aggregate-order-words
-slice-aggregate-order-words c = search needs
+-- src/order_answers.rt:76:52
+enum-told : tie.Need-enum-told
+enum-told c = search needs
 
-order-words-requires : tie.Need-order-words-requires
-order-words-requires c κs = search needs
+-- src/order_answers.rt:76:33
+visit-answer-requires : tie.Need-visit-answer-requires
+visit-answer-requires c κs = search needs
 
-array-share-prefix-order : tie.Need-array-share-prefix-order
-array-share-prefix-order c = search needs
+-- src/order_answers.rt:77:37
+enum-known-question : tie.Need-enum-known-question
+enum-known-question c = search needs
 
-slice-aggregate-words-answer : tie.Need-slice-aggregate-words-answer
-slice-aggregate-words-answer c = front-length _ _ (omega (arith, c .before .before .before .before .before .before .pre, c .before .before .order-words .ensures .next, c .before .before .order-words .ensures .long))
+-- src/order_answers.rt:77:43
+predecessors-answer-requires : tie.Need-predecessors-answer-requires
+predecessors-answer-requires c κs = search needs
 
-words-answer-requires : tie.Need-words-answer-requires
-words-answer-requires c κs = omega (arith, c .before .before .before .before .before .before .before .pre, ap length (c .before .before .before .order-words .ensures .list))
+-- src/order_answers.rt:78:29
+enum-known-question-2 : tie.Need-enum-known-question-2
+enum-known-question-2 c = search needs
 
+-- src/order_answers.rt:78:35
+uses-answer-requires : tie.Need-uses-answer-requires
+uses-answer-requires c κs = search needs
+
+-- src/order_answers.rt:63:1
 same-length : tie.Need-same-length
 same-length c = search needs
 
+-- src/order_answers.rt:63:1
 returns : tie.Need-returns
-returns c = c .before .before .words-answer .ensures ∙ ap (λ (l : List ℕ). answered (bind l bytesOf) (c .before .before .before .before .before .before .before .before .before .before .args .out .now)) (c .before .before .before .before .before .before .order-words .ensures .list)
+returns c = let a = c .before .before .before .before .before .before .before .before .before .before .before .args in
+    c .before .before .visit-answer .ensures ∙ ap (λ (l : List ℕ). answered (bind l bytesOf) (a .out .now)) (c .before .before .before .before .before .before .before .before .before .before .before .pre .1 .0) ∙ ap (λ (q : OrderQuestion). answered (inWords (answerWords (Question.OfOrder q)) (a .words .now)) (a .out .now)) (sym (c .before .before .before .before .enum-told .given .1))
+
+-- src/order_answers.rt:63:1
+same-length-2 : tie.Need-same-length-2
+same-length-2 c = search needs
+
+-- src/order_answers.rt:63:1
+returns-2 : tie.Need-returns-2
+returns-2 c = let a = c .before .before .before .before .before .before .before .before .before .before .before .before .args in
+    c .before .before .predecessors-answer .ensures ∙ ap (λ (q : OrderQuestion). answered (inWords (answerWords (Question.OfOrder q)) (a .words .now)) (a .out .now)) (sym (c .before .before .before .before .before .question .given .1))
+
+-- src/order_answers.rt:63:1
+same-length-3 : tie.Need-same-length-3
+same-length-3 c = search needs
+
+-- src/order_answers.rt:63:1
+returns-3 : tie.Need-returns-3
+returns-3 c = let a = c .before .before .before .before .before .before .before .before .before .before .before .before .args in
+    c .before .before .uses-answer .ensures ∙ ap (λ (q : OrderQuestion). answered (inWords (answerWords (Question.OfOrder q)) (a .words .now)) (a .out .now)) (sym (c .before .before .before .before .before .question2 .given .1))
 
 pub order-answer-spec : {M : Type 1} → statement M
 order-answer-spec =
     tie.close
     (tie.spec
-    slice-aggregate-order-words
-    order-words-requires
-    array-share-prefix-order
-    slice-aggregate-words-answer
-    words-answer-requires
+    enum-told
+    visit-answer-requires
+    enum-known-question
+    predecessors-answer-requires
+    enum-known-question-2
+    uses-answer-requires
     same-length
-    returns)
+    returns
+    same-length-2
+    returns-2
+    same-length-3
+    returns-3)

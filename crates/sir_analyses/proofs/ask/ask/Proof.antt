@@ -1,0 +1,127 @@
+use mathlib.Core.Path.{_≡_, sym, ap, _∙_}
+use mathlib.Core.List.{List}
+use Prim.Native.Nat.{ℕ}
+use Rattle.sir_analyses.specs.Calls.{call, refusal, inWords}
+use Rattle.sir_analyses.specs.Questions.{ownRules, answerWords}
+use Rattle.sir_analyses.proofs.Calls.{image-refused, image-accepted}
+use Rattle.sir_analyses.proofs.Loads.{front-length}
+use Rattle.sir_analyses.proofs.Proved.{order, liveness, marks, walks, source}
+use borrow.Author.Needs.{needs}
+use Rattle.sir_analyses.proofs.ask.ask.Statement.{statement}
+use Rattle.sir_analyses.proofs.ask.ask.Tie as tie
+use Rattle.sir_analyses.proofs.ask.ask.Reads as reads
+use Rattle.sir_analyses.proofs.ask.ask.Lts as lts
+use Rattle.sir_analyses.proofs.answers.refuse.Reads as refuse-reads
+use Rattle.sir_analyses.proofs.ask.answer.Reads as answer-reads
+use Rattle.sir_analyses.proofs.loading.load.Reads as load-reads
+
+-- src/ask.rt:60:29
+slice-aggregate-load : tie.Need-slice-aggregate-load
+slice-aggregate-load c = search needs
+
+-- src/ask.rt:60:41
+slice-aggregate-load-2 : tie.Need-slice-aggregate-load-2
+slice-aggregate-load-2 c = search needs
+
+-- src/ask.rt:60:52
+slice-aggregate-load-3 : tie.Need-slice-aggregate-load-3
+slice-aggregate-load-3 c = search needs
+
+-- src/ask.rt:60:63
+slice-aggregate-load-4 : tie.Need-slice-aggregate-load-4
+slice-aggregate-load-4 c = search needs
+
+-- src/ask.rt:60:9
+load-requires : tie.Need-load-requires
+load-requires c κs = search needs
+
+-- src/ask.rt:63:9
+refuse-requires : tie.Need-refuse-requires
+refuse-requires c κs = search needs
+
+-- src/ask.rt:63:9
+returns : tie.Need-returns
+returns c = let a = c .before .before .before .before .before .before .before .before .before .before .before .before .before .args in
+    let image = a .image .now in
+    (image-refused (ownRules (a .question)) (inWords (answerWords (a .question))) image (a .out .now) (λ z. c .before .if1 .taken (c .before .before .before .before .before .before .load .ensures .number-is ∙ z)) (c .refuse .ensures .0 ∙ c .before .before .before .before .before .before .load .ensures .number-is) (c .refuse .ensures .1), (order image, (liveness image, (marks image, (source image, walks image)))))
+
+-- src/ask.rt:69:9
+array-share-prefix-words : tie.Need-array-share-prefix-words
+array-share-prefix-words c = let s = c .before .before .before .before .before .before .before .before .before .before .before .before in
+    let p = c .before .before .before .before .before .load .ensures .accepted (sym (c .before .before .before .before .before .load .ensures .number-is) ∙ c .if1 .left) in
+    p .words-fit
+
+-- src/ask.rt:69:9
+slice-aggregate-answer : tie.Need-slice-aggregate-answer
+slice-aggregate-answer c = let s = c .before .before .before .before .before .before .before .before .before .before .before .before .before in
+    let p = c .before .before .before .before .before .before .load .ensures .accepted (sym (c .before .before .before .before .before .before .load .ensures .number-is) ∙ c .before .if1 .left) in
+    front-length _ _ (p .words-fit)
+
+-- src/ask.rt:70:9
+slice-aggregate-answer-2 : tie.Need-slice-aggregate-answer-2
+slice-aggregate-answer-2 c = search needs
+
+-- src/ask.rt:71:9
+array-share-prefix-post : tie.Need-array-share-prefix-post
+array-share-prefix-post c = let s = c .before .before .before .before .before .before .before .before .before .before .before .before .before .before in
+    let p = c .before .before .before .before .before .before .before .load .ensures .accepted (sym (c .before .before .before .before .before .before .before .load .ensures .number-is) ∙ c .before .before .if1 .left) in
+    p .post-fit
+
+-- src/ask.rt:71:9
+slice-aggregate-answer-3 : tie.Need-slice-aggregate-answer-3
+slice-aggregate-answer-3 c = let s = c .before .before .before .before .before .before .before .before .before .before .before .before .before .before .before in
+    let p = c .before .before .before .before .before .before .before .before .load .ensures .accepted (sym (c .before .before .before .before .before .before .before .before .load .ensures .number-is) ∙ c .before .before .before .if1 .left) in
+    front-length _ _ (p .post-fit)
+
+-- src/ask.rt:72:9
+array-share-prefix-rpo : tie.Need-array-share-prefix-rpo
+array-share-prefix-rpo c = let s = c .before .before .before .before .before .before .before .before .before .before .before .before .before .before .before in
+    let p = c .before .before .before .before .before .before .before .before .load .ensures .accepted (sym (c .before .before .before .before .before .before .before .before .load .ensures .number-is) ∙ c .before .before .before .if1 .left) in
+    p .rpo-fit
+
+-- src/ask.rt:72:9
+slice-aggregate-answer-4 : tie.Need-slice-aggregate-answer-4
+slice-aggregate-answer-4 c = let s = c .before .before .before .before .before .before .before .before .before .before .before .before .before .before .before .before in
+    let p = c .before .before .before .before .before .before .before .before .before .load .ensures .accepted (sym (c .before .before .before .before .before .before .before .before .before .load .ensures .number-is) ∙ c .before .before .before .before .if1 .left) in
+    front-length _ _ (p .rpo-fit)
+
+-- src/ask.rt:68:5
+answer-requires : tie.Need-answer-requires
+answer-requires c κs = let s = c .before .before .before .before .before .before .before .before .before .before .before .before .before .before .before .before .before in
+    let p = c .before .before .before .before .before .before .before .before .before .before .load .ensures .accepted (sym (c .before .before .before .before .before .before .before .before .before .before .load .ensures .number-is) ∙ c .before .before .before .before .before .if1 .left) in
+    (p .ready, (p .order-is, p .order-fits))
+
+-- src/ask.rt:48:1
+same-length : tie.Need-same-length
+same-length c = search needs
+
+-- src/ask.rt:48:1
+returns-2 : tie.Need-returns-2
+returns-2 c = let a = c .before .before .before .before .before .before .before .before .before .before .before .before .before .before .before .before .before .before .before .before .args in
+    let image = a .image .now in
+    let z : refusal image ≡ 0 = sym (c .before .before .before .before .before .before .before .before .before .before .before .before .before .load .ensures .number-is) ∙ c .before .before .before .before .before .before .before .before .if1 .left in
+    let own = ownRules (a .question) in
+    let bytes = inWords (answerWords (a .question)) in
+    (c .before .before .answer .ensures ∙ ap (λ (w : List ℕ). call (own w) (bytes w) (a .out .now)) (c .before .before .before .before .before .before .before .before .before .before .before .before .before .load .ensures .accepted z .words-are) ∙ image-accepted own bytes image (a .out .now) z, (order image, (liveness image, (marks image, (source image, walks image)))))
+
+pub ask-spec : {M : Type 1} → statement M
+ask-spec =
+    tie.close
+    (tie.spec
+    slice-aggregate-load
+    slice-aggregate-load-2
+    slice-aggregate-load-3
+    slice-aggregate-load-4
+    load-requires
+    refuse-requires
+    returns
+    array-share-prefix-words
+    slice-aggregate-answer
+    slice-aggregate-answer-2
+    array-share-prefix-post
+    slice-aggregate-answer-3
+    array-share-prefix-rpo
+    slice-aggregate-answer-4
+    answer-requires
+    same-length
+    returns-2)
