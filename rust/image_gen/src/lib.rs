@@ -8,6 +8,7 @@
 //! assert_eq!(generate(Kind::Dense, 7), generate(Kind::Dense, 7));
 //! ```
 
+mod damaged;
 pub mod extremes;
 mod large;
 pub mod lifetimes;
@@ -16,6 +17,7 @@ mod rng;
 pub mod shape;
 mod small;
 
+pub use damaged::damaged;
 pub use extremes::Size;
 use rings::Rings;
 pub use rng::Rng;

@@ -1,4 +1,4 @@
-//! The records of an image: refusals 4 to 11.
+//! The records of an image: refusals 4 to 11, in the sequence in which they are asked.
 
 use crate::codes;
 use crate::pages::PAYLOAD;
@@ -74,14 +74,15 @@ struct Parts<'a> {
     targets: &'a [u32],
 }
 
-/// The records in these payload words, or the lowest number from 4 to 11 that applies.
+/// The rules that are asked of all records, in sequence: number, and whether an image breaks it.
+const RULES: &[(u32, fn(&Parts) -> bool)] =
+    &[(7, breaks_7), (8, breaks_8), (9, breaks_9), (10, breaks_10), (11, breaks_11)];
+
+/// The records in these payload words, or the number of the first rule of the sequence that refuses them.
 pub fn records(words: &[u32]) -> Result<Records, u32> {
     let parts = parts(words)?;
-    let rules: [fn(&Parts) -> bool; 5] = [breaks_7, breaks_8, breaks_9, breaks_10, breaks_11];
-    for (number, breaks) in (7..).zip(rules) {
-        if breaks(&parts) {
-            return Err(number);
-        }
+    if let Some((number, _)) = RULES.iter().find(|(_, breaks)| breaks(&parts)) {
+        return Err(*number);
     }
     Ok(Records {
         init: parts.init as usize,

@@ -431,7 +431,7 @@ const BLOCKS: &[Row] = &[
     }),
 ];
 
-/// Images that break several rules: the lowest number is given, wherever its rule is broken.
+/// Images that break several rules: the first in the sequence is given, wherever its rule is broken.
 const SEVERAL: &[Row] = &[
     ("r01_and_all_after", 1, || breaks_from(1)),
     ("r02_and_all_after", 2, || breaks_from(2)),
