@@ -1,6 +1,6 @@
 //! Links the proved library where it has been built: `libsir_capi.a` in the folder `SIR_ANALYSES_LIB`, absolute or from the
 //! root of the repository, or in `target/staticlib`, where `rt staticlib sir_capi` puts it. The cfg `sir_linked` says that
-//! it is there, and `SIR_LIBRARY` tells the tests where.
+//! it is there, and `SIR_LIBRARY` tells where.
 
 use std::env;
 use std::path::PathBuf;

@@ -74,9 +74,11 @@ struct Parts<'a> {
     targets: &'a [u32],
 }
 
-/// The rules that are asked of all records, in sequence: number, and whether an image breaks it.
-const RULES: &[(u32, fn(&Parts) -> bool)] =
-    &[(7, breaks_7), (8, breaks_8), (9, breaks_9), (10, breaks_10), (11, breaks_11)];
+/// The number of a rule, and whether an image breaks it.
+type Rule = (u32, fn(&Parts) -> bool);
+
+/// The rules that are asked of all records, in sequence.
+const RULES: &[Rule] = &[(7, breaks_7), (8, breaks_8), (9, breaks_9), (10, breaks_10), (11, breaks_11)];
 
 /// The records in these payload words, or the number of the first rule of the sequence that refuses them.
 pub fn records(words: &[u32]) -> Result<Records, u32> {

@@ -45,6 +45,9 @@ pub use sir_questions::{AllocId, BlockId, Cause, FunctionId, LocalId, OpIdx, Que
 /// Whether the library was there when this was built.
 pub const LINKED: bool = cfg!(sir_linked);
 
+/// Where it was.
+pub const LIBRARY: Option<&str> = option_env!("SIR_LIBRARY");
+
 /// The functions of the order, with their blocks.
 pub fn order(image: &[u8]) -> Result<Vec<FunctionBlocks>, Refusal> {
     Ok(answers::order(&words(image, Question::Order)?))

@@ -69,7 +69,7 @@ fn from_c() {
     let compiled = Command::new(compiler)
         .current_dir(&repository)
         .args(["-std=c99", "-Wall", "-Wextra", "-Werror", "-Iinclude", "examples/call.c"])
-        .arg(env!("SIR_LIBRARY"))
+        .arg(sir_analyses::LIBRARY.unwrap())
         .arg("-o")
         .arg(&program)
         .status();
