@@ -1,6 +1,5 @@
-//! Generates images that rules 1 to 11 accept, each from a kind and a seed.
-//!
-//! Rule 12 is kept too, but in some images of some kinds two allocations may share a base.
+//! Generates images that no rule refuses, each from a kind and a seed; but in some images of some kinds two allocations may
+//! share a base (12). [`damaged`] breaks them.
 //!
 //! ```
 //! use image_gen::{Kind, generate};

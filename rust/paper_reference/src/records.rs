@@ -5,7 +5,7 @@ use crate::pages::PAYLOAD;
 use std::collections::HashSet;
 use std::ops::Range;
 
-/// An image as records, accepted by rules 1 to 11.
+/// An image as records, which no rule before 12 refuses.
 #[derive(Clone, Debug)]
 pub struct Records {
     /// The init function.

@@ -153,7 +153,7 @@ fn readme(files: usize, size: usize, by_number: &BTreeMap<u32, usize>) -> String
         "Recorded answers, written by `cargo run --release -p compare --bin record` in the folder rust.\n\
          \n\
          Answers are those of Plank's own analyses; the rounds, which Plank does not report, and the refusals are those of\n\
-         rust/paper_reference. The proved library had no part in writing them.\n\
+         rust/paper_reference. The proved library had no part in writing them. src/main.rt states the form of a file.\n\
          \n\
          {files} files, {size} bytes. Seeds from {SEED} on: {SMALL} small images of each of {} kinds, all ids; {LARGE} large\n\
          ones of each of {} kinds and the worst of medium size, about {SOME_IDS} ids of each question and no answer above\n\
