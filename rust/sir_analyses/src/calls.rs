@@ -7,7 +7,7 @@
 //! The C functions are declared as in `include/sir_analyses.h`, each as the function here behind `sir_`.
 #![cfg_attr(sir_linked, allow(unsafe_code))]
 
-use sir_questions::{AllocId, BlockId, LocalId, Question, Refusal};
+use sir_questions::*;
 
 /// What a call gives: a number, 0 for success, and the length of the answer in bytes.
 #[repr(C)]

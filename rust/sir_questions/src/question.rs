@@ -1,6 +1,6 @@
 //! Questions about an image.
 
-use crate::{AllocId, BlockId, Id, IdKind, LocalId};
+use crate::ids::*;
 use std::fmt::{self, Display, Formatter};
 use std::str::FromStr;
 
@@ -112,6 +112,10 @@ impl QuestionKind {
     /// The questions about all ids below their counts, in turn; of each sort of id only those a step apart that may hang on
     /// its count. One question where there are no ids.
     pub fn about_all(&self, count: impl Fn(IdKind) -> u32, step: impl Fn(u32) -> u32) -> Vec<Question> {
+        self.id_lists(count, step).iter().map(|ids| self.about(ids)).collect()
+    }
+
+    fn id_lists(&self, count: impl Fn(IdKind) -> u32, step: impl Fn(u32) -> u32) -> Vec<Vec<u32>> {
         let mut lists: Vec<Vec<u32>> = vec![Vec::new()];
         for &kind in self.ids {
             let count = count(kind);
@@ -121,7 +125,7 @@ impl QuestionKind {
             };
             lists = lists.iter().flat_map(longer).collect();
         }
-        lists.iter().map(|ids| self.about(ids)).collect()
+        lists
     }
 
     /// For each id of the question one that is too large, the others 0.
@@ -201,12 +205,21 @@ mod tests {
 
     #[test]
     fn lists_of_questions() {
-        const TWO: QuestionKind = QuestionKind { number: 1, name: "predecessors", ids: &[IdKind::Block] };
-        let all = |count, step| TWO.about_all(|_| count, |_| step).iter().map(|q| q.ids()[0]).collect::<Vec<_>>();
-        assert_eq!((all(3, 1), all(5, 2), all(0, 1), all(2, 0)), (vec![0, 1, 2], vec![0, 2, 4], vec![], vec![0, 1]));
-        assert_eq!(Question::KINDS[0].about_all(|_| 0, |_| 1), [Question::Order]);
-        assert_eq!(TWO.about_unknown(|_| 9), [Question::Predecessors(BlockId(9))]);
-        assert_eq!(Question::KINDS[0].about_unknown(|_| 9), []);
-        assert_eq!(TWO.about_zeros(), Question::Predecessors(BlockId(0)));
+        let [order, predecessors] = [Question::KINDS[0], Question::KINDS[1]];
+        let all = |count, step| predecessors.about_all(|_| count, |_| step);
+        let about = |ids: &[u32]| ids.iter().map(|&id| Question::Predecessors(BlockId(id))).collect::<Vec<_>>();
+        assert_eq!((all(3, 1), all(5, 2)), (about(&[0, 1, 2]), about(&[0, 2, 4])));
+        assert_eq!((all(0, 1), all(2, 0)), (about(&[]), about(&[0, 1])));
+        assert_eq!(order.about_all(|_| 0, |_| 1), [Question::Order]);
+        assert_eq!((predecessors.about_unknown(|_| 9), order.about_unknown(|_| 9)), (about(&[9]), vec![]));
+        assert_eq!(predecessors.about_zeros(), Question::Predecessors(BlockId(0)));
+    }
+
+    #[test]
+    fn lists_of_two_ids() {
+        let two = QuestionKind { number: 99, name: "two", ids: &[IdKind::Block, IdKind::Operation] };
+        let count = |kind| if kind == IdKind::Block { 2 } else { 3 };
+        assert_eq!(two.id_lists(count, |_| 1), [[0, 0], [0, 1], [0, 2], [1, 0], [1, 1], [1, 2]]);
+        assert_eq!(two.id_lists(count, |count| count - 1), [[0, 0], [0, 2], [1, 0], [1, 2]]);
     }
 }
