@@ -4,7 +4,7 @@ use paper_reference::Reference;
 use plank_oracle::Program;
 use sir_analyses::{Answer, calls};
 use sir_image::Image;
-use sir_questions::{IdKind, Question, QuestionKind, Refusal};
+use sir_questions::{Cause, IdKind, Question, QuestionKind, Refusal};
 use std::fmt::{self, Debug, Display, Formatter};
 
 /// What was compared.
@@ -108,7 +108,7 @@ fn questions(paper: &Reference, step: impl Fn(u32) -> u32) -> Vec<Question> {
     Question::KINDS.iter().flat_map(|kind| kind.about_all(|id| paper.count(id), &step)).collect()
 }
 
-/// The questions of a kind that have an id too many: the first that there is none of, or the last of all.
+/// Questions of a kind with an id that is not below its count: the count itself, or the largest number, by turns.
 pub fn unknown(paper: &Reference, kind: &QuestionKind, turn: usize) -> Vec<Question> {
     kind.about_unknown(|id| [paper.count(id), u32::MAX][turn % 2])
 }
@@ -145,10 +145,10 @@ pub fn with_library_sparsely(image: &Image, tally: &mut Tally) -> Result<(), Dis
 }
 
 fn same_answer(paper: &Reference, image: &[u8], question: Question, tally: &mut Tally) -> Result<(), Disagreement> {
-    let words = paper.answer(question).expect("the ids are below their counts");
+    let answer = paper.bytes(question).expect("the ids are below their counts");
+    let words = words_of(&answer);
     tally.note(question, &words);
     tally.compared(&words);
-    let answer = paper.bytes(question).expect("the ids are below their counts");
     // Some bytes more than the answer needs, or none.
     let spare = [0, 1, 7, 64][tally.answers as usize % 4];
     let mut result = filled(answer.len() + spare);
@@ -198,8 +198,8 @@ pub fn refused_alike(image: &[u8], tally: &mut Tally) -> Result<(), Disagreement
             same_refusal(image, question, number)?;
         } else {
             let given = calls::ask(question, image, &mut []).number;
-            let by_the_image = Refusal::of_images().any(|refusal| refusal.number() == given);
-            agree(format_args!("{question}, refused by the image"), false, LIBRARY, by_the_image)?;
+            let accepted = given == 0 || Refusal::new(given).cause() == Some(Cause::Caller);
+            agree(format_args!("{question}, the image accepted"), true, LIBRARY, accepted)?;
         }
     }
     Ok(())

@@ -1,7 +1,7 @@
 //! The linked library: accepted and refused images, unknown ids, short slices, and the bytes that are left alone.
 #![cfg(sir_linked)]
 
-use sir_analyses::{AllocId, BlockId, FunctionId, LocalId, OpIdx, Question, Refusal};
+use sir_analyses::{AllocId, BlockId, Cause, FunctionId, LocalId, OpIdx, Question, Refusal};
 use sir_analyses::{Answer, End, FunctionBlocks, Interval, Place, Size, Start, Use, calls};
 use sir_image::{Block, Control, Image, MAX_BLOCKS, MAX_OPERANDS, MAX_OPERATIONS, Operation, Span, samples};
 use std::{fs, path::Path};
@@ -84,8 +84,8 @@ fn listed_images() {
         let number: u32 = number.parse().unwrap();
         for kind in Question::KINDS {
             let answer = assert_as_the_paper(kind.about_zeros(), &image, 8);
-            let by_the_image = Refusal::of_images().any(|refusal| refusal.number() == answer.number);
-            assert!(answer.number == number || (number == 0 && !by_the_image), "{name}");
+            let by_the_caller = Refusal::new(answer.number).cause() == Some(Cause::Caller);
+            assert!(answer.number == number || (number == 0 && by_the_caller), "{name}");
         }
     }
 }
