@@ -1,7 +1,7 @@
 /* Prints the allocations of an image, from C:
  *
- *     rt staticlib sir_analyses
- *     cc -Iinclude examples/call.c target/staticlib/libsir_analyses.a -o target/call
+ *     rt staticlib sir_capi
+ *     cc -Iinclude examples/call.c target/staticlib/libsir_capi.a -o target/call
  *     target/call IMAGE
  *
  * For each allocation a line: where it is made, its first local, and the stretches of blocks in which its memory is in use;
@@ -56,7 +56,7 @@ int main(int count, char **words) {
     fclose(file);
     for (uint32_t allocation = 0;; allocation++) {
         sir_answer answer = sir_allocation(image, length, allocation, result, sizeof result);
-        if (answer.number == 13) {
+        if (answer.number == SIR_REFUSED_UNKNOWN_ID) {
             return 0; /* no such allocation: all have been printed */
         }
         if (answer.number != 0) {

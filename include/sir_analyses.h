@@ -1,26 +1,22 @@
 /* Questions about an image of the intermediate form: order, predecessors, uses, liveness, allocations.
  *
- * Each function takes the image as a pointer and a length in bytes, the id asked about where the question has one, and a
+ * Each function takes the image as a pointer and a length in bytes, the ids asked about where the question has any, and a
  * result slice as a pointer and a length in bytes. It keeps neither pointer.
  *
  * On success the number is 0, `length` counts the bytes of the answer, and the answer stands at the front of the result
  * slice as little-endian 32-bit words; bytes past it stay as they were. A refusal gives its number and length 0, and the
- * result slice keeps its bytes. The lowest number that applies is given:
+ * result slice keeps its bytes. Of several refusals that apply the first in the sequence of `enum sir_refusal` is given.
  *
- *    1  length 0, not a multiple of 512, or above 59,904 bytes
- *    2  some page number wrong
- *    3  some page check wrong
- *    4  edition not 1
- *    5  a count above its limit, or no function, or no block
- *    6  page count not the least that holds the words, or padding not zero
- *    7  operation code or control kind unknown, or an unused field not zero
- *    8  a range with start above end or end above its list, an id not below its count, or static id 4294967295
- *    9  operand counts wrong for the code
- *   10  a block with successors whose output count differs from some successor's input count
- *   11  one local twice among a block's inputs
- *   12  two allocations met in visited blocks with one base local
- *   13  id asked for not below its count
- *   14  result slice shorter than the answer
+ * The caller owes: memory of the stated length behind each pointer, readable for the image and writable for the result,
+ * both for the time of the call; an image and a result slice that do not overlap; a null pointer only with length 0. Ids,
+ * lengths and the bytes of the image may be any.
+ *
+ * Lifetimes hold within a function: a walk follows successor edges from a function's entry and takes a call as one step,
+ * so where the intervals of two unmarked allocations do not meet, no run of a function awaits reads of both at once, and
+ * the two may share a place in that function's frame. Nothing follows for a caller and its callee, whose buffers are
+ * never both in one walk: a buffer that lives across a call and a buffer of the callee must not share memory, whatever
+ * their intervals say. (An allocation whose pointer is never read has no interval; where the operation that makes it
+ * clears its bytes, they must be its own there all the same.)
  *
  * The functions may be called from several threads at once. Each needs less than 1 MiB of stack.
  */
@@ -34,9 +30,44 @@
 extern "C" {
 #endif
 
+/* Goes up by one where a function, or what one of them takes or gives, is added or changed. */
+#define SIR_ANALYSES_VERSION 1
+
+/* Why a question is refused, in the sequence in which the rules are asked. */
+enum sir_refusal {
+    /* length 0, not a multiple of 512, or above 59,904 bytes */
+    SIR_REFUSED_LENGTH = 1,
+    /* some page number wrong */
+    SIR_REFUSED_PAGE_NUMBER = 2,
+    /* some page check wrong */
+    SIR_REFUSED_PAGE_CHECK = 3,
+    /* edition not 1 */
+    SIR_REFUSED_EDITION = 4,
+    /* a count above its limit, or no function, or no block */
+    SIR_REFUSED_COUNT = 5,
+    /* page count not the least that holds the words, or padding not zero */
+    SIR_REFUSED_PAGE_COUNT = 6,
+    /* operation code or control kind unknown, or an unused field not zero */
+    SIR_REFUSED_UNKNOWN = 7,
+    /* a range with start above end or end above its list, an id not below its count, or static id 4294967295 */
+    SIR_REFUSED_RANGE = 8,
+    /* operand counts wrong for the code */
+    SIR_REFUSED_OPERAND_COUNT = 9,
+    /* a block with successors whose output count differs from some successor's input count */
+    SIR_REFUSED_OUTPUT_COUNT = 10,
+    /* one local twice among a block's inputs */
+    SIR_REFUSED_REPEATED_INPUT = 11,
+    /* two allocations met in visited blocks with one base local */
+    SIR_REFUSED_SHARED_BASE = 12,
+    /* id asked for not below its count */
+    SIR_REFUSED_UNKNOWN_ID = 13,
+    /* result slice shorter than the answer */
+    SIR_REFUSED_SHORT_RESULT = 14,
+};
+
 /* What a question gives. */
 typedef struct sir_answer {
-    uint32_t number; /* 0, or the number of the refusal */
+    uint32_t number; /* 0, or an enum sir_refusal */
     uint64_t length; /* bytes of the answer; 0 for a refusal */
 } sir_answer;
 

@@ -1,9 +1,12 @@
-//! Links the proved library where it has been built: `libsir_analyses.a` in the folder `SIR_ANALYSES_LIB`, absolute or
-//! from the root of the repository, or in `target/staticlib`, where `rt staticlib sir_analyses` puts it. The cfg
-//! `sir_linked` says that it is there.
+//! Links the proved library where it has been built: `libsir_capi.a` in the folder `SIR_ANALYSES_LIB`, absolute or from the
+//! root of the repository, or in `target/staticlib`, where `rt staticlib sir_capi` puts it. The cfg `sir_linked` says that
+//! it is there, and `SIR_LIBRARY` tells where.
 
 use std::env;
 use std::path::PathBuf;
+
+/// What the library may be called: the first that is there is linked.
+const NAMES: [&str; 2] = ["sir_capi", "sir_analyses"];
 
 fn main() {
     println!("cargo::rustc-check-cfg=cfg(sir_linked)");
@@ -12,13 +15,16 @@ fn main() {
     let repository = package.ancestors().nth(2).expect("the crate stands in the folder rust of the repository");
     let folder = env::var_os("SIR_ANALYSES_LIB").unwrap_or_else(|| "target/staticlib".into());
     let folder = repository.join(folder);
-    let library = folder.join("libsir_analyses.a");
-    println!("cargo::rerun-if-changed={}", library.display());
-    if library.is_file() {
-        println!("cargo::rustc-cfg=sir_linked");
-        println!("cargo::rustc-link-search=native={}", folder.display());
-        println!("cargo::rustc-link-lib=static=sir_analyses");
-    } else {
-        println!("cargo::warning=no library {}: built without it (run rt staticlib sir_analyses)", library.display());
+    let library = |name: &str| folder.join(format!("lib{name}.a"));
+    for name in NAMES {
+        println!("cargo::rerun-if-changed={}", library(name).display());
     }
+    let Some(name) = NAMES.into_iter().find(|name| library(name).is_file()) else {
+        println!("cargo::warning=no library in {}: built without it (run rt staticlib sir_capi)", folder.display());
+        return;
+    };
+    println!("cargo::rustc-cfg=sir_linked");
+    println!("cargo::rustc-env=SIR_LIBRARY={}", library(name).display());
+    println!("cargo::rustc-link-search=native={}", folder.display());
+    println!("cargo::rustc-link-lib=static={name}");
 }

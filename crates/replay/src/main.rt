@@ -2,19 +2,12 @@
 // give. For each file a line is printed: its name, how many answers agree, and how many differ.
 //
 // A file is made of little-endian words and bytes: the image's length and the number of questions; the image; then for
-// each question its number, the id asked about, the length of the result slice, the number and the length that the call is
-// to give, and the bytes that the slice is to hold after it.
+// each question its number, how many ids it has, the ids, the length of the result slice, the number and the length that
+// the call is to give, and the bytes that the slice is to hold after it.
+mod questions;
+
 use libc::STDOUT_FILENO;
-use sir_analyses::answers::Answer;
-use sir_analyses::questions::sir_allocation;
-use sir_analyses::questions::sir_entry_set;
-use sir_analyses::questions::sir_exit_set;
-use sir_analyses::questions::sir_intervals;
-use sir_analyses::questions::sir_order;
-use sir_analyses::questions::sir_owner;
-use sir_analyses::questions::sir_predecessors;
-use sir_analyses::questions::sir_rounds;
-use sir_analyses::questions::sir_uses;
+use questions::ask;
 use sir_data::pages::word_at;
 ghost use mathlib.Core.Path.{_≡_};
 ghost use Prim.Native.Nat.{_≤_};
@@ -24,30 +17,14 @@ ghost use Rattle.io.specs.Counts.{Counts};
 // The most bytes of an image or a result slice that a file may have.
 const MOST: usize = 65536;
 
+// The most ids that a question may have.
+const MOST_IDS: usize = 2048;
+
 // What a result slice holds before the call.
 fn untouched() -> [u8; 65536]
     ensures { λ r. ⌜ 65536 ≡ length r ⌝ }
 {
     [165; 65536]
-}
-
-// Puts a question by its number. No recorded answer has what an unknown number gives.
-fn ask(question: u32, image: &[u8], id: u32, out: &mut [u8]) -> Answer {
-    match question {
-        0 => sir_order(image, out),
-        1 => sir_predecessors(image, id, out),
-        2 => sir_entry_set(image, id, out),
-        3 => sir_exit_set(image, id, out),
-        4 => sir_uses(image, id, out),
-        5 => sir_intervals(image, id, out),
-        6 => sir_allocation(image, id, out),
-        7 => sir_owner(image, id, out),
-        8 => sir_rounds(image, out),
-        _ => Answer {
-            number: 15,
-            length: 0,
-        },
-    }
 }
 
 // Reads so many bytes of the file to the front of the space; how many there were.
@@ -58,22 +35,29 @@ fn read_part(fd: i32, space: &mut [u8], wanted: usize) -> usize
     io::read_full(fd, &mut space[..wanted])
 }
 
-// Puts the question that a head states. True where number, length and every byte of the slice are as recorded.
-fn is_as_recorded(head: &[u8; 20], image: &[u8], recorded: &[u8], out: &mut [u8]) -> bool {
-    let given = ask(word_at(head, 0), image, word_at(head, 1), out);
-    if given.number != word_at(head, 3) || given.length != word_at(head, 4) as u64 {
+// Puts a question. True where number, length and every byte of the slice are as recorded; the head states the first two.
+fn is_as_recorded(
+    head: &[u8; 12],
+    recorded: &[u8],
+    question: u32,
+    image: &[u8],
+    ids: &[u8],
+    out: &mut [u8],
+) -> bool {
+    let given = ask(question, image, ids, out);
+    if given.number != word_at(head, 1) || given.length != word_at(head, 2) as u64 {
         return false;
     }
     check::same(recorded, out)
 }
 
-// Reads the next question of the file and puts it.
-fn agrees(fd: i32, image: &[u8]) -> bool {
-    let mut head = [0u8; 20];
-    if io::read_full(fd, &mut head) < 20 {
+// Reads what a question is to give, and puts it.
+fn gives_recorded(fd: i32, question: u32, image: &[u8], ids: &[u8]) -> bool {
+    let mut head = [0u8; 12];
+    if io::read_full(fd, &mut head) < 12 {
         return false;
     }
-    let room = word_at(&head, 2) as usize;
+    let room = word_at(&head, 0) as usize;
     if room > MOST {
         return false;
     }
@@ -83,7 +67,25 @@ fn agrees(fd: i32, image: &[u8]) -> bool {
         return false;
     }
     let mut out = untouched();
-    is_as_recorded(&head, image, &recorded[..n], &mut out[..n])
+    is_as_recorded(&head, &recorded[..n], question, image, ids, &mut out[..n])
+}
+
+// Reads the next question of the file and puts it.
+fn agrees(fd: i32, image: &[u8]) -> bool {
+    let mut head = [0u8; 8];
+    if io::read_full(fd, &mut head) < 8 {
+        return false;
+    }
+    let count = word_at(&head, 1) as usize;
+    if count > MOST_IDS {
+        return false;
+    }
+    let mut ids = [0u8; 8192];
+    let n = read_part(fd, &mut ids, 4 * count);
+    if n < 4 * count {
+        return false;
+    }
+    gives_recorded(fd, word_at(&head, 0), image, &ids[..n])
 }
 
 // How many of the next `count` questions agree.

@@ -1,9 +1,9 @@
 //! The stack that a call takes: the pages of a new thread's stack that have been touched when the call is done.
 
-use compare::sides::ask_library;
 use image_gen::{Size, worst};
-use paper_reference::Question;
+use sir_analyses::calls;
 use sir_image::samples;
+use sir_questions::Question;
 use std::hint::black_box;
 use std::thread;
 
@@ -16,15 +16,15 @@ pub fn table() {
     images.extend(worst(Size::FULL).iter().map(|(_, image)| image.pages()));
     println!("\nstack of a call, the most of {} images; what a thread without a call takes is included", images.len());
     println!("{:14} {:>10}", "no call", shown(touched(|| ())));
-    for question in Question::ALL {
-        let most = images.iter().map(|image| touched(|| call(image, question))).max().flatten();
-        println!("{:14} {:>10}", format!("{question:?}"), shown(most));
+    for kind in Question::KINDS {
+        let most = images.iter().map(|image| touched(|| call(image, kind.about_zeros()))).max().flatten();
+        println!("{:14} {:>10}", kind.name, shown(most));
     }
 }
 
 fn call(image: &[u8], question: Question) {
     let mut result = vec![0; 1 << 21];
-    black_box(ask_library(question, image, 0, &mut result));
+    black_box(calls::ask(question, image, &mut result));
 }
 
 fn shown(kibibytes: Option<u64>) -> String {

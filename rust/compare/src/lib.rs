@@ -1,5 +1,6 @@
 //! What the comparison and the recording of answers share.
 
+pub mod recording;
 pub mod shrink;
 pub mod sides;
 pub mod text;

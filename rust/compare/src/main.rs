@@ -21,8 +21,10 @@
 
 use compare::sides::{Disagreement, Tally};
 use compare::{shrink, sides, text};
-use image_gen::{Kind, Rng, Size, generate, worst};
+use image_gen::{Kind, Rng, Size, damaged, generate, worst};
 use sir_image::Image;
+use sir_questions::Refusal;
+use std::collections::HashMap;
 use std::process::ExitCode;
 use std::time::Instant;
 
@@ -115,7 +117,7 @@ fn run(options: &Options) -> Result<(), Failure> {
     if options.library && sir_analyses::LINKED {
         sides.push(("the library", sides::with_library));
     } else if options.library {
-        println!("the library was missing when this was built (run rt staticlib sir_analyses): it is left out");
+        println!("the library was missing when this was built (run rt staticlib sir_capi): it is left out");
     }
     for &(side, compare) in &sides {
         if !options.files.is_empty() {
@@ -164,8 +166,8 @@ fn compare_all(name: &str, images: impl Iterator<Item = (String, Image)>, compar
 /// The disagreement on the smallest image that still shows one.
 fn explain(name: &str, image: &Image, compare: Compare) -> String {
     let differs = |image: &Image| {
-        let accepted = [0, 12].contains(&paper_reference::refusal(&image.pages()));
-        accepted && compare(image, &mut Tally::default()).is_err()
+        let taken = plank_oracle::takes(paper_reference::refusal(&image.pages()));
+        taken && compare(image, &mut Tally::default()).is_err()
     };
     let small = shrink::shrink(image, differs);
     match compare(&small, &mut Tally::default()) {
@@ -174,13 +176,13 @@ fn explain(name: &str, image: &Image, compare: Compare) -> String {
     }
 }
 
-/// Compares images from files, of which those are left out that rules 1 to 11 refuse.
+/// Compares images from files, of which those are left out that Plank does not take.
 fn files(side: &str, names: &[String], compare: Compare) -> Result<(), Failure> {
     let mut images = Vec::new();
     for name in names {
         let bytes = std::fs::read(name).map_err(|error| (2, format!("{name}: {error}")))?;
         match Image::from_pages(&bytes) {
-            Some(image) if [0, 12].contains(&paper_reference::refusal(&bytes)) => images.push((name.clone(), image)),
+            Some(image) if plank_oracle::takes(paper_reference::refusal(&bytes)) => images.push((name.clone(), image)),
             _ => println!("{name}: refused with {}", paper_reference::refusal(&bytes)),
         }
     }
@@ -191,18 +193,21 @@ fn files(side: &str, names: &[String], compare: Compare) -> Result<(), Failure> 
 fn refusals(options: &Options) -> Result<(), Failure> {
     let started = Instant::now();
     let mut tally = Tally::default();
-    let mut by_number = [0u64; 13];
+    let mut by_number: HashMap<u32, u64> = HashMap::new();
     let kinds = options.kinds(Kind::SMALL);
     let rng = &mut Rng::new(options.seed);
     for index in (0..options.damaged).filter(|_| !kinds.is_empty()) {
         let kind = kinds[(index % kinds.len() as u64) as usize];
-        let image = sides::damaged(&generate(kind, rng.next_u64()), rng);
-        by_number[paper_reference::refusal(&image) as usize] += 1;
+        let image = damaged(&generate(kind, rng.next_u64()), rng);
+        *by_number.entry(paper_reference::refusal(&image)).or_default() += 1;
         if let Err(found) = sides::refused_alike(&image, &mut tally) {
             return Err((1, format!("disagreement on a damaged {kind:?}:\n{image:?}\n{found}")));
         }
     }
-    println!("the library, damaged images, seed {}: numbers 0 to 12 came up {by_number:?} times", options.seed);
+    let numbers = [0].into_iter().chain(Refusal::of_images().map(Refusal::number));
+    let counts = numbers.map(|number| format!("{number}: {}", by_number.get(&number).unwrap_or(&0)));
+    println!("the library, damaged images, seed {}: how often each number came up", options.seed);
+    println!("  {}", counts.collect::<Vec<_>>().join(", "));
     println!("  {:.1} s", started.elapsed().as_secs_f64());
     Ok(())
 }

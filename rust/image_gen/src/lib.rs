@@ -1,6 +1,5 @@
-//! Generates images that rules 1 to 11 accept, each from a kind and a seed.
-//!
-//! Rule 12 is kept too, but in some images of some kinds two allocations may share a base.
+//! Generates images that no rule refuses, each from a kind and a seed; but in some images of some kinds two allocations may
+//! share a base (12). [`damaged`] breaks them.
 //!
 //! ```
 //! use image_gen::{Kind, generate};
@@ -8,6 +7,7 @@
 //! assert_eq!(generate(Kind::Dense, 7), generate(Kind::Dense, 7));
 //! ```
 
+mod damaged;
 pub mod extremes;
 mod large;
 pub mod lifetimes;
@@ -16,6 +16,7 @@ mod rng;
 pub mod shape;
 mod small;
 
+pub use damaged::damaged;
 pub use extremes::Size;
 use rings::Rings;
 pub use rng::Rng;

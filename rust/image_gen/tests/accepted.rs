@@ -1,14 +1,16 @@
 //! Every generated image is accepted, but for shared bases.
 
 use image_gen::{Kind, Size, generate, worst};
-use paper_reference::{Question, Reference};
+use paper_reference::Reference;
+use sir_questions::{AllocId, BlockId, IdKind, Question, Refusal};
 
 #[test]
 fn small_images_are_accepted() {
     for &kind in Kind::SMALL {
         let refusals: Vec<u32> = (0..500).map(|seed| refusal(kind, seed)).collect();
-        assert!(refusals.iter().all(|number| [0, 12].contains(number)), "{kind:?}: {refusals:?}");
-        let shared = refusals.iter().filter(|&&number| number == 12).count();
+        let shared_base = Refusal::SHARED_BASE.number();
+        assert!(refusals.iter().all(|number| [0, shared_base].contains(number)), "{kind:?}: {refusals:?}");
+        let shared = refusals.iter().filter(|&&number| number == shared_base).count();
         assert!(shared < 100, "{kind:?}: {shared} of 500 share a base");
     }
 }
@@ -41,7 +43,7 @@ fn kinds_have_what_they_are_for() {
     assert!(marks(Kind::Lives, 0) > 100, "unmarked allocations with intervals");
     let rounds = |kind, seed| {
         let image = generate(kind, seed).pages();
-        Reference::new(&image).expect("an accepted image").answer(Question::Rounds, 0).unwrap()[0]
+        Reference::new(&image).expect("an accepted image").answer(Question::Rounds).unwrap()[0]
     };
     assert!((0..20).any(|seed| rounds(Kind::SmallRings, seed) > 100), "many rounds");
 }
@@ -52,16 +54,17 @@ fn rounds_are_bounded() {
     for &kind in Kind::SMALL.iter().chain(&[Kind::SmallRings, Kind::SmallRenaming]) {
         for seed in 0..100 {
             let Ok(reference) = Reference::new(&generate(kind, seed).pages()) else { continue };
-            let exit_set = |block| reference.answer(Question::ExitSet, block).unwrap().len();
-            let members: usize = (0..reference.ids(Question::ExitSet)).map(exit_set).sum();
-            let rounds = reference.answer(Question::Rounds, 0).unwrap()[0] as usize;
+            let exit_set = |block| reference.answer(Question::ExitSet(BlockId(block))).unwrap().len();
+            let members: usize = (0..reference.count(IdKind::Block)).map(exit_set).sum();
+            let rounds = reference.answer(Question::Rounds).unwrap()[0] as usize;
             assert!((1..=members + 1).contains(&rounds), "{kind:?} {seed}: {rounds} rounds, {members} members");
         }
     }
 }
 
 fn allocations(reference: &Reference) -> impl Iterator<Item = Vec<u32>> {
-    (0..reference.ids(Question::Allocation)).map(|id| reference.answer(Question::Allocation, id).unwrap())
+    let answer = |number| reference.answer(Question::Allocation(AllocId(number))).unwrap();
+    (0..reference.count(IdKind::Allocation)).map(answer)
 }
 
 fn refusal(kind: Kind, seed: u64) -> u32 {

@@ -16,48 +16,11 @@ pub use report::report;
 use allocations::Allocation;
 use flow::{Interval, Liveness, Operands, Order};
 use records::Records;
+use sir_questions::{IdKind, Question};
 use std::cell::OnceCell;
 use std::collections::BTreeSet;
 
-/// What can be put to an image.
-#[derive(Clone, Copy, Debug, PartialEq, Eq)]
-pub enum Question {
-    /// The order.
-    Order,
-    /// The predecessors of a block.
-    Predecessors,
-    /// The entry set of a block.
-    EntrySet,
-    /// The exit set of a block.
-    ExitSet,
-    /// The uses of a local.
-    Uses,
-    /// The intervals of a local.
-    Intervals,
-    /// An allocation.
-    Allocation,
-    /// The owner of a local.
-    Owner,
-    /// The rounds.
-    Rounds,
-}
-
-impl Question {
-    /// Every question.
-    pub const ALL: [Question; 9] = [
-        Question::Order,
-        Question::Predecessors,
-        Question::EntrySet,
-        Question::ExitSet,
-        Question::Uses,
-        Question::Intervals,
-        Question::Allocation,
-        Question::Owner,
-        Question::Rounds,
-    ];
-}
-
-/// An image that rules 1 to 12 accept, and its analyses.
+/// An image that no rule refuses, and its analyses.
 #[derive(Clone, Debug)]
 pub struct Reference {
     records: Records,
@@ -71,7 +34,7 @@ pub struct Reference {
 }
 
 impl Reference {
-    /// The image in these bytes, or the lowest number from 1 to 12 that applies.
+    /// The image in these bytes, or the number of the first rule of the sequence that refuses it.
     pub fn new(image: &[u8]) -> Result<Reference, u32> {
         let records = records::records(&pages::payload(image)?)?;
         let order = Order::of(&records);
@@ -91,34 +54,39 @@ impl Reference {
         })
     }
 
-    /// The answer to a question, as words; or 13. Order and rounds have no id.
-    pub fn answer(&self, question: Question, id: u32) -> Result<Vec<u32>, u32> {
-        if id >= self.ids(question) {
+    /// The answer to a question, as words; or 13.
+    pub fn answer(&self, question: Question) -> Result<Vec<u32>, u32> {
+        if question.kind().ids.iter().zip(question.ids()).any(|(&kind, id)| id >= self.count(kind)) {
             return Err(13);
         }
-        let at = id as usize;
         Ok(match question {
             Question::Order => self.order(),
-            Question::Predecessors => words(&flow::predecessors(&self.records, &self.order)[at]),
-            Question::EntrySet => members(&self.live().entry[at]),
-            Question::ExitSet => members(&self.live().exit[at]),
-            Question::Uses => flow::uses(&self.records, &self.order, at),
-            Question::Intervals => interval_words(&self.intervals(at)),
-            Question::Allocation => self.allocation(at),
-            Question::Owner => vec![self.owners()[at]],
+            Question::Predecessors(block) => words(&flow::predecessors(&self.records, &self.order)[block.0 as usize]),
+            Question::EntrySet(block) => members(&self.live().entry[block.0 as usize]),
+            Question::ExitSet(block) => members(&self.live().exit[block.0 as usize]),
+            Question::Uses(local) => flow::uses(&self.records, &self.order, local.0 as usize),
+            Question::Intervals(local) => interval_words(&self.intervals(local.0 as usize)),
+            Question::Allocation(allocation) => self.allocation(allocation.0 as usize),
+            Question::Owner(local) => vec![self.owners()[local.0 as usize]],
             Question::Rounds => vec![self.live().rounds],
         })
     }
 
-    /// The number of ids that a question may be asked about; any for one without an id.
-    pub fn ids(&self, question: Question) -> u32 {
-        let ids = match question {
-            Question::Order | Question::Rounds => return u32::MAX,
-            Question::Predecessors | Question::EntrySet | Question::ExitSet => self.records.blocks.len(),
-            Question::Uses | Question::Intervals | Question::Owner => self.records.locals,
-            Question::Allocation => self.allocations.len(),
+    /// The answer to a question as it stands in the result slice; or 13.
+    pub fn bytes(&self, question: Question) -> Result<Vec<u8>, u32> {
+        Ok(self.answer(question)?.into_iter().flat_map(u32::to_le_bytes).collect())
+    }
+
+    /// How many there are of what an id numbers.
+    pub fn count(&self, kind: IdKind) -> u32 {
+        let count = match kind {
+            IdKind::Function => self.records.entries.len(),
+            IdKind::Block => self.records.blocks.len(),
+            IdKind::Operation => self.records.operations.len(),
+            IdKind::Local => self.records.locals,
+            IdKind::Allocation => self.allocations.len(),
         };
-        ids as u32
+        count as u32
     }
 
     fn order(&self) -> Vec<u32> {
@@ -188,16 +156,15 @@ fn interval_words(intervals: &[Interval]) -> Vec<u32> {
     intervals.iter().flat_map(|&(block, start, end)| [block, start, end]).collect()
 }
 
-/// The refusal of an image by rules 1 to 12, or 0.
+/// The number that refuses an image, or 0.
 pub fn refusal(image: &[u8]) -> u32 {
     Reference::new(image).err().unwrap_or(0)
 }
 
 /// A call: the number and the length that it gives, and the result slice as it leaves it.
-pub fn call(image: &[u8], question: Question, id: u32, result: &mut [u8]) -> (u32, u64) {
-    let answer = Reference::new(image).and_then(|reference| reference.answer(question, id));
-    let bytes: Vec<u8> = match answer {
-        Ok(words) => words.into_iter().flat_map(u32::to_le_bytes).collect(),
+pub fn call(image: &[u8], question: Question, result: &mut [u8]) -> (u32, u64) {
+    let bytes = match Reference::new(image).and_then(|reference| reference.bytes(question)) {
+        Ok(bytes) => bytes,
         Err(number) => return (number, 0),
     };
     match result.get_mut(..bytes.len()) {

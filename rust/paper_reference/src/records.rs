@@ -1,11 +1,11 @@
-//! The records of an image: refusals 4 to 11.
+//! The records of an image: refusals 4 to 11, in the sequence in which they are asked.
 
 use crate::codes;
 use crate::pages::PAYLOAD;
 use std::collections::HashSet;
 use std::ops::Range;
 
-/// An image as records, accepted by rules 1 to 11.
+/// An image as records, which no rule before 12 refuses.
 #[derive(Clone, Debug)]
 pub struct Records {
     /// The init function.
@@ -74,14 +74,17 @@ struct Parts<'a> {
     targets: &'a [u32],
 }
 
-/// The records in these payload words, or the lowest number from 4 to 11 that applies.
+/// The number of a rule, and whether an image breaks it.
+type Rule = (u32, fn(&Parts) -> bool);
+
+/// The rules that are asked of all records, in sequence.
+const RULES: &[Rule] = &[(7, breaks_7), (8, breaks_8), (9, breaks_9), (10, breaks_10), (11, breaks_11)];
+
+/// The records in these payload words, or the number of the first rule of the sequence that refuses them.
 pub fn records(words: &[u32]) -> Result<Records, u32> {
     let parts = parts(words)?;
-    let rules: [fn(&Parts) -> bool; 5] = [breaks_7, breaks_8, breaks_9, breaks_10, breaks_11];
-    for (number, breaks) in (7..).zip(rules) {
-        if breaks(&parts) {
-            return Err(number);
-        }
+    if let Some((number, _)) = RULES.iter().find(|(_, breaks)| breaks(&parts)) {
+        return Err(*number);
     }
     Ok(Records {
         init: parts.init as usize,

@@ -1,6 +1,7 @@
 //! The text of `report`, as the paper shows it.
 
-use crate::{Question, Reference};
+use crate::Reference;
+use sir_questions::{AllocId, BlockId, IdKind, LocalId, Question};
 use std::fmt::Write;
 
 /// The result slice of `report`, in bytes.
@@ -16,26 +17,27 @@ pub fn report(image: &[u8]) -> String {
 
 /// All lines, or 14 where one answer needs more than the slice has.
 fn lines(reference: &Reference) -> Result<String, u32> {
-    let ask = |question, id| -> Result<Vec<u32>, u32> {
-        let answer = reference.answer(question, id)?;
+    let ask = |question| -> Result<Vec<u32>, u32> {
+        let answer = reference.answer(question)?;
         if 4 * answer.len() > SLICE { Err(14) } else { Ok(answer) }
     };
-    let blocks = order_blocks(&ask(Question::Order, 0)?);
-    let mut text = format!("order{}\nrounds {}\n", items('b', &blocks), ask(Question::Rounds, 0)?[0]);
+    let blocks = order_blocks(&ask(Question::Order)?);
+    let mut text = format!("order{}\nrounds {}\n", items('b', &blocks), ask(Question::Rounds)?[0]);
     let mut visited = blocks;
     visited.sort_unstable();
     for block in visited {
-        let [entry, exit] = [ask(Question::EntrySet, block)?, ask(Question::ExitSet, block)?].map(|set| members(&set));
+        let sets = [Question::EntrySet(BlockId(block)), Question::ExitSet(BlockId(block))];
+        let [entry, exit] = [ask(sets[0])?, ask(sets[1])?].map(|set| members(&set));
         writeln!(text, "b{block} in{entry} out{exit}").unwrap();
     }
-    for local in 0..reference.ids(Question::Intervals) {
-        let answer = ask(Question::Intervals, local)?;
+    for local in 0..reference.count(IdKind::Local) {
+        let answer = ask(Question::Intervals(LocalId(local)))?;
         if !answer.is_empty() {
             writeln!(text, "v{local}{}", intervals(&answer)).unwrap();
         }
     }
-    for number in 0..reference.ids(Question::Allocation) {
-        let answer = ask(Question::Allocation, number)?;
+    for number in 0..reference.count(IdKind::Allocation) {
+        let answer = ask(Question::Allocation(AllocId(number)))?;
         let mark = ["kept", "escaped"][answer[6] as usize];
         let [block, operation, base] = [answer[0], answer[1], answer[2]];
         writeln!(text, "a{number} b{block} op{operation} v{base} {mark}{}", intervals(&answer[8..])).unwrap();

@@ -1,4 +1,4 @@
-//! The images that try every clause of refusals 1 to 11, with the numbers that were read off the paper.
+//! The stored images that try every clause of the refusals of an image, with the numbers that were read off the paper.
 
 use std::{fs, path::Path};
 

@@ -36,5 +36,30 @@ mod absent;
 #[cfg(not(plank_sources))]
 pub use absent::{Analyses, Program, SOURCES};
 
+use sir_questions::{Question, Refusal};
+
 /// Whether Plank's files were there when this was built.
 pub const PRESENT: bool = SOURCES.is_some();
+
+/// Whether Plank can be asked about an image that is refused with this number, or with 0: its files assert where bases are
+/// shared, and no image that breaks an earlier rule is put to them.
+pub fn takes(number: u32) -> bool {
+    number == 0 || number == Refusal::SHARED_BASE.number()
+}
+
+impl Analyses<'_> {
+    /// Plank's answer to a question, where it has one: it reports no rounds.
+    pub fn answer(&self, question: Question) -> Option<Vec<u32>> {
+        Some(match question {
+            Question::Order => self.order(),
+            Question::Predecessors(block) => self.predecessors(block.0),
+            Question::EntrySet(block) => self.entry_set(block.0),
+            Question::ExitSet(block) => self.exit_set(block.0),
+            Question::Uses(local) => self.uses(local.0),
+            Question::Intervals(local) => self.intervals(local.0),
+            Question::Allocation(allocation) => self.allocation(allocation.0),
+            Question::Owner(local) => self.owner(local.0),
+            _ => return None,
+        })
+    }
+}

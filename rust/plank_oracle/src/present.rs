@@ -20,11 +20,11 @@ pub const SOURCES: Option<&str> = Some(env!("PLANK_SOURCES"));
 pub struct Program(EthIRProgram);
 
 impl Program {
-    /// The program of an image that rules 1 to 11 accept, or `None` where Plank's files were missing.
+    /// The program of an image that Plank takes ([`takes`](crate::takes)), or `None` where Plank's files were missing.
     ///
     /// # Panics
     ///
-    /// May panic, here or in the analyses, where the image breaks one of those rules.
+    /// May panic, here or in the analyses, where Plank does not take the image.
     pub fn new(image: &Image) -> Option<Program> {
         let mut program = EthIRProgram {
             init_entry: FunctionId::new(image.init),

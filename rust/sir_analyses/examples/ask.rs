@@ -1,11 +1,15 @@
 //! Writes the image of a small program and asks which of its buffers may lie over each other. From the folder `rust`, once
-//! `rt staticlib sir_analyses` has built the library:
+//! `rt staticlib sir_capi` has built the library:
 //!
 //! ```text
 //! cargo run --offline -p sir_analyses --example ask
 //! ```
+//!
+//! Only buffers of one function are held to each other, for a place in that function's frame. A call is one step of the
+//! function that makes it, so intervals do not tell that a buffer of the callee is in use while one of the caller waits for
+//! the call to return.
 
-use sir_analyses::{Allocation, End, Refusal, Start};
+use sir_analyses::{Allocation, BlockId, End, FunctionBlocks, Interval, Refusal, Start};
 use sir_image::{Code, Control, Image};
 
 /// Two buffers, the first of them read for the last time before the second is made, and one that a call gets to see.
@@ -26,28 +30,47 @@ pub fn program() -> Vec<u8> {
     image.pages()
 }
 
-/// Whether the memory of two allocations may be the same: neither is marked, and they are in use nowhere together.
-pub fn may_share(one: &Allocation, other: &Allocation) -> bool {
-    let place = |start| match start {
+/// Where an allocation needs its bytes: at the operation that makes it, which may clear them, and in its intervals.
+fn needed(allocation: &Allocation) -> Vec<Interval> {
+    let operation = allocation.operation;
+    let made = Interval { block: allocation.block, start: Start::Operation(operation), end: End::Operation(operation) };
+    [&[made], allocation.intervals.as_slice()].concat()
+}
+
+/// Whether two stretches have a point in common, both ends counted.
+fn meet(a: &Interval, b: &Interval) -> bool {
+    let first = |start| match start {
         Start::Block => 0,
-        Start::Operation(operation) => u64::from(operation) + 1,
+        Start::Operation(operation) => u64::from(operation.0) + 1,
     };
     let last = |end| match end {
-        End::Operation(operation) => u64::from(operation) + 1,
+        End::Operation(operation) => u64::from(operation.0) + 1,
         End::Block => u64::MAX,
     };
-    let meets = one.intervals.iter().any(|a| {
-        let b = other.intervals.iter().filter(|b| b.block == a.block);
-        b.into_iter().any(|b| place(a.start) <= last(b.end) && place(b.start) <= last(a.end))
-    });
-    !one.marked && !other.marked && !meets
+    a.block == b.block && first(a.start) <= last(b.end) && first(b.start) <= last(a.end)
+}
+
+/// Whether one function of the order has both blocks.
+fn in_one_function(order: &[FunctionBlocks], one: BlockId, other: BlockId) -> bool {
+    order.iter().any(|function| function.blocks.contains(&one) && function.blocks.contains(&other))
+}
+
+/// Whether two allocations may have the same place in the frame of their function: they are of one function, neither is
+/// marked, and nowhere do both need their bytes.
+pub fn may_share(order: &[FunctionBlocks], one: &Allocation, other: &Allocation) -> bool {
+    let (needed, by_other) = (needed(one), needed(other));
+    in_one_function(order, one.block, other.block)
+        && !one.marked
+        && !other.marked
+        && !needed.iter().any(|a| by_other.iter().any(|b| meet(a, b)))
 }
 
 /// Each pair of allocations that may share their memory.
 pub fn pairs(image: &[u8]) -> Result<Vec<(usize, usize)>, Refusal> {
+    let order = sir_analyses::order(image)?;
     let all = sir_analyses::allocations(image)?;
     let pairs = (0..all.len()).flat_map(|one| (0..one).map(move |other| (other, one)));
-    Ok(pairs.filter(|&(one, other)| may_share(&all[one], &all[other])).collect())
+    Ok(pairs.filter(|&(one, other)| may_share(&order, &all[one], &all[other])).collect())
 }
 
 fn main() -> Result<(), Refusal> {

@@ -1,7 +1,7 @@
 //! The examples, in Rust and in C, give what they say.
 #![cfg(sir_linked)]
 
-use sir_image::samples;
+use sir_image::{Code, Control, Image, samples};
 use std::path::{Path, PathBuf};
 use std::process::Command;
 use std::{env, fs};
@@ -17,6 +17,44 @@ fn from_rust() {
     assert_eq!(ask::pairs(&ask::program()), Ok(vec![(0, 1)]));
 }
 
+/// A function whose buffer lives across a call, and one whose buffer is in use during the call. No walk has both, so their
+/// intervals do not meet; they are not offered as a pair that may share its memory.
+#[test]
+fn caller_and_callee() {
+    let mut image = Image::new(4);
+    image.operation_with(Code::StaticAllocZeroed, &[], &[0], [64, 0]);
+    image.operation_with(Code::InternalCall, &[], &[], [1, 0]);
+    image.operation(Code::MemoryLoad, &[0], &[1]);
+    image.operation(Code::Stop, &[], &[]);
+    image.block(&[], &[], image.operations_from(0), Control::LastOpTerminates);
+    let callee = image.operation_with(Code::StaticAllocZeroed, &[], &[2], [64, 1]);
+    image.operation(Code::MemoryLoad, &[2], &[3]);
+    image.block(&[], &[], image.operations_from(callee), Control::InternalReturn);
+    image.function(0);
+    image.function(1);
+    let image = image.pages();
+    let all = sir_analyses::allocations(&image).unwrap();
+    assert_eq!(
+        all.iter().map(|allocation| (allocation.marked, allocation.block.0)).collect::<Vec<_>>(),
+        [(false, 0), (false, 1)]
+    );
+    assert_eq!(ask::pairs(&image), Ok(vec![]));
+}
+
+/// A buffer that is never read still has its bytes cleared where it is made.
+#[test]
+fn an_unread_buffer() {
+    let mut image = Image::new(3);
+    image.operation_with(Code::StaticAllocZeroed, &[], &[0], [64, 0]);
+    image.operation_with(Code::StaticAllocZeroed, &[], &[1], [64, 1]);
+    image.operation(Code::MemoryLoad, &[0], &[2]);
+    image.block(&[], &[], image.operations_from(0), Control::LastOpTerminates);
+    image.function(0);
+    let image = image.pages();
+    assert!(sir_analyses::allocations(&image).unwrap()[1].intervals.is_empty());
+    assert_eq!(ask::pairs(&image), Ok(vec![]));
+}
+
 /// Compiles `examples/call.c` where a C compiler is at hand, and runs it on an accepted and on a refused image.
 #[test]
 fn from_c() {
@@ -26,13 +64,12 @@ fn from_c() {
         return;
     }
     let repository = Path::new(env!("CARGO_MANIFEST_DIR")).join("../..");
-    let library = env::var("SIR_ANALYSES_LIB").unwrap_or("target/staticlib".to_string());
     let folder = PathBuf::from(env!("CARGO_TARGET_TMPDIR"));
     let program = folder.join("call");
     let compiled = Command::new(compiler)
         .current_dir(&repository)
         .args(["-std=c99", "-Wall", "-Wextra", "-Werror", "-Iinclude", "examples/call.c"])
-        .arg(repository.join(library).join("libsir_analyses.a"))
+        .arg(sir_analyses::LIBRARY.unwrap())
         .arg("-o")
         .arg(&program)
         .status();

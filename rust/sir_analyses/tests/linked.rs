@@ -1,60 +1,52 @@
 //! The linked library: accepted and refused images, unknown ids, short slices, and the bytes that are left alone.
 #![cfg(sir_linked)]
 
-use paper_reference::Question;
-use sir_analyses::{Answer, End, FunctionBlocks, Interval, Place, Refusal, Size, Start, Use, calls};
+use sir_analyses::{AllocId, BlockId, Cause, FunctionId, LocalId, OpIdx, Question, Refusal};
+use sir_analyses::{Answer, End, FunctionBlocks, Interval, Place, Size, Start, Use, calls};
 use sir_image::{Block, Control, Image, MAX_BLOCKS, MAX_OPERANDS, MAX_OPERATIONS, Operation, Span, samples};
-use std::{fmt::Debug, fs, path::Path};
-
-fn ask(question: Question, image: &[u8], id: u32, result: &mut [u8]) -> Answer {
-    calls::ask(sir_analyses::Question::ALL[question as usize], image, id, result)
-}
-
-/// The bindings and the reference list the questions in one sequence.
-#[test]
-fn questions() {
-    let named = |questions: &dyn Debug| format!("{questions:?}");
-    assert_eq!(named(&sir_analyses::Question::ALL), named(&Question::ALL));
-}
+use std::{fs, path::Path};
 
 /// Number, length and every byte of the result slice are the paper's.
-fn assert_as_the_paper(question: Question, image: &[u8], id: u32, length: usize) -> Answer {
+fn assert_as_the_paper(question: Question, image: &[u8], length: usize) -> Answer {
     let mut result: Vec<u8> = (0..length).map(|at| at as u8 ^ 0x5a).collect();
     let mut expected = result.clone();
-    let answer = ask(question, image, id, &mut result);
-    let (number, length) = paper_reference::call(image, question, id, &mut expected);
-    assert_eq!((answer, &result), (Answer { number, length }, &expected), "{question:?} {id}");
+    let answer = calls::ask(question, image, &mut result);
+    let (number, length) = paper_reference::call(image, question, &mut expected);
+    assert_eq!((answer, &result), (Answer { number, length }, &expected), "{question}");
     answer
 }
 
 #[test]
 fn report_decoded() {
     let image = samples::report().pages();
-    assert_eq!(sir_analyses::order(&image), Ok(vec![FunctionBlocks { function: 0, blocks: vec![0, 1] }]));
-    assert_eq!(sir_analyses::predecessors(&image, 1), Ok(vec![0]));
-    let uses = [Use { block: 0, place: Place::Operation(2) }, Use { block: 0, place: Place::BlockOutput(0) }];
-    assert_eq!(sir_analyses::uses(&image, 1), Ok(uses.to_vec()));
+    let function = FunctionBlocks { function: FunctionId(0), blocks: vec![BlockId(0), BlockId(1)] };
+    assert_eq!(sir_analyses::order(&image), Ok(vec![function]));
+    assert_eq!(sir_analyses::predecessors(&image, BlockId(1)), Ok(vec![BlockId(0)]));
+    let uses = [Place::Operation(OpIdx(2)), Place::BlockOutput(0)].map(|place| Use { block: BlockId(0), place });
+    assert_eq!(sir_analyses::uses(&image, LocalId(1)), Ok(uses.to_vec()));
 }
 
 #[test]
 fn report_liveness_decoded() {
     let image = samples::report().pages();
     assert_eq!(sir_analyses::rounds(&image), Ok(2));
-    assert_eq!(sir_analyses::entry_set(&image, 1), Ok(vec![2]));
-    assert_eq!(sir_analyses::exit_set(&image, 0), Ok(vec![1]));
-    let first = Interval { block: 0, start: Start::Operation(1), end: End::Block };
-    assert_eq!(sir_analyses::intervals(&image, 1), Ok(vec![first]));
+    assert_eq!(sir_analyses::entry_set(&image, BlockId(1)), Ok(vec![LocalId(2)]));
+    assert_eq!(sir_analyses::exit_set(&image, BlockId(0)), Ok(vec![LocalId(1)]));
+    let first = Interval { block: BlockId(0), start: Start::Operation(OpIdx(1)), end: End::Block };
+    assert_eq!(sir_analyses::intervals(&image, LocalId(1)), Ok(vec![first]));
 }
 
 #[test]
 fn report_allocations_decoded() {
     let image = samples::report().pages();
-    let first = Interval { block: 0, start: Start::Operation(1), end: End::Block };
-    let second = Interval { block: 1, start: Start::Block, end: End::Operation(3) };
-    assert_eq!((sir_analyses::owner(&image, 2), sir_analyses::owner(&image, 0)), (Ok(Some(0)), Ok(None)));
+    let first = Interval { block: BlockId(0), start: Start::Operation(OpIdx(1)), end: End::Block };
+    let second = Interval { block: BlockId(1), start: Start::Block, end: End::Operation(OpIdx(3)) };
+    let owners = [2, 0].map(|local| sir_analyses::owner(&image, LocalId(local)));
+    assert_eq!(owners, [Ok(Some(AllocId(0))), Ok(None)]);
     let all = sir_analyses::allocations(&image).unwrap();
     assert_eq!(all.len(), 1);
-    assert_eq!((all[0].block, all[0].operation, all[0].base, all[0].marked), (0, 1, 1, false));
+    assert_eq!((all[0].block, all[0].operation, all[0].base), (BlockId(0), OpIdx(1), LocalId(1)));
+    assert!(!all[0].marked);
     assert_eq!((all[0].size, &all[0].intervals), (Size::Static { size: 32, id: 0 }, &vec![first, second]));
 }
 
@@ -62,7 +54,7 @@ fn report_allocations_decoded() {
 fn refusals_decoded() {
     let image = samples::report().pages();
     assert_eq!(sir_analyses::order(&image[..511]), Err(Refusal::LENGTH));
-    assert_eq!(sir_analyses::uses(&image, 4), Err(Refusal::UNKNOWN_ID));
+    assert_eq!(sir_analyses::uses(&image, LocalId(4)), Err(Refusal::UNKNOWN_ID));
     assert_eq!(Refusal::UNKNOWN_ID.number(), 13);
 }
 
@@ -70,11 +62,12 @@ fn refusals_decoded() {
 #[test]
 fn slices_and_ids() {
     let image = samples::report().pages();
-    for question in Question::ALL {
+    for kind in Question::KINDS {
         for id in [0, 1, 2, 3, 4, 5, u32::MAX - 1] {
-            let enough = assert_as_the_paper(question, &image, id, 100);
+            let question = kind.about(&vec![id; kind.ids.len()]);
+            let enough = assert_as_the_paper(question, &image, 100);
             for length in 0..enough.length as usize + 6 {
-                assert_as_the_paper(question, &image, id, length);
+                assert_as_the_paper(question, &image, length);
             }
         }
     }
@@ -88,10 +81,11 @@ fn listed_images() {
     for line in index.lines() {
         let (name, number) = line.split_once(' ').unwrap();
         let image = fs::read(folder.join(name)).unwrap();
-        for question in Question::ALL {
-            let answer = assert_as_the_paper(question, &image, 0, 8);
-            let number: u32 = number.parse().unwrap();
-            assert!(answer.number == number || (number == 0 && answer.number > 12), "{name}");
+        let number: u32 = number.parse().unwrap();
+        for kind in Question::KINDS {
+            let answer = assert_as_the_paper(kind.about_zeros(), &image, 8);
+            let by_the_caller = Refusal::new(answer.number).cause() == Some(Cause::Caller);
+            assert!(answer.number == number || (number == 0 && by_the_caller), "{name}");
         }
     }
 }
@@ -103,8 +97,8 @@ fn long_answers() {
     let order = sir_analyses::order(&image).unwrap();
     let blocks: usize = order.iter().map(|function| function.blocks.len()).sum();
     assert_eq!(blocks, sir_image::MAX_BLOCKS);
-    assert_as_the_paper(Question::Uses, &image, 511, 1 << 20);
-    assert_as_the_paper(Question::EntrySet, &image, 0, 4096);
+    assert_as_the_paper(Question::Uses(LocalId(511)), &image, 1 << 20);
+    assert_as_the_paper(Question::EntrySet(BlockId(0)), &image, 4096);
 }
 
 /// Every question keeps within the stack that the header states.
@@ -114,8 +108,8 @@ fn stack() {
     let calls = move || {
         let mut result = [0; 2048];
         for image in &images {
-            for question in Question::ALL {
-                ask(question, image, 1, &mut result);
+            for kind in Question::KINDS {
+                calls::ask(kind.about(&vec![1; kind.ids.len()]), image, &mut result);
             }
         }
     };
@@ -138,6 +132,6 @@ fn longest_uses() {
         image.blocks.push(Block { inputs: Span::default(), outputs: Span::default(), operations, control });
     }
     let mut result = [7u8; 64];
-    let answer = calls::uses(&image.pages(), 0, &mut result);
+    let answer = calls::uses(&image.pages(), LocalId(0), &mut result);
     assert_eq!((answer, result), (Answer { number: 14, length: 0 }, [7u8; 64]));
 }

@@ -1,10 +1,30 @@
 //! Liveness and intervals of the linked library, on small programs whose answers are stated by hand.
 #![cfg(sir_linked)]
 
-use sir_analyses::{End, Interval, Refusal, Start, entry_set, exit_set, intervals, predecessors, rounds};
+use sir_analyses::{BlockId, End, Interval, LocalId, OpIdx, Refusal, Start, rounds};
 use sir_image::{Code, Control, Image, MAX_LOCALS, Span};
 
-const WHOLE: fn(u32) -> Interval = |block| Interval { block, start: Start::Block, end: End::Block };
+const WHOLE: fn(u32) -> Interval = |block| Interval { block: BlockId(block), start: Start::Block, end: End::Block };
+
+fn numbers(set: Result<Vec<LocalId>, Refusal>) -> Result<Vec<u32>, Refusal> {
+    set.map(|locals| locals.iter().map(|local| local.0).collect())
+}
+
+fn entry_set(image: &[u8], block: u32) -> Result<Vec<u32>, Refusal> {
+    numbers(sir_analyses::entry_set(image, BlockId(block)))
+}
+
+fn exit_set(image: &[u8], block: u32) -> Result<Vec<u32>, Refusal> {
+    numbers(sir_analyses::exit_set(image, BlockId(block)))
+}
+
+fn intervals(image: &[u8], local: u32) -> Result<Vec<Interval>, Refusal> {
+    sir_analyses::intervals(image, LocalId(local))
+}
+
+fn predecessors(image: &[u8], block: u32) -> Result<Vec<BlockId>, Refusal> {
+    sir_analyses::predecessors(image, BlockId(block))
+}
 
 /// A block that copies a local, or does nothing.
 fn block(image: &mut Image, inputs: &[u32], outputs: &[u32], copy: Option<(u32, u32)>, control: Control) {
@@ -38,7 +58,7 @@ fn loop_of_one_block() {
     let image = image.pages();
     assert_eq!((entry_set(&image, 0), exit_set(&image, 0)), (Ok(vec![]), Ok(vec![0])));
     assert_eq!((entry_set(&image, 1), exit_set(&image, 1)), (Ok(vec![0]), Ok(vec![0])));
-    let given = Interval { block: 0, start: Start::Operation(0), end: End::Block };
+    let given = Interval { block: BlockId(0), start: Start::Operation(OpIdx(0)), end: End::Block };
     assert_eq!(intervals(&image, 0), Ok(vec![given, WHOLE(1)]));
     assert_eq!(rounds(&image), Ok(2));
 }
@@ -65,8 +85,8 @@ fn self_loop() {
     image.function(0);
     let image = image.pages();
     assert_eq!((entry_set(&image, 0), exit_set(&image, 0), rounds(&image)), (Ok(vec![0]), Ok(vec![0]), Ok(2)));
-    let given = Interval { block: 0, start: Start::Operation(0), end: End::Block };
-    let read = Interval { block: 0, start: Start::Block, end: End::Operation(0) };
+    let given = Interval { block: BlockId(0), start: Start::Operation(OpIdx(0)), end: End::Block };
+    let read = Interval { block: BlockId(0), start: Start::Block, end: End::Operation(OpIdx(0)) };
     assert_eq!(intervals(&image, 0), Ok(vec![given, read]));
 }
 
@@ -97,7 +117,7 @@ fn shared_block() {
     image.main = Some(image.entries.len() as u32);
     image.function(1);
     let image = image.pages();
-    assert_eq!(predecessors(&image, 2), Ok(vec![0, 1]));
+    assert_eq!(predecessors(&image, 2), Ok(vec![BlockId(0), BlockId(1)]));
     assert_eq!((exit_set(&image, 0), exit_set(&image, 1)), (Ok(vec![0]), Ok(vec![0])));
     assert_eq!((entry_set(&image, 0), entry_set(&image, 1)), (Ok(vec![]), Ok(vec![0])));
 }

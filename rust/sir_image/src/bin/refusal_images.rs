@@ -1,4 +1,5 @@
-//! Writes images that try every clause of refusals 1 to 11, and an index of them, to a folder. From the folder `rust`:
+//! Writes images that try every clause of the refusals of an image but the last (12), and an index of them, to a folder.
+//! From the folder `rust`:
 //!
 //! ```text
 //! cargo run -p sir_image --bin refusal_images -- ../crates/refusals/data
@@ -431,7 +432,7 @@ const BLOCKS: &[Row] = &[
     }),
 ];
 
-/// Images that break several rules: the lowest number is given, wherever its rule is broken.
+/// Images that break several rules: the first in the sequence is given, wherever its rule is broken.
 const SEVERAL: &[Row] = &[
     ("r01_and_all_after", 1, || breaks_from(1)),
     ("r02_and_all_after", 2, || breaks_from(2)),
@@ -566,6 +567,7 @@ fn main() -> io::Result<()> {
 #[cfg(test)]
 mod tests {
     use super::*;
+    use sir_questions::Refusal;
     use std::collections::BTreeSet;
 
     #[test]
@@ -588,7 +590,8 @@ mod tests {
 
     #[test]
     fn every_number_is_there() {
-        for number in 0..=11 {
+        let before_12 = Refusal::of_images().filter(|&refusal| refusal != Refusal::SHARED_BASE);
+        for number in before_12.map(Refusal::number).chain([0]) {
             assert!(rows().any(|row| row.1 == number), "{number}");
         }
     }

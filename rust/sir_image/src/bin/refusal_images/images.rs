@@ -2,6 +2,7 @@
 
 use sir_image::pages::{self, CHECK_AT, PAGE_BYTES};
 use sir_image::{Code, Control, Count, Image, Span};
+use sir_questions::Refusal;
 
 /// Blocks of [`kinds`]: one of each control kind, and one that is not visited.
 pub const SWITCH: usize = 0;
@@ -200,9 +201,10 @@ pub fn header(at: usize, value: u32) -> Vec<u8> {
     set(small().pages(), at, value)
 }
 
-/// An image that breaks every rule from this one on.
+/// An image that breaks this rule and every one behind it in the sequence.
 pub fn breaks_from(first: u32) -> Vec<u8> {
-    let breaks = |rule: u32| first <= rule;
+    let place = |rule: u32| Refusal::ALL.iter().position(|refusal| refusal.number() == rule);
+    let breaks = |rule: u32| place(first) <= place(rule);
     let mut image = block_of(&[3, 3], &[3, 3], Control::ContinuesTo(0));
     if breaks(10) {
         image.blocks[0].outputs = Span::EMPTY;

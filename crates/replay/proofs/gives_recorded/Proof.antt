@@ -1,12 +1,12 @@
--- `agrees` lends as much of the untouched bytes as were recorded.
+-- `gives_recorded` lends as much of the untouched bytes as were recorded.
 use mathlib.Core.Path.{sym}
 use Prim.Native.Nat.{_≤_}
 use native.Mathlib.Omega.{arith}
 use lib.ListN.{length}
 use lib.Seq.{length-take-le}
 use borrow.Author.Needs.{needs}
-use Rattle.replay.proofs.agrees.Statement.{statement}
-use Rattle.replay.proofs.agrees.Tie as tie
+use Rattle.replay.proofs.gives_recorded.Statement.{statement}
+use Rattle.replay.proofs.gives_recorded.Tie as tie
 
 slice-aggregate-read-full : tie.Need-slice-aggregate-read-full
 slice-aggregate-read-full c = search needs
@@ -62,8 +62,8 @@ is-as-recorded-requires c κs = search needs
 returns-4 : tie.Need-returns-4
 returns-4 c = search needs
 
-pub agrees-spec : {M : Type 1} → statement M
-agrees-spec =
+pub gives-recorded-spec : {M : Type 1} → statement M
+gives-recorded-spec =
     tie.close
     (tie.spec
     slice-aggregate-read-full

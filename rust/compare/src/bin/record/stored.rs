@@ -1,18 +1,12 @@
-//! Writes the files that `crates/replay` replays: images, questions about them and their answers. From the folder `rust`:
-//!
-//! ```text
-//! cargo run --release -p compare --bin record
-//! ```
-//!
-//! The answers are Plank's; the rounds, which Plank does not report, and all refusals are the paper's reference's. The
-//! library has no part in this. What was in `crates/replay/data` is replaced, with `args` and `stdout`; `data/README`
-//! says how the files were made.
+//! The files that are stored: Plank's answers; the rounds and the refusals are the reference's.
 
-use compare::sides::{ask_plank, damaged, ids};
-use image_gen::{Kind, Rng, Size, generate, worst};
-use paper_reference::{Question, Reference};
-use plank_oracle::Program;
+use compare::recording::{Recorded, Recording, to_bytes};
+use compare::sides::unknown;
+use image_gen::{Kind, Rng, Size, damaged, generate, worst};
+use paper_reference::Reference;
+use plank_oracle::{Analyses, Program};
 use sir_image::Image;
+use sir_questions::{IdKind, Question, QuestionKind, Refusal};
 use std::collections::BTreeMap;
 use std::path::{Path, PathBuf};
 use std::{fs, io};
@@ -26,63 +20,12 @@ const LARGE: u64 = 2;
 /// Damaged images of each refusal.
 const DAMAGED: usize = 6;
 /// Ids of each question about an image that is not small.
-const SOME_IDS: usize = 6;
+const SOME_IDS: u32 = 6;
 /// Answers that are longer are left out.
 const LONGEST: usize = 12_000;
-/// Each byte of a result slice before the call.
-const BEFORE: u8 = 165;
 
-/// A call and what it gives.
-struct Recorded {
-    question: Question,
-    id: u32,
-    number: u32,
-    length: usize,
-    /// The result slice after the call.
-    result: Vec<u8>,
-}
-
-impl Recorded {
-    /// An answer, in a slice with some bytes more.
-    fn answer(question: Question, id: u32, words: &[u32], spare: usize) -> Recorded {
-        let mut result: Vec<u8> = words.iter().flat_map(|word| word.to_le_bytes()).collect();
-        let length = result.len();
-        result.resize(length + spare, BEFORE);
-        Recorded { question, id, number: 0, length, result }
-    }
-
-    fn refusal(question: Question, id: u32, number: u32, room: usize) -> Recorded {
-        Recorded { question, id, number, length: 0, result: vec![BEFORE; room] }
-    }
-
-    fn bytes(&self) -> Vec<u8> {
-        let room = self.result.len() as u32;
-        let words = [self.question as u32, self.id, room, self.number, self.length as u32];
-        let mut bytes: Vec<u8> = words.iter().flat_map(|word| word.to_le_bytes()).collect();
-        bytes.extend(&self.result);
-        bytes
-    }
-}
-
-/// A file of the program.
-struct Recording {
-    name: String,
-    image: Vec<u8>,
-    calls: Vec<Recorded>,
-}
-
-impl Recording {
-    fn bytes(&self) -> Vec<u8> {
-        let words = [self.image.len() as u32, self.calls.len() as u32];
-        let mut bytes: Vec<u8> = words.iter().flat_map(|word| word.to_le_bytes()).collect();
-        bytes.extend(&self.image);
-        self.calls.iter().for_each(|call| bytes.extend(call.bytes()));
-        bytes
-    }
-}
-
-/// Every question about an image that rules 1 to 11 accept: all ids or some, one id too many, and one slice that is one
-/// byte too short.
+/// Every question about an image that Plank takes: all ids or some, one id too many, and one slice that is one byte too
+/// short.
 fn of_image(name: String, image: &Image, all: bool) -> Recording {
     let bytes = image.pages();
     let paper = match Reference::new(&bytes) {
@@ -91,37 +34,43 @@ fn of_image(name: String, image: &Image, all: bool) -> Recording {
     };
     let program = Program::new(image).expect("Plank's files are there");
     let plank = program.analyses();
-    assert!(!plank.shares_a_base() && plank.allocations() == paper.ids(Question::Allocation), "{name}");
+    assert!(!plank.shares_a_base() && plank.allocations() == paper.count(IdKind::Allocation), "{name}");
     let mut calls: Vec<Recorded> = Vec::new();
-    for question in Question::ALL {
-        let ids = ids(&paper, question);
-        let step = if all { 1 } else { (ids.len() / SOME_IDS).max(1) };
-        let mut longest = (0, 0);
-        for id in ids.clone().step_by(step) {
-            let stated = paper.answer(question, id).expect("the id is below its count");
-            let words = ask_plank(&plank, question, id).unwrap_or_else(|| stated.clone());
-            assert_eq!(words, stated, "{name}: {question:?} {id}");
-            if 4 * words.len() > LONGEST {
+    for kind in Question::KINDS {
+        let step = |count: u32| if all { 1 } else { count / SOME_IDS };
+        let mut longest: Option<(usize, Question)> = None;
+        for question in kind.about_all(|id| paper.count(id), step) {
+            let answer = agreed(&paper, &plank, question);
+            let length = answer.len();
+            if length > LONGEST {
                 continue;
             }
-            let call = Recorded::answer(question, id, &words, [0, 1, 7][calls.len() % 3]);
-            longest = longest.max((call.length, id));
-            calls.push(call);
+            calls.push(Recorded::answer(question, answer, [0, 1, 7][calls.len() % 3]));
+            if length >= longest.map_or(1, |(most, _)| most) {
+                longest = Some((length, question));
+            }
         }
-        if let (length @ 1.., id) = longest {
-            calls.push(Recorded::refusal(question, id, 14, length - 1));
-        }
-        if !matches!(question, Question::Order | Question::Rounds) {
-            let unknown = [ids.end, u32::MAX][calls.len() % 2];
-            calls.push(Recorded::refusal(question, unknown, 13, 5));
-        }
+        let short = longest.map(|(length, question)| (question, Refusal::SHORT_RESULT, length - 1));
+        let unknown = unknown(&paper, kind, calls.len() + usize::from(short.is_some())).into_iter();
+        let refused = short.into_iter().chain(unknown.map(|question| (question, Refusal::UNKNOWN_ID, 5)));
+        calls.extend(refused.map(|(question, refusal, room)| Recorded::refusal(question, refusal.number(), room)));
     }
     Recording { name, image: bytes, calls }
 }
 
+/// Plank's answer, or the reference's where Plank has none.
+fn agreed(paper: &Reference, plank: &Analyses, question: Question) -> Vec<u8> {
+    let stated = paper.bytes(question).expect("the ids are below their counts");
+    if let Some(words) = plank.answer(question) {
+        assert_eq!(to_bytes(&words), stated, "{question}");
+    }
+    stated
+}
+
 /// Every question about an image that some rule refuses.
 fn refused(name: String, image: Vec<u8>, number: u32) -> Recording {
-    let calls = Question::ALL.map(|question| Recorded::refusal(question, 0, number, 9)).into();
+    let questions = Question::KINDS.iter().map(QuestionKind::about_zeros);
+    let calls = questions.map(|question| Recorded::refusal(question, number, 9)).collect();
     Recording { name, image, calls }
 }
 
@@ -129,7 +78,8 @@ fn refused(name: String, image: Vec<u8>, number: u32) -> Recording {
 fn damaged_images() -> Vec<Recording> {
     let rng = &mut Rng::new(SEED);
     let mut found: BTreeMap<u32, Vec<Recording>> = BTreeMap::new();
-    while (1..=12).any(|number| found.get(&number).is_none_or(|all| all.len() < DAMAGED)) {
+    let numbers: Vec<u32> = Refusal::of_images().map(Refusal::number).collect();
+    while numbers.iter().any(|number| found.get(number).is_none_or(|all| all.len() < DAMAGED)) {
         let kind = rng.pick(Kind::SMALL);
         let image = damaged(&generate(kind, rng.next_u64()), rng);
         let number = paper_reference::refusal(&image);
@@ -178,15 +128,13 @@ fn files() -> BTreeMap<String, Vec<u8>> {
     files
 }
 
-fn folder() -> PathBuf {
+/// The folder of the program.
+pub fn folder() -> PathBuf {
     Path::new(env!("CARGO_MANIFEST_DIR")).join("../../crates/replay")
 }
 
-fn main() -> io::Result<()> {
-    if !plank_oracle::PRESENT {
-        eprintln!("record: Plank's files were missing when this was built (set PLANK_SRC)");
-        std::process::exit(2);
-    }
+/// Writes all files anew, and prints how they were made.
+pub fn write() -> io::Result<()> {
     let files = files();
     if folder().join("data").is_dir() {
         fs::remove_dir_all(folder().join("data"))?;
@@ -205,12 +153,12 @@ fn readme(files: usize, size: usize, by_number: &BTreeMap<u32, usize>) -> String
         "Recorded answers, written by `cargo run --release -p compare --bin record` in the folder rust.\n\
          \n\
          Answers are those of Plank's own analyses; the rounds, which Plank does not report, and the refusals are those of\n\
-         rust/paper_reference. The proved library had no part in writing them.\n\
+         rust/paper_reference. The proved library had no part in writing them. src/main.rt states the form of a file.\n\
          \n\
          {files} files, {size} bytes. Seeds from {SEED} on: {SMALL} small images of each of {} kinds, all ids; {LARGE} large\n\
          ones of each of {} kinds and the worst of medium size, about {SOME_IDS} ids of each question and no answer above\n\
-         {LONGEST} bytes; {DAMAGED} damaged images of each refusal from 1 to 12. Each accepted image also has an unknown id (13)\n\
-         and a slice one byte too short (14) for each question that can be so refused.\n\
+         {LONGEST} bytes; {DAMAGED} damaged images of each number that refuses an image. Each accepted image also has an unknown id\n\
+         (13) and a slice one byte too short (14) for each question that can be so refused.\n\
          \n\
          How often each number is to be given: {}.\n",
         Kind::SMALL.len(),

@@ -1,0 +1,52 @@
+// Puts recorded questions by their numbers: every exported function is called here and nowhere else in this program.
+use sir_analyses::answers::Answer;
+use sir_analyses::questions::sir_allocation;
+use sir_analyses::questions::sir_entry_set;
+use sir_analyses::questions::sir_exit_set;
+use sir_analyses::questions::sir_intervals;
+use sir_analyses::questions::sir_order;
+use sir_analyses::questions::sir_owner;
+use sir_analyses::questions::sir_predecessors;
+use sir_analyses::questions::sir_rounds;
+use sir_analyses::questions::sir_uses;
+use sir_data::pages::word_at;
+
+// What an unknown question gives, or one with another number of ids: a length that no file can state, so that it differs.
+fn unknown() -> Answer {
+    Answer {
+        number: 0,
+        length: 18446744073709551615,
+    }
+}
+
+// The questions without ids.
+fn ask_of_image(question: u32, image: &[u8], out: &mut [u8]) -> Answer {
+    match question {
+        0 => sir_order(image, out),
+        8 => sir_rounds(image, out),
+        _ => unknown(),
+    }
+}
+
+// The questions about one id.
+fn ask_of_one(question: u32, image: &[u8], id: u32, out: &mut [u8]) -> Answer {
+    match question {
+        1 => sir_predecessors(image, id, out),
+        2 => sir_entry_set(image, id, out),
+        3 => sir_exit_set(image, id, out),
+        4 => sir_uses(image, id, out),
+        5 => sir_intervals(image, id, out),
+        6 => sir_allocation(image, id, out),
+        7 => sir_owner(image, id, out),
+        _ => unknown(),
+    }
+}
+
+// Puts a question about ids, a word each.
+pub fn ask(question: u32, image: &[u8], ids: &[u8], out: &mut [u8]) -> Answer {
+    match ids.len() {
+        0 => ask_of_image(question, image, out),
+        4 => ask_of_one(question, image, word_at(ids, 0), out),
+        _ => unknown(),
+    }
+}

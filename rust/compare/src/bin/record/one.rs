@@ -1,0 +1,53 @@
+//! One file about one image, for questions that are chosen.
+
+use compare::recording::{Recorded, Recording};
+use paper_reference::Reference;
+use std::fs;
+use std::path::Path;
+
+/// Writes the reference's answers to a file, and prints them.
+pub fn write(file: &str, image: &str, questions: &[String]) -> Result<(), String> {
+    let bytes = fs::read(image).map_err(|error| format!("{image}: {error}"))?;
+    let calls = questions.iter().map(|text| call(text, &bytes)).collect::<Result<Vec<_>, _>>()?;
+    for (text, call) in questions.iter().zip(&calls) {
+        println!("{text} gives {} and {} bytes{}", call.number, call.length, shown(&call.result[..call.length]));
+    }
+    let name = Path::new(file).file_name().unwrap_or_default().to_string_lossy().into_owned();
+    let recording = Recording { name, image: bytes, calls };
+    fs::write(file, recording.bytes()).map_err(|error| format!("{file}: {error}"))
+}
+
+/// The call that a text states: a question, and behind a slash the length of the result slice.
+fn call(text: &str, image: &[u8]) -> Result<Recorded, String> {
+    let (question, room) = match text.split_once('/') {
+        Some((question, room)) => (question, Some(room.parse().map_err(|_| format!("{room} is no length"))?)),
+        None => (text, None),
+    };
+    let question = question.parse().map_err(|unknown: sir_questions::Unknown| unknown.to_string())?;
+    let answer = Reference::new(image).and_then(|reference| reference.bytes(question));
+    let room = room.unwrap_or(answer.map_or(0, |bytes| bytes.len()));
+    Ok(Recorded::by_reference(question, image, room))
+}
+
+/// Bytes behind a colon, in hexadecimal.
+fn shown(bytes: &[u8]) -> String {
+    let digits: String = bytes.iter().map(|byte| format!(" {byte:02x}")).collect();
+    if digits.is_empty() { digits } else { format!(":{digits}") }
+}
+
+#[cfg(test)]
+mod tests {
+    use super::*;
+
+    #[test]
+    fn calls() {
+        let image = sir_image::samples::report().pages();
+        let given = |text: &str| call(text, &image).map(|call| (call.number, call.length, call.result.len()));
+        assert_eq!(given("order"), Ok((0, 16, 16)));
+        assert_eq!(given("order/20"), Ok((0, 16, 20)));
+        assert_eq!(given("order/15"), Ok((14, 0, 15)));
+        assert_eq!(given("uses:4/7"), Ok((13, 0, 7)));
+        assert_eq!(call("exit_set:0", &image).map(|call| call.result), Ok(vec![1, 0, 0, 0]));
+        assert!(given("exit_set").is_err() && given("order/x").is_err());
+    }
+}

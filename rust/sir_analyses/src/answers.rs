@@ -1,0 +1,170 @@
+//! Answers, decoded.
+
+use sir_questions::{BlockId, FunctionId, Id, LocalId, OpIdx};
+
+/// A function of the order and its blocks.
+#[derive(Clone, Debug, PartialEq, Eq)]
+pub struct FunctionBlocks {
+    /// The function.
+    pub function: FunctionId,
+    /// Its blocks, in order; none where the entry had been visited before.
+    pub blocks: Vec<BlockId>,
+}
+
+/// A use of a local.
+#[derive(Clone, Copy, Debug, PartialEq, Eq)]
+pub struct Use {
+    /// The block.
+    pub block: BlockId,
+    /// Where in the block.
+    pub place: Place,
+}
+
+/// Where in a block a local is used.
+#[derive(Clone, Copy, Debug, PartialEq, Eq)]
+pub enum Place {
+    /// As an input of this operation.
+    Operation(OpIdx),
+    /// As the condition of a branch or switch.
+    Control,
+    /// As the output at this position.
+    BlockOutput(u32),
+}
+
+/// A stretch of a block, both ends counted.
+#[derive(Clone, Copy, Debug, PartialEq, Eq)]
+pub struct Interval {
+    /// The block.
+    pub block: BlockId,
+    /// Where it starts.
+    pub start: Start,
+    /// Where it ends.
+    pub end: End,
+}
+
+/// Where an interval starts.
+#[derive(Clone, Copy, Debug, PartialEq, Eq, PartialOrd, Ord)]
+pub enum Start {
+    /// At the start of the block.
+    Block,
+    /// At this operation.
+    Operation(OpIdx),
+}
+
+/// Where an interval ends.
+#[derive(Clone, Copy, Debug, PartialEq, Eq, PartialOrd, Ord)]
+pub enum End {
+    /// At this operation.
+    Operation(OpIdx),
+    /// At the end of the block.
+    Block,
+}
+
+/// An allocation.
+#[derive(Clone, Debug, PartialEq, Eq)]
+pub struct Allocation {
+    /// The block that defines it.
+    pub block: BlockId,
+    /// The operation.
+    pub operation: OpIdx,
+    /// The local that holds its pointer first.
+    pub base: LocalId,
+    /// Its size.
+    pub size: Size,
+    /// Whether it is marked: its pointer may be known elsewhere.
+    pub marked: bool,
+    /// Where its pointers are alive; none where it is marked.
+    pub intervals: Vec<Interval>,
+}
+
+/// The size of an allocation.
+#[derive(Clone, Copy, Debug, PartialEq, Eq)]
+pub enum Size {
+    /// Known, for the allocation with this static id.
+    Static {
+        /// The size.
+        size: u32,
+        /// The static id.
+        id: u32,
+    },
+    /// Held by a local.
+    Dynamic {
+        /// The local.
+        size_local: LocalId,
+    },
+}
+
+/// Words that are ids of one sort.
+pub(crate) fn ids<I: Id>(words: &[u32]) -> Vec<I> {
+    words.iter().map(|&word| I::new(word)).collect()
+}
+
+pub(crate) fn order(words: &[u32]) -> Vec<FunctionBlocks> {
+    let mut rest = words;
+    let mut order = Vec::new();
+    while let [function, count, after @ ..] = rest {
+        let (blocks, after) = after.split_at(*count as usize);
+        order.push(FunctionBlocks { function: FunctionId(*function), blocks: ids(blocks) });
+        rest = after;
+    }
+    order
+}
+
+pub(crate) fn uses(words: &[u32]) -> Vec<Use> {
+    let use_of = |&[block, kind, at]: &[u32; 3]| {
+        let place = match kind {
+            0 => Place::Operation(OpIdx(at)),
+            1 => Place::Control,
+            _ => Place::BlockOutput(at),
+        };
+        Use { block: BlockId(block), place }
+    };
+    words.as_chunks().0.iter().map(use_of).collect()
+}
+
+pub(crate) fn intervals(words: &[u32]) -> Vec<Interval> {
+    let interval = |&[block, start, end]: &[u32; 3]| Interval {
+        block: BlockId(block),
+        start: start.checked_sub(1).map_or(Start::Block, |operation| Start::Operation(OpIdx(operation))),
+        end: if end == u32::MAX { End::Block } else { End::Operation(OpIdx(end - 1)) },
+    };
+    words.as_chunks().0.iter().map(interval).collect()
+}
+
+pub(crate) fn allocation(words: &[u32]) -> Allocation {
+    let size = match words[3] {
+        0 => Size::Static { size: words[4], id: words[5] },
+        _ => Size::Dynamic { size_local: LocalId(words[4]) },
+    };
+    Allocation {
+        block: BlockId(words[0]),
+        operation: OpIdx(words[1]),
+        base: LocalId(words[2]),
+        size,
+        marked: words[6] == 1,
+        intervals: intervals(&words[8..]),
+    }
+}
+
+#[cfg(test)]
+mod tests {
+    use super::*;
+
+    #[test]
+    fn intervals_from_words() {
+        let words = [3, 0, 1, 3, 1, u32::MAX, 4, 7, 9];
+        let interval = |block, start, end| Interval { block: BlockId(block), start, end };
+        let expected = [
+            interval(3, Start::Block, End::Operation(OpIdx(0))),
+            interval(3, Start::Operation(OpIdx(0)), End::Block),
+            interval(4, Start::Operation(OpIdx(6)), End::Operation(OpIdx(8))),
+        ];
+        assert_eq!(intervals(&words), expected);
+    }
+
+    #[test]
+    fn order_from_words() {
+        let of = |function, blocks: &[u32]| FunctionBlocks { function: FunctionId(function), blocks: ids(blocks) };
+        assert_eq!(order(&[2, 3, 0, 4, 1, 5, 0]), [of(2, &[0, 4, 1]), of(5, &[])]);
+    }
+}

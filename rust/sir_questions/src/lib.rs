@@ -1,0 +1,22 @@
+//! What can be asked about an image, and why a question is refused: the ids, the questions and the refusals, each as one
+//! table.
+//!
+//! The bindings, the reference, Plank's analyses, the comparison, the recording and the benchmarks all speak in these
+//! terms. A new sort of id, a new question and a new refusal are one line of their table each.
+//!
+//! ```
+//! use sir_questions::{LocalId, Question, Refusal};
+//!
+//! let question: Question = "uses:4".parse().unwrap();
+//! assert_eq!(question, Question::Uses(LocalId(4)));
+//! assert_eq!((question.number(), question.ids()), (4, vec![4]));
+//! assert_eq!(Refusal::UNKNOWN_ID.to_string(), "refused 13: id asked for not below its count");
+//! ```
+
+mod ids;
+mod question;
+mod refusal;
+
+pub use ids::{AllocId, BlockId, FunctionId, Id, IdKind, LocalId, OpIdx};
+pub use question::{Question, QuestionKind, Unknown};
+pub use refusal::{Cause, Refusal};

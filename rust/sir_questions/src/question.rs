@@ -1,0 +1,225 @@
+//! Questions about an image.
+
+use crate::ids::*;
+use std::fmt::{self, Display, Formatter};
+use std::str::FromStr;
+
+/// Hands the table of the questions to a macro. A line is: number, name with ids and their types, name of the function that
+/// answers (in C behind `sir_`). Numbers are those of recorded files, so that none changes.
+#[macro_export]
+macro_rules! questions {
+    ($then:ident) => {
+        $then! {
+            /// The order. For each function of it: id, block count, block ids.
+            0 Order = order;
+            /// The predecessors of a block, repeats kept.
+            1 Predecessors(block: BlockId) = predecessors;
+            /// The entry set of a block, ids ascending.
+            2 EntrySet(block: BlockId) = entry_set;
+            /// The exit set of a block, ids ascending.
+            3 ExitSet(block: BlockId) = exit_set;
+            /// The uses of a local. For each: block, kind, place.
+            4 Uses(local: LocalId) = uses;
+            /// The intervals of a local. For each: block, start, end.
+            5 Intervals(local: LocalId) = intervals;
+            /// An allocation: defining block, operation, base local, kind, size or size local, static id, mark, interval
+            /// count, intervals.
+            6 Allocation(allocation: AllocId) = allocation;
+            /// The owner of a local: allocation + 1, or 0.
+            7 Owner(local: LocalId) = owner;
+            /// The rounds of liveness: one word.
+            8 Rounds = rounds;
+        }
+    };
+}
+
+macro_rules! define {
+    ($($(#[$doc:meta])* $number:literal $question:ident $(($($id:ident: $type:ident),+))? = $name:ident;)*) => {
+        /// A question about an image, with the ids that it is about.
+        #[derive(Clone, Copy, Debug, PartialEq, Eq, Hash)]
+        pub enum Question {
+            $($(#[$doc])* $question $(($($type),+))?,)*
+        }
+
+        impl Question {
+            /// Every kind of question, by number.
+            pub const KINDS: &[QuestionKind] = &[$(QuestionKind {
+                number: $number,
+                name: stringify!($name),
+                ids: &[$($($type::KIND),+)?],
+            }),*];
+
+            /// The question of a number and ids, where there is such a question and it takes so many.
+            pub fn new(number: u32, ids: &[u32]) -> Option<Question> {
+                match (number, ids) {
+                    $(($number, &[$($($id),+)?]) => Some(Question::$question $(($($type::new($id)),+))?),)*
+                    _ => None,
+                }
+            }
+
+            /// Its number in recorded files.
+            pub const fn number(self) -> u32 {
+                match self {
+                    $(Question::$question { .. } => $number,)*
+                }
+            }
+
+            /// The ids that it is about, as numbers.
+            pub fn ids(self) -> Vec<u32> {
+                match self {
+                    $(Question::$question $(($($id),+))? => vec![$($($id.get()),+)?],)*
+                }
+            }
+        }
+    };
+}
+
+questions!(define);
+
+impl Question {
+    /// What is left of it without its ids.
+    pub fn kind(self) -> &'static QuestionKind {
+        Question::KINDS.iter().find(|kind| kind.number == self.number()).expect("every question has its line")
+    }
+}
+
+/// A question without its ids.
+#[derive(Clone, Copy, Debug, PartialEq, Eq, Hash)]
+pub struct QuestionKind {
+    /// Its number in recorded files.
+    pub number: u32,
+    /// Its name: that of the function that answers.
+    pub name: &'static str,
+    /// What its ids number.
+    pub ids: &'static [IdKind],
+}
+
+impl QuestionKind {
+    /// The question of this kind about these ids.
+    ///
+    /// # Panics
+    ///
+    /// Where there are more ids, or fewer, than the question takes.
+    pub fn about(&self, ids: &[u32]) -> Question {
+        Question::new(self.number, ids).expect("as many ids as the question takes")
+    }
+
+    /// The question about ids that are all 0.
+    pub fn about_zeros(&self) -> Question {
+        self.about(&vec![0; self.ids.len()])
+    }
+
+    /// The questions about all ids below their counts, in turn; of each sort of id only those a step apart that may hang on
+    /// its count. One question where there are no ids.
+    pub fn about_all(&self, count: impl Fn(IdKind) -> u32, step: impl Fn(u32) -> u32) -> Vec<Question> {
+        self.id_lists(count, step).iter().map(|ids| self.about(ids)).collect()
+    }
+
+    fn id_lists(&self, count: impl Fn(IdKind) -> u32, step: impl Fn(u32) -> u32) -> Vec<Vec<u32>> {
+        let mut lists: Vec<Vec<u32>> = vec![Vec::new()];
+        for &kind in self.ids {
+            let count = count(kind);
+            let longer = |ids: &Vec<u32>| {
+                let all = (0..count).step_by(step(count).max(1) as usize);
+                all.map(|id| [ids.as_slice(), &[id]].concat()).collect::<Vec<_>>()
+            };
+            lists = lists.iter().flat_map(longer).collect();
+        }
+        lists
+    }
+
+    /// For each id of the question one that is too large, the others 0.
+    pub fn about_unknown(&self, too_large: impl Fn(IdKind) -> u32) -> Vec<Question> {
+        let at = |unknown: usize| {
+            let id = |(index, &kind)| if index == unknown { too_large(kind) } else { 0 };
+            self.about(&self.ids.iter().enumerate().map(id).collect::<Vec<_>>())
+        };
+        (0..self.ids.len()).map(at).collect()
+    }
+}
+
+/// As a user types it: the name; behind a colon the ids, parted by commas.
+impl Display for Question {
+    fn fmt(&self, f: &mut Formatter<'_>) -> fmt::Result {
+        f.write_str(self.kind().name)?;
+        for (index, id) in self.ids().iter().enumerate() {
+            write!(f, "{}{id}", if index == 0 { ':' } else { ',' })?;
+        }
+        Ok(())
+    }
+}
+
+/// A text that is no question.
+#[derive(Clone, Debug, PartialEq, Eq)]
+pub struct Unknown(String);
+
+impl Display for Unknown {
+    fn fmt(&self, f: &mut Formatter<'_>) -> fmt::Result {
+        let names: Vec<&str> = Question::KINDS.iter().map(|kind| kind.name).collect();
+        write!(f, "no question {}, or not with so many ids; there are {}", self.0, names.join(", "))
+    }
+}
+
+impl std::error::Error for Unknown {}
+
+impl FromStr for Question {
+    type Err = Unknown;
+
+    fn from_str(text: &str) -> Result<Question, Unknown> {
+        let unknown = || Unknown(text.to_string());
+        let (name, ids) = text.split_once(':').unwrap_or((text, ""));
+        let ids = ids.split(',').filter(|id| !id.is_empty()).map(str::parse);
+        let ids: Vec<u32> = ids.collect::<Result<_, _>>().map_err(|_| unknown())?;
+        let kind = Question::KINDS.iter().find(|kind| kind.name == name).ok_or_else(unknown)?;
+        Question::new(kind.number, &ids).ok_or_else(unknown)
+    }
+}
+
+#[cfg(test)]
+mod tests {
+    use super::*;
+
+    /// Numbers and names tell questions apart, and a question is found again by either.
+    #[test]
+    fn found_again() {
+        for (index, kind) in Question::KINDS.iter().enumerate() {
+            assert!(
+                Question::KINDS[..index].iter().all(|other| other.number != kind.number && other.name != kind.name)
+            );
+            let ids: Vec<u32> = (7..).take(kind.ids.len()).collect();
+            let question = kind.about(&ids);
+            assert_eq!((question.kind(), question.ids()), (kind, ids));
+            assert_eq!(question.to_string().parse(), Ok(question));
+        }
+    }
+
+    #[test]
+    fn texts() {
+        assert_eq!("order".parse(), Ok(Question::Order));
+        assert_eq!("exit_set:3".parse(), Ok(Question::ExitSet(BlockId(3))));
+        assert_eq!(Question::ExitSet(BlockId(3)).to_string(), "exit_set:3");
+        for unknown in ["", "orders", "order:1", "uses", "uses:x", "uses:1,2", "uses:4294967296"] {
+            assert!(unknown.parse::<Question>().is_err(), "{unknown}");
+        }
+    }
+
+    #[test]
+    fn lists_of_questions() {
+        let [order, predecessors] = [Question::KINDS[0], Question::KINDS[1]];
+        let all = |count, step| predecessors.about_all(|_| count, |_| step);
+        let about = |ids: &[u32]| ids.iter().map(|&id| Question::Predecessors(BlockId(id))).collect::<Vec<_>>();
+        assert_eq!((all(3, 1), all(5, 2)), (about(&[0, 1, 2]), about(&[0, 2, 4])));
+        assert_eq!((all(0, 1), all(2, 0)), (about(&[]), about(&[0, 1])));
+        assert_eq!(order.about_all(|_| 0, |_| 1), [Question::Order]);
+        assert_eq!((predecessors.about_unknown(|_| 9), order.about_unknown(|_| 9)), (about(&[9]), vec![]));
+        assert_eq!(predecessors.about_zeros(), Question::Predecessors(BlockId(0)));
+    }
+
+    #[test]
+    fn lists_of_two_ids() {
+        let two = QuestionKind { number: 99, name: "two", ids: &[IdKind::Block, IdKind::Operation] };
+        let count = |kind| if kind == IdKind::Block { 2 } else { 3 };
+        assert_eq!(two.id_lists(count, |_| 1), [[0, 0], [0, 1], [0, 2], [1, 0], [1, 1], [1, 2]]);
+        assert_eq!(two.id_lists(count, |count| count - 1), [[0, 0], [0, 2], [1, 0], [1, 2]]);
+    }
+}
