@@ -13,6 +13,7 @@ use Rattle.sir_analyses.specs.Allocation.{rule12}
 use Rattle.sir_analyses.specs.Calls.{refusal}
 use Rattle.sir_analyses.specs.Claims.{OrderRule, LivenessRule, MarkRule, SourceRule}
 use Rattle.sir_analyses.specs.Walk.{Lifetimes}
+use Rattle.sir_analyses.specs.Promise.{Promise}
 use Rattle.sir_analyses.proofs.OrderProof.{order-rule}
 use Rattle.sir_analyses.proofs.LivenessProof.{liveness-rule}
 use Rattle.sir_analyses.proofs.Marks.{mark-rule}
@@ -47,3 +48,6 @@ module _ (image : List ℕ) (accepted : refusal image ≡ 0) where
 
   pub source : SourceRule (payload image)
   source = source-rule (payload image) good bases-distinct
+
+  pub promise : Promise (payload image)
+  promise = record { order = order; liveness = liveness; marks = marks; source = source; lifetimes = walks }

@@ -19,5 +19,6 @@ pub mod Scanning
 pub mod Sweep
 pub mod Claims
 pub mod Walk
+pub mod Promise
 pub mod Examples
 pub mod laws

@@ -14,11 +14,10 @@ ghost use lib.ListN.{length};
 ghost use Rattle.sir_data.specs.Pages.{payload};
 ghost use Rattle.sir_analyses.specs.Answers.{orderAnswer};
 ghost use Rattle.sir_analyses.specs.Calls.{made, call, asked, refusal, inWords};
-ghost use Rattle.sir_analyses.specs.Claims.{OrderRule, LivenessRule, MarkRule, SourceRule};
 ghost use Rattle.sir_analyses.specs.Loading.{Ready};
+ghost use Rattle.sir_analyses.specs.Promise.{Promise};
 ghost use Rattle.sir_analyses.specs.Questions.{ownRules, answerWords};
 ghost use Rattle.sir_analyses.specs.Visiting.{orderIn};
-ghost use Rattle.sir_analyses.specs.Walk.{Lifetimes};
 
 // The refusal of a question, or its answer, from the words of an accepted image, the keys of its visit and the order's sequence.
 fn answer(
@@ -47,11 +46,7 @@ fn answer(
 // The refusal of the image, or of the question, or the answer; and what holds of the answers about every accepted image.
 pub fn ask(image: &[u8], question: Question, out: &mut [u8]) -> Answer
     ensures { λ r. ⌜ made (r .number) (r .length) (now (out .exit)) ≡ asked (ownRules question) (inWords (answerWords question)) (now (image .entry)) (now (out .entry)) ⌝ }
-    ensures { λ r. ⌜ (refusal (now (image .entry)) ≡ 0 → OrderRule (payload (now (image .entry)))) ⌝ }
-    ensures { λ r. ⌜ (refusal (now (image .entry)) ≡ 0 → LivenessRule (payload (now (image .entry)))) ⌝ }
-    ensures { λ r. ⌜ (refusal (now (image .entry)) ≡ 0 → MarkRule (payload (now (image .entry)))) ⌝ }
-    ensures { λ r. ⌜ (refusal (now (image .entry)) ≡ 0 → SourceRule (payload (now (image .entry)))) ⌝ }
-    ensures { λ r. ⌜ (refusal (now (image .entry)) ≡ 0 → Lifetimes (payload (now (image .entry)))) ⌝ }
+    ensures { λ r. ⌜ (refusal (now (image .entry)) ≡ 0 → Promise (payload (now (image .entry)))) ⌝ }
 {
     let mut words = [0u32; 14742];
     let mut seen = [0u64; 16];

@@ -3,8 +3,8 @@
 // Each function takes an image and a result slice, and gives a number and the answer's length in bytes. Its first promise is
 // always the same, `asked`: of the rules of the image and then those of the question the first that applies is the number, with
 // length 0 and every byte of the slice as it was; where none applies the number is 0 and the answer's bytes stand at the front of
-// the slice, whose other bytes are as they were; and where the slice is shorter than the answer, the number is 14. The other
-// promises tell what holds of the answers about an image that is not refused.
+// the slice, whose other bytes are as they were; and where the slice is shorter than the answer, the number is 14. The second,
+// `Promise`, tells what holds of all answers about an image that is not refused.
 use plank_core::index::AllocId;
 use plank_core::index::BlockId;
 use plank_core::index::LocalId;
@@ -21,14 +21,13 @@ ghost use Rattle.sir_data.specs.Records.{blocks, locals};
 ghost use Rattle.sir_analyses.specs.Allocation.{allocs};
 ghost use Rattle.sir_analyses.specs.Answers.{orderAnswer, predecessorsAnswer, usesAnswer, entryAnswer, exitAnswer, roundsAnswer, intervalsAnswer, allocationAnswer, ownerAnswer};
 ghost use Rattle.sir_analyses.specs.Calls.{made, refusal, asked, noRules, known, inWords};
-ghost use Rattle.sir_analyses.specs.Claims.{OrderRule, LivenessRule, MarkRule, SourceRule};
-ghost use Rattle.sir_analyses.specs.Walk.{Lifetimes};
+ghost use Rattle.sir_analyses.specs.Promise.{Promise};
 
 // For each function of `functions_rpo`: its id, its block count, its block ids.
 #[no_mangle]
 pub extern "C" fn sir_order(image: &[u8], out: &mut [u8]) -> Answer
     ensures { λ r. ⌜ made (r .number) (r .length) (now (out .exit)) ≡ asked noRules (inWords orderAnswer) (now (image .entry)) (now (out .entry)) ⌝ }
-    ensures { λ r. ⌜ (refusal (now (image .entry)) ≡ 0 → OrderRule (payload (now (image .entry)))) ⌝ }
+    ensures { λ r. ⌜ (refusal (now (image .entry)) ≡ 0 → Promise (payload (now (image .entry)))) ⌝ }
 {
     ask(image, Question::OfOrder(OrderQuestion::Order), out)
 }
@@ -37,8 +36,7 @@ pub extern "C" fn sir_order(image: &[u8], out: &mut [u8]) -> Answer
 #[no_mangle]
 pub extern "C" fn sir_predecessors(image: &[u8], block: u32, out: &mut [u8]) -> Answer
     ensures { λ r. ⌜ made (r .number) (r .length) (now (out .exit)) ≡ asked (known blocks block) (inWords (λ w. predecessorsAnswer w block)) (now (image .entry)) (now (out .entry)) ⌝ }
-    ensures { λ r. ⌜ (refusal (now (image .entry)) ≡ 0 → OrderRule (payload (now (image .entry)))) ⌝ }
-    ensures { λ r. ⌜ (refusal (now (image .entry)) ≡ 0 → SourceRule (payload (now (image .entry)))) ⌝ }
+    ensures { λ r. ⌜ (refusal (now (image .entry)) ≡ 0 → Promise (payload (now (image .entry)))) ⌝ }
 {
     let b = BlockId(block);
     ask(image, Question::OfOrder(OrderQuestion::Predecessors(b)), out)
@@ -48,7 +46,7 @@ pub extern "C" fn sir_predecessors(image: &[u8], block: u32, out: &mut [u8]) -> 
 #[no_mangle]
 pub extern "C" fn sir_uses(image: &[u8], local: u32, out: &mut [u8]) -> Answer
     ensures { λ r. ⌜ made (r .number) (r .length) (now (out .exit)) ≡ asked (known locals local) (inWords (λ w. usesAnswer w local)) (now (image .entry)) (now (out .entry)) ⌝ }
-    ensures { λ r. ⌜ (refusal (now (image .entry)) ≡ 0 → SourceRule (payload (now (image .entry)))) ⌝ }
+    ensures { λ r. ⌜ (refusal (now (image .entry)) ≡ 0 → Promise (payload (now (image .entry)))) ⌝ }
 {
     let v = LocalId(local);
     ask(image, Question::OfOrder(OrderQuestion::Uses(v)), out)
@@ -58,8 +56,7 @@ pub extern "C" fn sir_uses(image: &[u8], local: u32, out: &mut [u8]) -> Answer
 #[no_mangle]
 pub extern "C" fn sir_entry_set(image: &[u8], block: u32, out: &mut [u8]) -> Answer
     ensures { λ r. ⌜ made (r .number) (r .length) (now (out .exit)) ≡ asked (known blocks block) (inWords (λ w. entryAnswer w block)) (now (image .entry)) (now (out .entry)) ⌝ }
-    ensures { λ r. ⌜ (refusal (now (image .entry)) ≡ 0 → LivenessRule (payload (now (image .entry)))) ⌝ }
-    ensures { λ r. ⌜ (refusal (now (image .entry)) ≡ 0 → SourceRule (payload (now (image .entry)))) ⌝ }
+    ensures { λ r. ⌜ (refusal (now (image .entry)) ≡ 0 → Promise (payload (now (image .entry)))) ⌝ }
 {
     let b = BlockId(block);
     ask(image, Question::OfLiveness(LiveQuestion::EntrySet(b)), out)
@@ -69,8 +66,7 @@ pub extern "C" fn sir_entry_set(image: &[u8], block: u32, out: &mut [u8]) -> Ans
 #[no_mangle]
 pub extern "C" fn sir_exit_set(image: &[u8], block: u32, out: &mut [u8]) -> Answer
     ensures { λ r. ⌜ made (r .number) (r .length) (now (out .exit)) ≡ asked (known blocks block) (inWords (λ w. exitAnswer w block)) (now (image .entry)) (now (out .entry)) ⌝ }
-    ensures { λ r. ⌜ (refusal (now (image .entry)) ≡ 0 → LivenessRule (payload (now (image .entry)))) ⌝ }
-    ensures { λ r. ⌜ (refusal (now (image .entry)) ≡ 0 → SourceRule (payload (now (image .entry)))) ⌝ }
+    ensures { λ r. ⌜ (refusal (now (image .entry)) ≡ 0 → Promise (payload (now (image .entry)))) ⌝ }
 {
     let b = BlockId(block);
     ask(image, Question::OfLiveness(LiveQuestion::ExitSet(b)), out)
@@ -80,7 +76,7 @@ pub extern "C" fn sir_exit_set(image: &[u8], block: u32, out: &mut [u8]) -> Answ
 #[no_mangle]
 pub extern "C" fn sir_rounds(image: &[u8], out: &mut [u8]) -> Answer
     ensures { λ r. ⌜ made (r .number) (r .length) (now (out .exit)) ≡ asked noRules (inWords roundsAnswer) (now (image .entry)) (now (out .entry)) ⌝ }
-    ensures { λ r. ⌜ (refusal (now (image .entry)) ≡ 0 → LivenessRule (payload (now (image .entry)))) ⌝ }
+    ensures { λ r. ⌜ (refusal (now (image .entry)) ≡ 0 → Promise (payload (now (image .entry)))) ⌝ }
 {
     ask(image, Question::OfLiveness(LiveQuestion::Rounds), out)
 }
@@ -89,8 +85,7 @@ pub extern "C" fn sir_rounds(image: &[u8], out: &mut [u8]) -> Answer
 #[no_mangle]
 pub extern "C" fn sir_intervals(image: &[u8], local: u32, out: &mut [u8]) -> Answer
     ensures { λ r. ⌜ made (r .number) (r .length) (now (out .exit)) ≡ asked (known locals local) (inWords (λ w. intervalsAnswer w local)) (now (image .entry)) (now (out .entry)) ⌝ }
-    ensures { λ r. ⌜ (refusal (now (image .entry)) ≡ 0 → LivenessRule (payload (now (image .entry)))) ⌝ }
-    ensures { λ r. ⌜ (refusal (now (image .entry)) ≡ 0 → SourceRule (payload (now (image .entry)))) ⌝ }
+    ensures { λ r. ⌜ (refusal (now (image .entry)) ≡ 0 → Promise (payload (now (image .entry)))) ⌝ }
 {
     let v = LocalId(local);
     ask(image, Question::OfLiveness(LiveQuestion::Intervals(v)), out)
@@ -100,9 +95,7 @@ pub extern "C" fn sir_intervals(image: &[u8], local: u32, out: &mut [u8]) -> Ans
 #[no_mangle]
 pub extern "C" fn sir_allocation(image: &[u8], allocation: u32, out: &mut [u8]) -> Answer
     ensures { λ r. ⌜ made (r .number) (r .length) (now (out .exit)) ≡ asked (known (λ w. length (allocs w)) allocation) (inWords (λ w. allocationAnswer w allocation)) (now (image .entry)) (now (out .entry)) ⌝ }
-    ensures { λ r. ⌜ (refusal (now (image .entry)) ≡ 0 → MarkRule (payload (now (image .entry)))) ⌝ }
-    ensures { λ r. ⌜ (refusal (now (image .entry)) ≡ 0 → Lifetimes (payload (now (image .entry)))) ⌝ }
-    ensures { λ r. ⌜ (refusal (now (image .entry)) ≡ 0 → SourceRule (payload (now (image .entry)))) ⌝ }
+    ensures { λ r. ⌜ (refusal (now (image .entry)) ≡ 0 → Promise (payload (now (image .entry)))) ⌝ }
 {
     let a = AllocId(allocation);
     ask(image, Question::OfPointers(PointerQuestion::Allocation(a)), out)
@@ -112,7 +105,7 @@ pub extern "C" fn sir_allocation(image: &[u8], allocation: u32, out: &mut [u8]) 
 #[no_mangle]
 pub extern "C" fn sir_owner(image: &[u8], local: u32, out: &mut [u8]) -> Answer
     ensures { λ r. ⌜ made (r .number) (r .length) (now (out .exit)) ≡ asked (known locals local) (inWords (λ w. ownerAnswer w local)) (now (image .entry)) (now (out .entry)) ⌝ }
-    ensures { λ r. ⌜ (refusal (now (image .entry)) ≡ 0 → SourceRule (payload (now (image .entry)))) ⌝ }
+    ensures { λ r. ⌜ (refusal (now (image .entry)) ≡ 0 → Promise (payload (now (image .entry)))) ⌝ }
 {
     let v = LocalId(local);
     ask(image, Question::OfPointers(PointerQuestion::Owner(v)), out)

@@ -5,7 +5,7 @@ use Rattle.sir_analyses.specs.Calls.{call, refusal, inWords}
 use Rattle.sir_analyses.specs.Questions.{ownRules, answerWords}
 use Rattle.sir_analyses.proofs.Calls.{image-refused, image-accepted}
 use Rattle.sir_analyses.proofs.Loads.{front-length}
-use Rattle.sir_analyses.proofs.Proved.{order, liveness, marks, walks, source}
+use Rattle.sir_analyses.proofs.Proved.{promise}
 use borrow.Author.Needs.{needs}
 use Rattle.sir_analyses.proofs.ask.ask.Statement.{statement}
 use Rattle.sir_analyses.proofs.ask.ask.Tie as tie
@@ -43,7 +43,7 @@ refuse-requires c κs = search needs
 returns : tie.Need-returns
 returns c = let a = c .before .before .before .before .before .before .before .before .before .before .before .before .before .args in
     let image = a .image .now in
-    (image-refused (ownRules (a .question)) (inWords (answerWords (a .question))) image (a .out .now) (λ z. c .before .if1 .taken (c .before .before .before .before .before .before .load .ensures .number-is ∙ z)) (c .refuse .ensures .0 ∙ c .before .before .before .before .before .before .load .ensures .number-is) (c .refuse .ensures .1), (order image, (liveness image, (marks image, (source image, walks image)))))
+    (image-refused (ownRules (a .question)) (inWords (answerWords (a .question))) image (a .out .now) (λ z. c .before .if1 .taken (c .before .before .before .before .before .before .load .ensures .number-is ∙ z)) (c .refuse .ensures .0 ∙ c .before .before .before .before .before .before .load .ensures .number-is) (c .refuse .ensures .1), promise image)
 
 -- src/ask.rt:69:9
 array-share-prefix-words : tie.Need-array-share-prefix-words
@@ -102,7 +102,7 @@ returns-2 c = let a = c .before .before .before .before .before .before .before 
     let z : refusal image ≡ 0 = sym (c .before .before .before .before .before .before .before .before .before .before .before .before .before .load .ensures .number-is) ∙ c .before .before .before .before .before .before .before .before .if1 .left in
     let own = ownRules (a .question) in
     let bytes = inWords (answerWords (a .question)) in
-    (c .before .before .answer .ensures ∙ ap (λ (w : List ℕ). call (own w) (bytes w) (a .out .now)) (c .before .before .before .before .before .before .before .before .before .before .before .before .before .load .ensures .accepted z .words-are) ∙ image-accepted own bytes image (a .out .now) z, (order image, (liveness image, (marks image, (source image, walks image)))))
+    (c .before .before .answer .ensures ∙ ap (λ (w : List ℕ). call (own w) (bytes w) (a .out .now)) (c .before .before .before .before .before .before .before .before .before .before .before .before .before .load .ensures .accepted z .words-are) ∙ image-accepted own bytes image (a .out .now) z, promise image)
 
 pub ask-spec : {M : Type 1} → statement M
 ask-spec =
