@@ -84,7 +84,7 @@ impl<'a> BlockView<'a> {
     }
 }
 
-// The same of block b of some words: each reads through the view of that block.
+// The inputs of a block, read through its view; the functions below read a block in the same way.
 pub fn inputs(words: &[u32], b: BlockId) -> &[u32]
     requires { ⌜ Sized (now words) ⌝ }
     requires { ⌜ InRange (now words) ⌝ }
@@ -94,6 +94,7 @@ pub fn inputs(words: &[u32], b: BlockId) -> &[u32]
     block(words, b).inputs()
 }
 
+// Its outputs.
 pub fn outputs(words: &[u32], b: BlockId) -> &[u32]
     requires { ⌜ Sized (now words) ⌝ }
     requires { ⌜ InRange (now words) ⌝ }
@@ -103,6 +104,7 @@ pub fn outputs(words: &[u32], b: BlockId) -> &[u32]
     block(words, b).outputs()
 }
 
+// Its operations, by index.
 pub fn operations(words: &[u32], b: BlockId) -> Span
     requires { ⌜ Sized (now words) ⌝ }
     requires { ⌜ b .0 < blocks (now words) ⌝ }
@@ -111,6 +113,7 @@ pub fn operations(words: &[u32], b: BlockId) -> Span
     block(words, b).operations()
 }
 
+// The local that its control tests.
 pub fn condition(words: &[u32], b: BlockId) -> Tested
     requires { ⌜ Sized (now words) ⌝ }
     requires { ⌜ b .0 < blocks (now words) ⌝ }
@@ -119,6 +122,7 @@ pub fn condition(words: &[u32], b: BlockId) -> Tested
     block(words, b).condition()
 }
 
+// How many successors it has.
 pub fn successor_count(words: &[u32], b: BlockId) -> usize
     requires { ⌜ Sized (now words) ⌝ }
     requires { ⌜ b .0 < blocks (now words) ⌝ }
@@ -127,6 +131,7 @@ pub fn successor_count(words: &[u32], b: BlockId) -> usize
     block(words, b).successor_count()
 }
 
+// Its successor i: the zero target before the non-zero one; switch targets in turn, then the fallback.
 pub fn successor(words: &[u32], b: BlockId, i: usize) -> BlockId
     requires { ⌜ Sized (now words) ⌝ }
     requires { ⌜ InRange (now words) ⌝ }
