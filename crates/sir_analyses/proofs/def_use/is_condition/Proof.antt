@@ -20,15 +20,16 @@ enum-told c = search needs
 
 returns : tie.Need-returns
 returns c =
-    let a = c .before .before .before .before .before .args in
+    let a = c .before .before .before .before .args in
     let none : condition (a .words .now) (a .b .0) ≡ [] = sym (c .before .before .condition .ensures) ∙ ap testedLocals (c .enum-told .given .1) in
     sym (ap (mem (a .local .0)) none)
 
 returns-2 : tie.Need-returns-2
 returns-2 c =
-    let a = c .before .before .before .before .before .args in
-    let v = c .v .given in
-    let one : condition (a .words .now) (a .b .0) ≡ v .0 .0 .0 ∷ [] = sym (c .before .before .condition .ensures) ∙ ap testedLocals (v .1) in
+    let v = c .before .before .before .v .given in
+    let past = c .before .before .before .before .before in
+    let a = past .before .before .args in
+    let one : condition (a .words .now) (a .b .0) ≡ v .0 .0 .0 ∷ [] = sym (past .condition .ensures) ∙ ap testedLocals (v .1) in
     sym (ap (mem (a .local .0)) one ∙ or-false _)
 
 pub is-condition-spec : {M : Type 1} → statement M
