@@ -69,10 +69,6 @@ meets s t = any (λ n. contains s n && contains t n) (upto 512)
 unfoldable pub members : List ℕ → List ℕ
 members s = keep (contains s) (upto 512)
 
--- the lowest member, 512 where there is none
-unfoldable pub lowest : List ℕ → ℕ
-lowest s = getD (members s) 0 512
-
 -- is none of these numbers in the set s?
 abbrev pub outside : List ℕ → List ℕ → Bool
 outside s xs = all (λ x. not (contains s x)) xs

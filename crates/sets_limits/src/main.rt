@@ -1,11 +1,11 @@
 // Sets and rows of sets at their limits; what is printed is held to the file stdout.
 use libc::STDOUT_FILENO;
 use plank_core::dense_index_set::DenseIndexSet;
-use plank_core::dense_index_set::first;
 use plank_core::dense_index_set::intersects;
 use plank_core::dense_index_set::is_empty;
 use plank_core::dense_index_set::list;
 use plank_core::rows::row_add;
+use plank_core::rows::row_contains;
 use plank_core::rows::row_difference_with;
 use plank_core::rows::row_of;
 use plank_core::rows::row_remove;
@@ -49,26 +49,24 @@ fn show(name: &[u8], set: &[u64])
     say_ids(&ids, n);
 }
 
-// The set with one more member.
+fn empty() -> DenseIndexSet {
+    DenseIndexSet { words: [0u64; 8] }
+}
+
+// The set with one more member. A set is a table of one row.
 fn with(set: DenseIndexSet, i: u32) -> DenseIndexSet
     requires { ⌜ i < 512 ⌝ }
 {
-    let c = set.add(i);
-    c.set
-}
-
-fn without(set: DenseIndexSet, i: u32) -> DenseIndexSet
-    requires { ⌜ i < 512 ⌝ }
-{
-    let c = set.remove(i);
-    c.set
+    let mut words = set.words;
+    row_add(&mut words, 0, i);
+    DenseIndexSet { words }
 }
 
 // All numbers below n.
 fn below(n: u32) -> DenseIndexSet
     requires { ⌜ n ≤ 512 ⌝ }
 {
-    let mut set = DenseIndexSet::new();
+    let mut set = empty();
     let mut i: u32 = 0;
     while i < n {
         set = with(set, i);
@@ -78,73 +76,58 @@ fn below(n: u32) -> DenseIndexSet
 }
 
 fn limits() -> DenseIndexSet {
-    with(with(with(with(DenseIndexSet::new(), 511), 64), 0), 63)
+    with(with(with(with(empty(), 511), 64), 0), 63)
 }
 
 fn show_sets() {
-    let empty = DenseIndexSet::new();
-    show(b"empty", &empty.words);
+    let mut set = [0u64; 8];
+    show(b"empty", &set);
     let ends = limits();
     show(b"limits", &ends.words);
-    let left = without(ends, 63);
-    show(b"limits without 63", &left.words);
     let full = below(512);
-    let few = full.difference(below(508));
-    show(b"full without those below 508", &few.words);
-    let both = few.union_with(ends);
-    let union = both.set;
-    show(b"with the limits", &union.words);
-    say_if(b"grew", both.changed);
-    let again = union.union_with(ends);
-    say_if(b"grew again", again.changed);
+    row_union_with(&mut set, 0, &full.words);
+    let low = below(508);
+    row_difference_with(&mut set, 0, &low.words);
+    show(b"full without those below 508", &set);
+    let grew = row_union_with(&mut set, 0, &ends.words);
+    show(b"with the limits", &set);
+    say_if(b"grew", grew);
+    let again = row_union_with(&mut set, 0, &ends.words);
+    say_if(b"grew again", again);
+    row_remove(&mut set, 0, 63);
+    show(b"without 63", &set);
 }
 
 fn ask_sets() {
-    let empty = DenseIndexSet::new();
+    let none = empty();
     let ends = limits();
-    let full = below(512);
-    let gone = full.difference(full);
-    say_if(b"empty is empty", is_empty(&empty.words));
+    say_if(b"empty is empty", is_empty(&none.words));
     say_if(b"limits is empty", is_empty(&ends.words));
-    say_if(b"full without full is empty", is_empty(&gone.words));
-    let last = with(empty, 511);
+    let last = with(none, 511);
     say_if(
         b"511 alone meets limits",
         intersects(&last.words, &ends.words),
     );
-    let near = with(with(with(empty, 1), 62), 510);
+    let near = with(with(with(none, 1), 62), 510);
     say_if(
         b"1 62 510 meets limits",
         intersects(&near.words, &ends.words),
     );
-    let c = ends.add(511);
-    say_if(b"511 is new in limits", c.changed);
-    let d = ends.add(1);
-    say_if(b"1 is new in limits", d.changed);
-    let e = ends.remove(0);
-    say_if(b"0 was in limits", e.changed);
-    let f = empty.remove(511);
-    say_if(b"511 was in empty", f.changed);
+    say_if(b"511 is in limits", row_contains(&ends.words, 0, 511));
+    say_if(b"1 is in limits", row_contains(&ends.words, 0, 1));
 }
 
-fn show_first(name: &[u8], set: &[u64])
-    requires { ⌜ length (now set) ≡ 8 ⌝ }
-{
-    say(name);
-    say(b" ");
-    io::print_decimal(STDOUT_FILENO, first(set) as u64);
-    say(b"\n");
-}
-
-fn show_firsts() {
-    let empty = DenseIndexSet::new();
-    show_first(b"first of empty", &empty.words);
-    let ends = limits();
-    show_first(b"first of limits", &ends.words);
-    let later = without(without(ends, 0), 63);
-    show_first(b"first without 0 and 63", &later.words);
-    let last = with(empty, 511);
-    show_first(b"first of 511", &last.words);
+// A set that is filled and emptied again.
+fn change_set() {
+    let mut set = [0u64; 8];
+    let full = below(512);
+    row_union_with(&mut set, 0, &full.words);
+    say_if(b"511 is new in full", row_add(&mut set, 0, 511));
+    row_difference_with(&mut set, 0, &full.words);
+    say_if(b"full without full is empty", is_empty(&set));
+    say_if(b"511 is new in empty", row_add(&mut set, 0, 511));
+    say_if(b"511 was there", row_remove(&mut set, 0, 511));
+    say_if(b"511 was there again", row_remove(&mut set, 0, 511));
 }
 
 fn show_row(name: &[u8], table: &[u64], row: usize)
@@ -181,6 +164,6 @@ fn show_rows() {
 fn main() {
     show_sets();
     ask_sets();
-    show_firsts();
+    change_set();
     show_rows();
 }

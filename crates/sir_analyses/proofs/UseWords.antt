@@ -109,17 +109,6 @@ inputs-most w good o l = let r = good .in-range .ins-range o l in omega (arith, 
 
 -- ---- the condition
 
--- kinds 0 to 2 test nothing, 3 and 4 test field 0
-pub tests-nothing : (w : List ℕ) (b : ℕ) → control w b < 3 → condition w b ≡ []
-tests-nothing w b h = rw (ne-eqb (control w b) 3 (omega arith), ne-eqb (control w b) 4 (omega arith))
-
-pub tests-first : (w : List ℕ) (b : ℕ) → 3 ≤ control w b → control w b ≤ 4 → condition w b ≡ field w b 0 ∷ []
-tests-first w b l h = go (eqb (control w b) 3) refl
-  where
-    go : (t : Bool) → eqb (control w b) 3 ≡ t → condition w b ≡ field w b 0 ∷ []
-    go true e = rw e
-    go false e = let n : control w b ≡ 3 → ⊥ = eqb-false (control w b) 3 e in rw (e, eq-eqb (control w b) 4 (omega arith))
-
 -- a list of at most one
 single : (v : ℕ) (xs : List ℕ) (g : ℕ → List ℕ) → length xs ≤ 1 → (t : Bool) → mem v xs ≡ t → bind (positions v xs 0) g ≡ cond t (g 0) []
 single v [] g l true e = none false e refl

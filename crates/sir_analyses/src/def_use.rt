@@ -4,11 +4,12 @@ use crate::answers::put_triple;
 use plank_core::index::BlockId;
 use plank_core::index::LocalId;
 use plank_core::index::OpIdx;
-use sir_data::records::block_operations;
-use sir_data::records::block_outputs;
-use sir_data::records::block_word;
+use sir_data::records::Tested;
 use sir_data::records::op_inputs;
 use sir_data::records::operation_count;
+use sir_data::view::condition;
+use sir_data::view::operations;
+use sir_data::view::outputs;
 ghost use mathlib.Core.Path.{_≡_};
 ghost use Prim.Native.Nat.{_+_, _*_, _<_, _≤_, _^_};
 ghost use lib.ListN.{length};
@@ -82,7 +83,7 @@ fn put_operation_uses(
     requires { ⌜ (limit ≤ length (now out)) × (n + length (operationUses (now words) (now counts) (b .0)) < 2 ^ 59) ⌝ }
     ensures { λ r. ⌜ Puts limit n (operationUses (now (words .entry)) (now (counts .entry)) (b .0)) (now (out .entry)) (now (out .exit)) r ⌝ }
 {
-    let span = block_operations(words, b);
+    let span = operations(words, b);
     let last = span.end;
     let mut m = n;
     let mut o = span.start;
@@ -99,10 +100,10 @@ fn is_condition(words: &[u32], b: BlockId, local: LocalId) -> bool
     requires { ⌜ b .0 < blocks (now words) ⌝ }
     ensures { λ r. ⌜ r ≡ mem (local .0) (condition (now (words .entry)) (b .0)) ⌝ }
 {
-    if block_word(words, b, 6) < 3 {
+    let Tested::Local(v) = condition(words, b) else {
         return false;
-    }
-    local.0 == block_word(words, b, 7)
+    };
+    local.0 == v.0
 }
 
 // The use as a block's condition.
@@ -139,11 +140,11 @@ fn put_output_uses(
     requires { ⌜ (limit ≤ length (now out)) × (n + length (outputUses (now words) (local .0) (b .0)) < 2 ^ 59) ⌝ }
     ensures { λ r. ⌜ Puts limit n (outputUses (now (words .entry)) (local .0) (b .0)) (now (out .entry)) (now (out .exit)) r ⌝ }
 {
-    let outputs = block_outputs(words, b);
+    let run = outputs(words, b);
     let mut m = n;
     let mut k: u32 = 0;
-    while (k as usize) < outputs.len() {
-        let v = outputs[k as usize];
+    while (k as usize) < run.len() {
+        let v = run[k as usize];
         let place = k;
         k += 1;
         if v == local.0 {

@@ -7,16 +7,16 @@ use plank_core::rows::row_add;
 use plank_core::rows::row_contains;
 use sir_data::codes::can_derive_pointer;
 use sir_data::codes::operation_causes_ptr_escape;
-use sir_data::records::block_inputs;
-use sir_data::records::block_operations;
-use sir_data::records::block_outputs;
 use sir_data::records::op_inputs;
 use sir_data::records::op_outputs;
 use sir_data::records::op_word;
 use sir_data::records::operation_count;
 use sir_data::records::returned_outputs;
-use sir_data::records::successor;
-use sir_data::records::successor_count;
+use sir_data::view::inputs;
+use sir_data::view::operations;
+use sir_data::view::outputs;
+use sir_data::view::successor;
+use sir_data::view::successor_count;
 ghost use mathlib.Core.Path.{_≡_};
 ghost use mathlib.Core.Bool.{_&&_};
 ghost use Prim.Native.Nat.{ℕ, _+_, _*_, _<_};
@@ -37,7 +37,7 @@ fn add_operations(words: &[u32], b: BlockId, met: &mut [u64])
     requires { ⌜ (b .0 < blocks (now words)) × (length (now met) ≡ 16) ⌝ }
     ensures { λ _. ⌜ Adds (now (met .entry)) (λ r i. mem (512 * r + i) (ops (now (words .entry)) (b .0))) (now (met .exit)) ⌝ }
 {
-    let span = block_operations(words, b);
+    let span = operations(words, b);
     let end = span.end;
     let mut o = span.start;
     while o < end {
@@ -120,11 +120,11 @@ fn link_edge(words: &[u32], b: BlockId, s: BlockId, links: &mut [u64])
     requires { ⌜ (b .0 < blocks (now words)) × (s .0 ∈ successors (now words) (b .0)) × (length (now links) ≡ 4096) ⌝ }
     ensures { λ _. ⌜ Adds (now (links .entry)) (passesBy (now (words .entry)) (b .0) (s .0)) (now (links .exit)) ⌝ }
 {
-    let outputs = block_outputs(words, b);
-    let inputs = block_inputs(words, s);
+    let given = outputs(words, b);
+    let taken = inputs(words, s);
     let mut k: usize = 0;
-    while k < outputs.len() {
-        row_add(links, outputs[k] as usize, inputs[k]);
+    while k < given.len() {
+        row_add(links, given[k] as usize, taken[k]);
         k += 1;
     }
 }

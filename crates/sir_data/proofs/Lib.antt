@@ -1,3 +1,4 @@
 pub mod AfterCall
 pub mod Apart
 pub mod PageCheck
+pub mod Through

@@ -2,21 +2,22 @@
 use crate::bounds::optional_below;
 use crate::bounds::range_ok;
 use crate::records::block_count;
-use crate::records::block_inputs;
 use crate::records::block_word;
 use crate::records::local_count;
 use crate::records::operand_count;
 use crate::records::operation_count;
-use crate::records::successor_count;
 use crate::records::target_count;
-use crate::view::edge_ok;
+use crate::view::inputs;
+use crate::view::outputs;
+use crate::view::successor;
+use crate::view::successor_count;
 use plank_core::index::BlockId;
 use plank_core::rows::row_add;
 ghost use mathlib.Core.Path.{_≡_};
 ghost use mathlib.Core.Bool.{_&&_};
 ghost use Prim.Native.Nat.{ℕ, _+_, _≤_, _<_};
 ghost use lib.Dec.{eqb, leb, ltb};
-ghost use lib.ListN.{length};
+ghost use lib.ListN.{length, getD};
 ghost use Rattle.plank_core.specs.Lists.{all, upto, distinct, _∈_};
 ghost use Rattle.sir_data.specs.Records.{blocks, caseTargets, locals, blockWord, field, inputs, outputs, successors};
 ghost use Rattle.sir_data.specs.Rules.{zeroFrom, blockFieldsOk, rangeOk, optionalBelow, controlIdsOk, blockIdsOk, rule10, rule11};
@@ -171,6 +172,18 @@ pub fn each_block_ids_ok(words: &[u32]) -> bool
     true
 }
 
+// Does successor i of a block take as many inputs as the block has outputs?
+fn edge_ok(words: &[u32], b: BlockId, i: usize) -> bool
+    requires { ⌜ Sized (now words) ⌝ }
+    requires { ⌜ InRange (now words) ⌝ }
+    requires { ⌜ b .0 < blocks (now words) ⌝ }
+    requires { ⌜ i < length (successors (now words) (b .0)) ⌝ }
+    ensures { λ r. ⌜ r ≡ eqb (length (outputs (now (words .entry)) (b .0))) (length (inputs (now (words .entry)) (getD (successors (now (words .entry)) (b .0)) i 0))) ⌝ }
+{
+    let to = inputs(words, successor(words, b, i));
+    outputs(words, b).len() == to.len()
+}
+
 // Does each successor of the block take as many inputs as the block has outputs?
 fn edges_ok(words: &[u32], b: BlockId) -> bool
     requires { ⌜ Sized (now words) ⌝ }
@@ -231,7 +244,7 @@ pub fn rule_11(words: &[u32]) -> bool
     let n = block_count(words);
     let mut b: u32 = 0;
     while b < n {
-        if !all_distinct(block_inputs(words, BlockId(b))) {
+        if !all_distinct(inputs(words, BlockId(b))) {
             return true;
         }
         b += 1;

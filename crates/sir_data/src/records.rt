@@ -9,7 +9,7 @@ ghost use Prim.Native.Nat.{_<_, _≤_};
 ghost use mathlib.Core.Bool.{_||_};
 ghost use lib.Dec.{eqb};
 ghost use lib.ListN.{length, getD};
-ghost use Rattle.sir_data.specs.Records.{functions, blocks, operations, operandWords, caseTargets, locals, initFunction, mainPlusOne, blocksAt, operationsAt, operandsAt, targetsAt, entryBlock, blockWord, opWord, target, run, inputs, outputs, control, successors, condition, returned, ins, outs};
+ghost use Rattle.sir_data.specs.Records.{functions, blocks, operations, operandWords, caseTargets, locals, initFunction, mainPlusOne, blocksAt, operationsAt, operandsAt, targetsAt, entryBlock, blockWord, opWord, target, run, inputs, outputs, successors, condition, returned, ins, outs};
 ghost use Rattle.sir_data.specs.Cases.{testedLocals};
 ghost use Rattle.sir_data.specs.WellFormed.{Sized, InRange};
 
@@ -145,12 +145,12 @@ pub fn op_word(words: &[u32], o: OpIdx, k: usize) -> u32
 }
 
 // Case target i.
-pub fn target(words: &[u32], i: usize) -> u32
+pub fn target(words: &[u32], i: usize) -> BlockId
     requires { ⌜ Sized (now words) ⌝ }
     requires { ⌜ i < caseTargets (now words) ⌝ }
-    ensures { λ r. ⌜ r ≡ target (now (words .entry)) i ⌝ }
+    ensures { λ r. ⌜ r .0 ≡ target (now (words .entry)) i ⌝ }
 {
-    words[targets_at(words) + i]
+    BlockId(words[targets_at(words) + i])
 }
 
 // The operands from start up to end, as that part of the words.
@@ -215,15 +215,6 @@ pub fn block_operations(words: &[u32], b: BlockId) -> Span
     Span::new(block_word(words, b, 4), block_word(words, b, 5))
 }
 
-// The kind of a block's control.
-pub fn block_control(words: &[u32], b: BlockId) -> u32
-    requires { ⌜ Sized (now words) ⌝ }
-    requires { ⌜ b .0 < blocks (now words) ⌝ }
-    ensures { λ r. ⌜ r ≡ control (now (words .entry)) (b .0) ⌝ }
-{
-    block_word(words, b, 6)
-}
-
 // How many successors a block has, a target named twice counted twice.
 pub fn successor_count(words: &[u32], b: BlockId) -> usize
     requires { ⌜ Sized (now words) ⌝ }
@@ -267,7 +258,7 @@ pub fn successor(words: &[u32], b: BlockId, i: usize) -> BlockId
         return BlockId(block_word(words, b, 8));
     }
     if i < (block_word(words, b, 9) as usize) {
-        return BlockId(target(words, (block_word(words, b, 8) as usize) + i));
+        return target(words, (block_word(words, b, 8) as usize) + i);
     }
     BlockId(block_word(words, b, 10) - 1)
 }

@@ -1,18 +1,15 @@
 // A block read through a view, which keeps the image's words and the block's number. The borrow checker covers no function
-// over a struct that holds a reference, so each is proved by hand: it takes the view apart and calls a function of `records`.
-use crate::records::block_control;
-use crate::records::block_inputs;
-use crate::records::block_operations;
-use crate::records::block_outputs;
-use crate::records::successor;
-use crate::records::successor_count;
+// over a struct that holds a reference, so each is proved by hand: a method takes the view apart and calls a function of
+// `records`, and each function behind the methods makes a view and calls one of them. Callers use these, on plain words.
+use crate::records;
+use crate::records::Tested;
 use plank_core::index::BlockId;
 use plank_core::span::Span;
 ghost use mathlib.Core.Path.{_≡_};
 ghost use Prim.Native.Nat.{_<_};
-ghost use lib.Dec.{eqb};
 ghost use lib.ListN.{length, getD};
-ghost use Rattle.sir_data.specs.Records.{blocks, blockWord, inputs, outputs, control, successors};
+ghost use Rattle.sir_data.specs.Records.{blocks, blockWord, inputs, outputs, successors, condition};
+ghost use Rattle.sir_data.specs.Cases.{testedLocals};
 ghost use Rattle.sir_data.specs.WellFormed.{Sized, InRange};
 
 pub struct BlockView<'a> {
@@ -35,7 +32,7 @@ impl<'a> BlockView<'a> {
         requires { ⌜ self .block .0 < blocks (now (self .words)) ⌝ }
         ensures { λ r. ⌜ now r ≡ inputs (now (self .entry .words)) (self .entry .block .0) ⌝ }
     {
-        block_inputs(self.words, self.block)
+        records::block_inputs(self.words, self.block)
     }
 
     // The locals that the block passes over each edge out of it, or returns.
@@ -45,7 +42,7 @@ impl<'a> BlockView<'a> {
         requires { ⌜ self .block .0 < blocks (now (self .words)) ⌝ }
         ensures { λ r. ⌜ now r ≡ outputs (now (self .entry .words)) (self .entry .block .0) ⌝ }
     {
-        block_outputs(self.words, self.block)
+        records::block_outputs(self.words, self.block)
     }
 
     // The operations of the block, by index.
@@ -54,16 +51,16 @@ impl<'a> BlockView<'a> {
         requires { ⌜ self .block .0 < blocks (now (self .words)) ⌝ }
         ensures { λ r. ⌜ (r .start ≡ blockWord (now (self .entry .words)) (self .entry .block .0) 4) × (r .end ≡ blockWord (now (self .entry .words)) (self .entry .block .0) 5) ⌝ }
     {
-        block_operations(self.words, self.block)
+        records::block_operations(self.words, self.block)
     }
 
-    // The kind of the block's control.
-    pub fn control(self) -> u32
+    // The local that the block's control tests.
+    pub fn condition(self) -> Tested
         requires { ⌜ Sized (now (self .words)) ⌝ }
         requires { ⌜ self .block .0 < blocks (now (self .words)) ⌝ }
-        ensures { λ r. ⌜ r ≡ control (now (self .entry .words)) (self .entry .block .0) ⌝ }
+        ensures { λ r. ⌜ testedLocals r ≡ condition (now (self .entry .words)) (self .entry .block .0) ⌝ }
     {
-        block_control(self.words, self.block)
+        records::tested_local(self.words, self.block)
     }
 
     // How many successors the block has, a target named twice counted twice.
@@ -72,7 +69,7 @@ impl<'a> BlockView<'a> {
         requires { ⌜ self .block .0 < blocks (now (self .words)) ⌝ }
         ensures { λ r. ⌜ r ≡ length (successors (now (self .entry .words)) (self .entry .block .0)) ⌝ }
     {
-        successor_count(self.words, self.block)
+        records::successor_count(self.words, self.block)
     }
 
     // Successor i of the block.
@@ -83,19 +80,64 @@ impl<'a> BlockView<'a> {
         requires { ⌜ i < length (successors (now (self .words)) (self .block .0)) ⌝ }
         ensures { λ r. ⌜ r .0 ≡ getD (successors (now (self .entry .words)) (self .entry .block .0)) i 0 ⌝ }
     {
-        successor(self.words, self.block, i)
+        records::successor(self.words, self.block, i)
     }
 }
 
-// Does successor i of a block take as many inputs as the block has outputs?
-pub fn edge_ok(words: &[u32], b: BlockId, i: usize) -> bool
+// The inputs of a block, read through its view; the functions below read a block in the same way.
+pub fn inputs(words: &[u32], b: BlockId) -> &[u32]
+    requires { ⌜ Sized (now words) ⌝ }
+    requires { ⌜ InRange (now words) ⌝ }
+    requires { ⌜ b .0 < blocks (now words) ⌝ }
+    ensures { λ r. ⌜ now r ≡ inputs (now (words .entry)) (b .0) ⌝ }
+{
+    block(words, b).inputs()
+}
+
+// Its outputs.
+pub fn outputs(words: &[u32], b: BlockId) -> &[u32]
+    requires { ⌜ Sized (now words) ⌝ }
+    requires { ⌜ InRange (now words) ⌝ }
+    requires { ⌜ b .0 < blocks (now words) ⌝ }
+    ensures { λ r. ⌜ now r ≡ outputs (now (words .entry)) (b .0) ⌝ }
+{
+    block(words, b).outputs()
+}
+
+// Its operations, by index.
+pub fn operations(words: &[u32], b: BlockId) -> Span
+    requires { ⌜ Sized (now words) ⌝ }
+    requires { ⌜ b .0 < blocks (now words) ⌝ }
+    ensures { λ r. ⌜ (r .start ≡ blockWord (now (words .entry)) (b .0) 4) × (r .end ≡ blockWord (now (words .entry)) (b .0) 5) ⌝ }
+{
+    block(words, b).operations()
+}
+
+// The local that its control tests.
+pub fn condition(words: &[u32], b: BlockId) -> Tested
+    requires { ⌜ Sized (now words) ⌝ }
+    requires { ⌜ b .0 < blocks (now words) ⌝ }
+    ensures { λ r. ⌜ testedLocals r ≡ condition (now (words .entry)) (b .0) ⌝ }
+{
+    block(words, b).condition()
+}
+
+// How many successors it has.
+pub fn successor_count(words: &[u32], b: BlockId) -> usize
+    requires { ⌜ Sized (now words) ⌝ }
+    requires { ⌜ b .0 < blocks (now words) ⌝ }
+    ensures { λ r. ⌜ r ≡ length (successors (now (words .entry)) (b .0)) ⌝ }
+{
+    block(words, b).successor_count()
+}
+
+// Its successor i: the zero target before the non-zero one; switch targets in turn, then the fallback.
+pub fn successor(words: &[u32], b: BlockId, i: usize) -> BlockId
     requires { ⌜ Sized (now words) ⌝ }
     requires { ⌜ InRange (now words) ⌝ }
     requires { ⌜ b .0 < blocks (now words) ⌝ }
     requires { ⌜ i < length (successors (now words) (b .0)) ⌝ }
-    ensures { λ r. ⌜ r ≡ eqb (length (outputs (now (words .entry)) (b .0))) (length (inputs (now (words .entry)) (getD (successors (now (words .entry)) (b .0)) i 0))) ⌝ }
+    ensures { λ r. ⌜ r .0 ≡ getD (successors (now (words .entry)) (b .0)) i 0 ⌝ }
 {
-    let from = block(words, b);
-    let to = block(words, from.successor(i));
-    from.outputs().len() == to.inputs().len()
+    block(words, b).successor(i)
 }

@@ -13,7 +13,7 @@ use lib.Dec.{eqb}
 use lib.Bits.{bitAnd, and-self}
 use lib.Count.{trailingZeros}
 use Rattle.plank_core.specs.Lists.{count, upto, all, keep, _∈_}
-use Rattle.plank_core.specs.DenseIndexSet.{bit, contains, members, lowest}
+use Rattle.plank_core.specs.DenseIndexSet.{bit, contains, members}
 use Rattle.plank_core.specs.laws.Lists.{mem-count, count-mem, keep-most, keep-mem, keep-out}
 use Rattle.plank_core.specs.laws.Loops.{count-add, length-count, keep-append}
 use Rattle.plank_core.specs.laws.Bits.{two, and-half, and-odd, bit-zero, bit-suc}
@@ -96,24 +96,12 @@ from-word s k h =
     ∙ keep-next (contains s) (64 * k) 64 (512 - 64 * (k + 1)) (getD s k 0) (λ j l. shows-contains s k j l)
     ∙ ap (λ (n : ℕ). digitsFrom 64 (64 * k) (getD s k 0) ++ keep (contains s) (count n (512 - 64 * (k + 1)))) b
 
-pub from-zero : (s : List ℕ) (k : ℕ) → k < 8 → getD s k 0 ≡ 0 → from s k ≡ from s (k + 1)
-from-zero s k h e = from-word s k h ∙ rw (e, digits-none)
-
 pub left-none : (b w : ℕ) (rest : List ℕ) → w ≡ 0 → digitsFrom 64 b w ++ rest ≡ rest
 left-none b w rest e = rw (e, digits-none)
 
 pub left-lowest : (b w : ℕ) (rest : List ℕ) → (w ≡ 0 → ⊥) → w < 2 ^ 64
     → digitsFrom 64 b w ++ rest ≡ (b + trailingZeros 64 w) ∷ (digitsFrom 64 b (bitAnd w (w - 1)) ++ rest)
 left-lowest b w rest p l = rw (digits-lowest 64 b w (pos-of-ne-zero p) l)
-
-pub lowest-found : (s : List ℕ) (k : ℕ) → k < 8 → from s k ≡ members s → (getD s k 0 ≡ 0 → ⊥) → getD s k 0 < 2 ^ 64
-    → 64 * k + trailingZeros 64 (getD s k 0) ≡ lowest s
-unfolding lowest
-lowest-found s k h e z l = rw (← e, from-word s k h, left-lowest (64 * k) (getD s k 0) (from s (k + 1)) z l)
-
-pub lowest-none : (s : List ℕ) → from s 8 ≡ members s → 512 ≡ lowest s
-unfolding lowest
-lowest-none s e = rw (← e, from-end s)
 
 -- ---- a walk under way
 

@@ -10,8 +10,8 @@ Inv-loop n set₀ i₀ set i = i ≤ n
 abbrev μ-loop : tie.MeasureT-loop
 μ-loop n set₀ i₀ set i = n - i
 
-new-requires : tie.Need-new-requires Inv-loop μ-loop
-new-requires c κs = search needs
+empty-requires : tie.Need-empty-requires Inv-loop μ-loop
+empty-requires c κs = search needs
 
 loop-holds : tie.Need-loop-holds Inv-loop μ-loop
 loop-holds c = search needs
@@ -37,7 +37,7 @@ below-spec =
     (tie.spec
     Inv-loop
     μ-loop
-    new-requires
+    empty-requires
     loop-holds
     with-requires
     add-i

@@ -1,28 +1,37 @@
 -- `is_condition` meets its contract.
-use mathlib.Core.Path.{sym, ap, _∙_}
-use native.Mathlib.Omega.{arith}
+use mathlib.Core.Path.{_≡_, sym, ap, _∙_}
 use mathlib.Core.Bool.{or-false}
-use lib.Dec.{eqb}
+use mathlib.Core.List.{[], _∷_}
 use Rattle.plank_core.specs.Lists.{mem}
-use Rattle.sir_analyses.proofs.UseWords.{tests-nothing, tests-first}
+use Rattle.sir_data.specs.Records.{condition}
+use Rattle.sir_data.specs.Cases.{testedLocals}
 use borrow.Author.Needs.{needs}
 use Rattle.sir_analyses.proofs.def_use.is_condition.Statement.{statement}
 use Rattle.sir_analyses.proofs.def_use.is_condition.Tie as tie
 
-block-word-requires : tie.Need-block-word-requires
-block-word-requires c κs = search needs
+condition-requires : tie.Need-condition-requires
+condition-requires c κs = search needs
+
+enum-known-v : tie.Need-enum-known-v
+enum-known-v c = search needs
+
+enum-told : tie.Need-enum-told
+enum-told c = search needs
 
 returns : tie.Need-returns
-returns c = let S = c .before .before .before in sym (ap (mem (S .args .local .0)) (tests-nothing (S .args .words .now) (S .args .b .0) (omega (arith, c .before .block-word .ensures, c .if1 .taken))))
-
-block-word-requires-2 : tie.Need-block-word-requires-2
-block-word-requires-2 c κs = search needs
+returns c =
+    let a = c .before .before .before .before .args in
+    let none : condition (a .words .now) (a .b .0) ≡ [] = sym (c .before .before .condition .ensures) ∙ ap testedLocals (c .enum-told .given .1) in
+    sym (ap (mem (a .local .0)) none)
 
 returns-2 : tie.Need-returns-2
-returns-2 c = let S = c .before .before .before .before .before in
-    let k = S .pre .0 .in-range .kind (S .args .b .0) (S .pre .1) in
-    ap (eqb (S .args .local .0)) (c .before .block-word2 .ensures) ∙ sym (ap (mem (S .args .local .0)) (tests-first (S .args .words .now) (S .args .b .0) (omega (arith, c .before .before .before .block-word .ensures, c .before .before .if1 .left)) k) ∙ or-false _)
+returns-2 c =
+    let v = c .before .before .before .v .given in
+    let past = c .before .before .before .before .before in
+    let a = past .before .before .args in
+    let one : condition (a .words .now) (a .b .0) ≡ v .0 .0 .0 ∷ [] = sym (past .condition .ensures) ∙ ap testedLocals (v .1) in
+    sym (ap (mem (a .local .0)) one ∙ or-false _)
 
 pub is-condition-spec : {M : Type 1} → statement M
 is-condition-spec =
-    tie.close (tie.spec block-word-requires returns block-word-requires-2 returns-2)
+    tie.close (tie.spec condition-requires enum-known-v enum-told returns returns-2)

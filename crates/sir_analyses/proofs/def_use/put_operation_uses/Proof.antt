@@ -17,8 +17,8 @@ Inv-loop words counts b out₀ limit n last m₀ o₀ out m o = Putting limit n 
 abbrev μ-loop : tie.MeasureT-loop
 μ-loop words counts b out₀ limit n last m₀ o₀ out m o = last - o
 
-block-operations-requires : tie.Need-block-operations-requires Inv-loop μ-loop
-block-operations-requires c κs = search needs
+operations-requires : tie.Need-operations-requires Inv-loop μ-loop
+operations-requires c κs = search needs
 
 loop-holds : tie.Need-loop-holds Inv-loop μ-loop
 loop-holds c = putting-none
@@ -27,7 +27,7 @@ cast-put-same : tie.Need-cast-put-same Inv-loop μ-loop
 cast-put-same c = let S = c .before .before .before .before .before .before .before in
     let L = c .before .before .loop in
     let r = S .pre .0 .in-range .ops-range (S .args .b .0) (S .pre .1 .0 .0) in
-    let h : L .o < operations (S .args .words .now) = omega (arith, r, c .before .before .before .block-operations .ensures, c .before .loop-test .taken) in
+    let h : L .o < operations (S .args .words .now) = omega (arith, r, c .before .before .before .operations .ensures, c .before .loop-test .taken) in
     let m = S .pre .0 .sized .operations-most in
     omega (arith, S .pre .1 .0 .1)
 
@@ -35,7 +35,7 @@ mul-put-same : tie.Need-mul-put-same Inv-loop μ-loop
 mul-put-same c = let S = c .before .before .before .before .before .before .before in
     let L = c .before .before .loop in
     let r = S .pre .0 .in-range .ops-range (S .args .b .0) (S .pre .1 .0 .0) in
-    let h : L .o < operations (S .args .words .now) = omega (arith, r, c .before .before .before .block-operations .ensures, c .before .loop-test .taken) in
+    let h : L .o < operations (S .args .words .now) = omega (arith, r, c .before .before .before .operations .ensures, c .before .loop-test .taken) in
     let m = S .pre .0 .sized .operations-most in
     omega (arith, S .pre .1 .0 .1)
 
@@ -43,22 +43,22 @@ shared-slice-read-put-same : tie.Need-shared-slice-read-put-same Inv-loop μ-loo
 shared-slice-read-put-same c = let S = c .before .before .before .before .before .before .before .before in
     let L = c .before .before .before .loop in
     let r = S .pre .0 .in-range .ops-range (S .args .b .0) (S .pre .1 .0 .0) in
-    let h : L .o < operations (S .args .words .now) = omega (arith, r, c .before .before .before .before .block-operations .ensures, c .before .before .loop-test .taken) in
+    let h : L .o < operations (S .args .words .now) = omega (arith, r, c .before .before .before .before .operations .ensures, c .before .before .loop-test .taken) in
     let m = S .pre .0 .sized .operations-most in
     omega (arith, S .pre .1 .0 .1)
 
 put-same-requires : tie.Need-put-same-requires Inv-loop μ-loop
 put-same-requires c κs = let S = c .before .before .before .before .before .before .before .before in
     let L = c .before .before .before .loop in
-    let e = operation-next (S .args .words .now) (S .args .counts .now) (S .args .b .0) (L .o) (c .before .before .before .before .block-operations .result .end) (c .before .before .loop-test .taken) in
-    let q = putting-count (sameUses (S .args .b .0) (L .o) (getD (S .args .counts .now) (L .o) 0)) (operationsLeft (S .args .words .now) (S .args .counts .now) (S .args .b .0) (L .o + 1) (c .before .before .before .before .block-operations .result .end)) {k = 2 ^ 59} (omega (arith, ap length (span-is (S .args .words .now) (S .args .counts .now) (S .args .b .0) _ _ (c .before .before .before .before .block-operations .ensures .0) (c .before .before .before .before .block-operations .ensures .1)), S .pre .1 .1 .1)) (putting-as e (L .inv)) in
+    let e = operation-next (S .args .words .now) (S .args .counts .now) (S .args .b .0) (L .o) (c .before .before .before .before .operations .result .end) (c .before .before .loop-test .taken) in
+    let q = putting-count (sameUses (S .args .b .0) (L .o) (getD (S .args .counts .now) (L .o) 0)) (operationsLeft (S .args .words .now) (S .args .counts .now) (S .args .b .0) (L .o + 1) (c .before .before .before .before .operations .result .end)) {k = 2 ^ 59} (omega (arith, ap length (span-is (S .args .words .now) (S .args .counts .now) (S .args .b .0) _ _ (c .before .before .before .before .operations .ensures .0) (c .before .before .before .before .operations .ensures .1)), S .pre .1 .1 .1)) (putting-as e (L .inv)) in
     (omega (arith, S .pre .1 .1 .0, L .inv .long), omega (arith, q, same-uses-length (S .args .b .0) (L .o) (getD (S .args .counts .now) (L .o) 0)))
 
 add-o : tie.Need-add-o Inv-loop μ-loop
 add-o c = let S = c .before .before .before .before .before .before .before .before .before .before .before in
     let L = c .before .before .before .before .before .before .loop in
     let r = S .pre .0 .in-range .ops-range (S .args .b .0) (S .pre .1 .0 .0) in
-    let h : L .o < operations (S .args .words .now) = omega (arith, r, c .before .before .before .before .before .before .before .block-operations .ensures, c .before .before .before .before .before .loop-test .taken) in
+    let h : L .o < operations (S .args .words .now) = omega (arith, r, c .before .before .before .before .before .before .before .operations .ensures, c .before .before .before .before .before .loop-test .taken) in
     let m = S .pre .0 .sized .operations-most in
     omega (arith, S .pre .1 .0 .1)
 
@@ -68,7 +68,7 @@ loop-less c = omega arith
 loop-again : tie.Need-loop-again Inv-loop μ-loop
 loop-again c = let S = c .before .before .before .before .before .before .before .before .before .before .before in
     let L = c .before .before .before .before .before .before .loop in
-    let e = operation-next (S .args .words .now) (S .args .counts .now) (S .args .b .0) (L .o) (c .before .before .before .before .before .before .before .block-operations .result .end) (c .before .before .before .before .before .loop-test .taken) in
+    let e = operation-next (S .args .words .now) (S .args .counts .now) (S .args .b .0) (L .o) (c .before .before .before .before .before .before .before .operations .result .end) (c .before .before .before .before .before .loop-test .taken) in
     putting-more (S .pre .1 .1 .0) (putting-as e (L .inv)) (c .before .before .put-same .ensures)
 
 same-length : tie.Need-same-length Inv-loop μ-loop
@@ -77,7 +77,7 @@ same-length c = c .before .loop .inv .long
 returns : tie.Need-returns Inv-loop μ-loop
 returns c = let S = c .before .before .before .before .before .before in
     let L = c .before .loop in
-    puts-as (span-is (S .args .words .now) (S .args .counts .now) (S .args .b .0) _ _ (c .before .before .block-operations .ensures .0) (c .before .before .block-operations .ensures .1)) (putting-all (operation-end (S .args .words .now) (S .args .counts .now) (S .args .b .0) (L .o) _ (c .loop-test .left)) (L .inv))
+    puts-as (span-is (S .args .words .now) (S .args .counts .now) (S .args .b .0) _ _ (c .before .before .operations .ensures .0) (c .before .before .operations .ensures .1)) (putting-all (operation-end (S .args .words .now) (S .args .counts .now) (S .args .b .0) (L .o) _ (c .loop-test .left)) (L .inv))
 
 pub put-operation-uses-spec : {M : Type 1} → statement M
 put-operation-uses-spec =
@@ -85,7 +85,7 @@ put-operation-uses-spec =
     (tie.spec
     Inv-loop
     μ-loop
-    block-operations-requires
+    operations-requires
     loop-holds
     cast-put-same
     mul-put-same

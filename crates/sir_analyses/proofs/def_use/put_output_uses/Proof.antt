@@ -18,8 +18,8 @@ Inv-loop words b local out₀ limit n outputs m₀ k₀ out m k = (k ≤ length 
 abbrev μ-loop : tie.MeasureT-loop
 μ-loop words b local out₀ limit n outputs m₀ k₀ out m k = length outputs - k
 
-block-outputs-requires : tie.Need-block-outputs-requires Inv-loop μ-loop
-block-outputs-requires c κs = search needs
+outputs-requires : tie.Need-outputs-requires Inv-loop μ-loop
+outputs-requires c κs = search needs
 
 loop-holds : tie.Need-loop-holds Inv-loop μ-loop
 loop-holds c = (omega arith, putting-none)
@@ -39,15 +39,15 @@ shared-slice-read-v c = omega arith
 add-k : tie.Need-add-k Inv-loop μ-loop
 add-k c = let S = c .before .before .before .before .before .before in
     let L = c .before .before .loop in
-    omega (arith, ap length (c .before .before .before .block-outputs .ensures), outputs-most (S .args .words .now) (S .args .local .0) (S .args .b .0) (L .k) (S .pre .0) (S .pre .1 .0), c .before .loop-test .taken)
+    omega (arith, ap length (c .before .before .before .outputs .ensures), outputs-most (S .args .words .now) (S .args .local .0) (S .args .b .0) (L .k) (S .pre .0) (S .pre .1 .0), c .before .loop-test .taken)
 
 put-triple-requires : tie.Need-put-triple-requires Inv-loop μ-loop
 put-triple-requires c κs = let S = c .before .before .before .before .before .before .before .before .before in
     let L = c .before .before .before .before .before .loop in
     let w = S .args .words .now in
-    let is = c .before .before .before .before .before .before .block-outputs .ensures in
+    let is = c .before .before .before .before .before .before .outputs .ensures in
     let h : L .k < length (outputs w (S .args .b .0)) = omega (arith, ap length is, c .before .before .before .before .loop-test .taken) in
-    let same : getD (c .before .before .before .before .before .before .block-outputs .result .now) (L .k) 0 ≡ getD (outputs w (S .args .b .0)) (L .k) 0 = ap (λ (l : List ℕ). getD l (L .k) 0) is in
+    let same : getD (c .before .before .before .before .before .before .outputs .result .now) (L .k) 0 ≡ getD (outputs w (S .args .b .0)) (L .k) 0 = ap (λ (l : List ℕ). getD l (L .k) 0) is in
     let e = output-here w (S .args .local .0) (S .args .b .0) (L .k) h (sym same ∙ c .before .if1 .taken) in
     (omega (arith, S .pre .1 .1 .0, L .inv .1 .long), omega (arith, putting-count (S .args .b .0 ∷ 2 ∷ L .k ∷ []) (outputsLeft w (S .args .local .0) (S .args .b .0) (L .k + 1)) (S .pre .1 .1 .1) (putting-as e (L .inv .1))))
 
@@ -58,9 +58,9 @@ loop-again : tie.Need-loop-again Inv-loop μ-loop
 loop-again c = let S = c .before .before .before .before .before .before .before .before .before .before .before .before in
     let L = c .before .before .before .before .before .before .before .before .loop in
     let w = S .args .words .now in
-    let is = c .before .before .before .before .before .before .before .before .before .block-outputs .ensures in
+    let is = c .before .before .before .before .before .before .before .before .before .outputs .ensures in
     let h : L .k < length (outputs w (S .args .b .0)) = omega (arith, ap length is, c .before .before .before .before .before .before .before .loop-test .taken) in
-    let same : getD (c .before .before .before .before .before .before .before .before .before .block-outputs .result .now) (L .k) 0 ≡ getD (outputs w (S .args .b .0)) (L .k) 0 = ap (λ (l : List ℕ). getD l (L .k) 0) is in
+    let same : getD (c .before .before .before .before .before .before .before .before .before .outputs .result .now) (L .k) 0 ≡ getD (outputs w (S .args .b .0)) (L .k) 0 = ap (λ (l : List ℕ). getD l (L .k) 0) is in
     let e = output-here w (S .args .local .0) (S .args .b .0) (L .k) h (sym same ∙ c .before .before .before .before .if1 .taken) in
     (omega arith, putting-more (S .pre .1 .1 .0) (putting-as e (L .inv .1)) (c .before .before .put-triple .ensures))
 
@@ -71,9 +71,9 @@ loop-again-2 : tie.Need-loop-again-2 Inv-loop μ-loop
 loop-again-2 c = let S = c .before .before .before .before .before .before .before .before in
     let L = c .before .before .before .before .loop in
     let w = S .args .words .now in
-    let is = c .before .before .before .before .before .block-outputs .ensures in
+    let is = c .before .before .before .before .before .outputs .ensures in
     let h : L .k < length (outputs w (S .args .b .0)) = omega (arith, ap length is, c .before .before .before .loop-test .taken) in
-    let same : getD (c .before .before .before .before .before .block-outputs .result .now) (L .k) 0 ≡ getD (outputs w (S .args .b .0)) (L .k) 0 = ap (λ (l : List ℕ). getD l (L .k) 0) is in
+    let same : getD (c .before .before .before .before .before .outputs .result .now) (L .k) 0 ≡ getD (outputs w (S .args .b .0)) (L .k) 0 = ap (λ (l : List ℕ). getD l (L .k) 0) is in
     (omega arith, putting-as (output-other w (S .args .local .0) (S .args .b .0) (L .k) h (λ y. c .if1 .left (same ∙ y))) (L .inv .1))
 
 same-length : tie.Need-same-length Inv-loop μ-loop
@@ -82,7 +82,7 @@ same-length c = c .before .loop .inv .1 .long
 returns : tie.Need-returns Inv-loop μ-loop
 returns c = let S = c .before .before .before .before .before in
     let L = c .before .loop in
-    putting-all (output-end (S .args .words .now) (S .args .local .0) (S .args .b .0) (L .k) (omega (arith, ap length (c .before .before .block-outputs .ensures), c .loop-test .left))) (L .inv .1)
+    putting-all (output-end (S .args .words .now) (S .args .local .0) (S .args .b .0) (L .k) (omega (arith, ap length (c .before .before .outputs .ensures), c .loop-test .left))) (L .inv .1)
 
 pub put-output-uses-spec : {M : Type 1} → statement M
 put-output-uses-spec =
@@ -90,7 +90,7 @@ put-output-uses-spec =
     (tie.spec
     Inv-loop
     μ-loop
-    block-outputs-requires
+    outputs-requires
     loop-holds
     cast-loop
     cast-v

@@ -19,14 +19,14 @@ Inv-loop words met₀ end o₀ met o = (o₀ ≤ o) × (o ≤ end) × Adds met�
 abbrev μ-loop : tie.MeasureT-loop
 μ-loop words met₀ end o₀ met o = end - o
 
-block-operations-requires : tie.Need-block-operations-requires Inv-loop μ-loop
-block-operations-requires c κs = search needs
+operations-requires : tie.Need-operations-requires Inv-loop μ-loop
+operations-requires c κs = search needs
 
 loop-holds : tie.Need-loop-holds Inv-loop μ-loop
 loop-holds c = let s = c .before .before .before in
-    let first = c .block-operations .result .start in (
+    let first = c .operations .result .start in (
       omega arith,
-      omega (arith, s .pre .0 .in-range .ops-range (s .args .b .0) (s .pre .1 .0), c .block-operations .ensures),
+      omega (arith, s .pre .0 .in-range .ops-range (s .args .b .0) (s .pre .1 .0), c .operations .ensures),
       adds-none (λ r i h. ap (mem (512 * r + i)) (range-none first first (omega arith))),
     )
 
@@ -36,7 +36,7 @@ cast-row-add c = omega arith
 row-add-requires : tie.Need-row-add-requires Inv-loop μ-loop
 row-add-requires c κs = let s = c .before .before .before .before .before .before in
     let l = c .before .before .loop in
-    let h : l .o < operations (s .args .words .now) = omega (arith, s .pre .0 .in-range .ops-range (s .args .b .0) (s .pre .1 .0), c .before .before .before .block-operations .ensures) in
+    let h : l .o < operations (s .args .words .now) = omega (arith, s .pre .0 .in-range .ops-range (s .args .b .0) (s .pre .1 .0), c .before .before .before .operations .ensures) in
     (omega (arith, s .pre .0 .sized .operations-most, l .inv .2 .long), omega arith)
 
 add-o : tie.Need-add-o Inv-loop μ-loop
@@ -49,7 +49,7 @@ loop-again : tie.Need-loop-again Inv-loop μ-loop
 loop-again c = let l = c .before .before .before .before .before .loop in
     let n : 512 * (l .o / 512) + l .o % 512 ≡ l .o = omega arith in
     let a : Adds (l .met) (λ r i. eqb (512 * r + i) (l .o)) (c .before .before .row-add .last .0) = rw (c .before .before .row-add .ensures .1, n) (adds-number (l .met) (l .o)) in
-    (omega arith, omega arith, adds-as (λ r i h. range-more (512 * r + i) (c .before .before .before .before .before .before .block-operations .result .start) (l .o) (l .inv .0)) (adds-then (l .inv .2) a))
+    (omega arith, omega arith, adds-as (λ r i h. range-more (512 * r + i) (c .before .before .before .before .before .before .operations .result .start) (l .o) (l .inv .0)) (adds-then (l .inv .2) a))
 
 same-length : tie.Need-same-length Inv-loop μ-loop
 same-length c = c .before .loop .inv .2 .long
@@ -57,7 +57,7 @@ same-length c = c .before .loop .inv .2 .long
 returns : tie.Need-returns Inv-loop μ-loop
 returns c = let s = c .before .before .before .before .before in
     let l = c .before .loop in
-    let b = c .before .before .block-operations in
+    let b = c .before .before .operations in
     let w = s .args .words .now in
     let last : l .o ≡ blockWord w (s .args .b .0) 5 = omega (arith, b .ensures) in
     let os : range (b .result .start) (l .o) ≡ ops w (s .args .b .0) = ap₂ range (b .ensures .0) last in
@@ -69,7 +69,7 @@ add-operations-spec =
     (tie.spec
     Inv-loop
     μ-loop
-    block-operations-requires
+    operations-requires
     loop-holds
     cast-row-add
     row-add-requires

@@ -17,11 +17,11 @@ Inv-loop words links₀ outputs inputs k₀ links k = (k ≤ length outputs) × 
 abbrev μ-loop : tie.MeasureT-loop
 μ-loop words links₀ outputs inputs k₀ links k = length outputs - k
 
-block-outputs-requires : tie.Need-block-outputs-requires Inv-loop μ-loop
-block-outputs-requires c κs = search needs
+outputs-requires : tie.Need-outputs-requires Inv-loop μ-loop
+outputs-requires c κs = search needs
 
-block-inputs-requires : tie.Need-block-inputs-requires Inv-loop μ-loop
-block-inputs-requires c κs = let s = c .before .before .before in
+inputs-requires : tie.Need-inputs-requires Inv-loop μ-loop
+inputs-requires c κs = let s = c .before .before .before in
     (s .pre .0 .sized, (s .pre .0 .in-range, s .pre .0 .in-range .successor (s .args .b .0) (s .args .s .0) (s .pre .1 .0) (s .pre .1 .1)))
 
 loop-holds : tie.Need-loop-holds Inv-loop μ-loop
@@ -41,12 +41,12 @@ mul-row-add-2 c = omega arith
 
 shared-slice-read-row-add-2 : tie.Need-shared-slice-read-row-add-2 Inv-loop μ-loop
 shared-slice-read-row-add-2 c = let s = c .before .before .before .before .before .before .before .before .before in
-    edge-places (s .pre .0) (s .args .b .0) (s .args .s .0) (c .before .before .before .before .loop .k) (c .before .before .before .before .before .before .block-outputs .ensures) (c .before .before .before .before .before .block-inputs .ensures) (s .pre .1 .0) (s .pre .1 .1) (c .before .before .before .loop-test .taken) .0
+    edge-places (s .pre .0) (s .args .b .0) (s .args .s .0) (c .before .before .before .before .loop .k) (c .before .before .before .before .before .before .outputs .ensures) (c .before .before .before .before .before .inputs .ensures) (s .pre .1 .0) (s .pre .1 .1) (c .before .before .before .loop-test .taken) .0
 
 row-add-requires : tie.Need-row-add-requires Inv-loop μ-loop
 row-add-requires c κs = let s = c .before .before .before .before .before .before .before .before .before in
     let l = c .before .before .before .before .loop in
-    let p = edge-places (s .pre .0) (s .args .b .0) (s .args .s .0) (l .k) (c .before .before .before .before .before .before .block-outputs .ensures) (c .before .before .before .before .before .block-inputs .ensures) (s .pre .1 .0) (s .pre .1 .1) (c .before .before .before .loop-test .taken) in
+    let p = edge-places (s .pre .0) (s .args .b .0) (s .args .s .0) (l .k) (c .before .before .before .before .before .before .outputs .ensures) (c .before .before .before .before .before .inputs .ensures) (s .pre .1 .0) (s .pre .1 .1) (c .before .before .before .loop-test .taken) in
     (omega (arith, l .inv .1 .long, p .1), p .2)
 
 add-k : tie.Need-add-k Inv-loop μ-loop
@@ -58,9 +58,9 @@ loop-less c = omega arith
 loop-again : tie.Need-loop-again Inv-loop μ-loop
 loop-again c = let s = c .before .before .before .before .before .before .before .before .before .before .before .before in
     let l = c .before .before .before .before .before .before .before .loop in
-    let xs = c .before .before .before .before .before .before .before .before .before .block-outputs .result .now in
-    let ys = c .before .before .before .before .before .before .before .before .block-inputs .result .now in
-    let p = edge-places (s .pre .0) (s .args .b .0) (s .args .s .0) (l .k) (c .before .before .before .before .before .before .before .before .before .block-outputs .ensures) (c .before .before .before .before .before .before .before .before .block-inputs .ensures) (s .pre .1 .0) (s .pre .1 .1) (c .before .before .before .before .before .before .loop-test .taken) in
+    let xs = c .before .before .before .before .before .before .before .before .before .outputs .result .now in
+    let ys = c .before .before .before .before .before .before .before .before .inputs .result .now in
+    let p = edge-places (s .pre .0) (s .args .b .0) (s .args .s .0) (l .k) (c .before .before .before .before .before .before .before .before .before .outputs .ensures) (c .before .before .before .before .before .before .before .before .inputs .ensures) (s .pre .1 .0) (s .pre .1 .1) (c .before .before .before .before .before .before .loop-test .taken) in
     let a : Adds (l .links) (passed xs ys (l .k)) (c .before .before .row-add .last .0) = rw (c .before .before .row-add .ensures .1) (adds-one (l .links) (getD xs (l .k) 0) (getD ys (l .k) 0) (p .2)) in
     (omega arith, adds-counted (passed xs ys) (l .k) (l .inv .1) a)
 
@@ -70,8 +70,8 @@ same-length c = c .before .loop .inv .1 .long
 returns : tie.Need-returns Inv-loop μ-loop
 returns c = let s = c .before .before .before .before .before .before in
     let l = c .before .loop in
-    let e : l .k ≡ length (c .before .before .before .block-outputs .result .now) = omega arith in
-    rw (e, c .before .before .before .block-outputs .ensures, c .before .before .block-inputs .ensures) at (l .inv .1)
+    let e : l .k ≡ length (c .before .before .before .outputs .result .now) = omega arith in
+    rw (e, c .before .before .before .outputs .ensures, c .before .before .inputs .ensures) at (l .inv .1)
 
 pub link-edge-spec : {M : Type 1} → statement M
 link-edge-spec =
@@ -79,8 +79,8 @@ link-edge-spec =
     (tie.spec
     Inv-loop
     μ-loop
-    block-outputs-requires
-    block-inputs-requires
+    outputs-requires
+    inputs-requires
     loop-holds
     mul-row-add
     shared-slice-read-row-add

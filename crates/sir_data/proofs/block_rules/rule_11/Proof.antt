@@ -29,20 +29,20 @@ block-count-requires c κs = search needs
 loop-holds : tie.Need-loop-holds Inv-loop μ-loop
 loop-holds c = (omega arith, rw range-all)
 
-block-inputs-requires : tie.Need-block-inputs-requires Inv-loop μ-loop
-block-inputs-requires c κs = search needs
+inputs-requires : tie.Need-inputs-requires Inv-loop μ-loop
+inputs-requires c κs = search needs
 
 all-distinct-requires : tie.Need-all-distinct-requires Inv-loop μ-loop
 all-distinct-requires c κs =
     let start = c .before .before .before .before .before in
     let b = c .before .before .loop .b in
-    rw (c .block-inputs .ensures) (λ v m. omega (arith, start .pre .1 .input b v (omega arith) m))
+    rw (c .inputs .ensures) (λ v m. omega (arith, start .pre .1 .input b v (omega arith) m))
 
 returns : tie.Need-returns Inv-loop μ-loop
 unfolding rule11
 returns c =
     let l = c .before .before .before .before .loop in
-    ap not (sym (all-stop _ (l .b) _ (omega arith) (sym (c .before .all-distinct .ensures ∙ ap distinct (c .before .before .block-inputs .ensures)) ∙ not-true _ (c .if1 .taken))) ∙ l .inv .1)
+    ap not (sym (all-stop _ (l .b) _ (omega arith) (sym (c .before .all-distinct .ensures ∙ ap distinct (c .before .before .inputs .ensures)) ∙ not-true _ (c .if1 .taken))) ∙ l .inv .1)
 
 add-b : tie.Need-add-b Inv-loop μ-loop
 add-b c = omega arith
@@ -53,7 +53,7 @@ loop-less c = omega arith
 loop-again : tie.Need-loop-again Inv-loop μ-loop
 loop-again c =
     let l = c .before .before .before .before .loop in
-    (omega arith, all-step _ (l .b) _ (omega arith) (sym (c .before .all-distinct .ensures ∙ ap distinct (c .before .before .block-inputs .ensures)) ∙ not-false _ (c .if1 .left)) ∙ l .inv .1)
+    (omega arith, all-step _ (l .b) _ (omega arith) (sym (c .before .all-distinct .ensures ∙ ap distinct (c .before .before .inputs .ensures)) ∙ not-false _ (c .if1 .left)) ∙ l .inv .1)
 
 returns-2 : tie.Need-returns-2 Inv-loop μ-loop
 unfolding rule11
@@ -69,7 +69,7 @@ rule-11-spec =
     μ-loop
     block-count-requires
     loop-holds
-    block-inputs-requires
+    inputs-requires
     all-distinct-requires
     returns
     add-b

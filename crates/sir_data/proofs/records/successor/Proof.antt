@@ -93,8 +93,8 @@ returns-4 c =
 block-word-requires-7 : tie.Need-block-word-requires-7
 block-word-requires-7 c κs = search needs
 
-sub-t16 : tie.Need-sub-t16
-sub-t16 c = omega (arith, fallback (c .before))
+sub-t15 : tie.Need-sub-t15
+sub-t15 c = omega (arith, fallback (c .before))
 
 returns-5 : tie.Need-returns-5
 returns-5 c = rw (c .block-word7 .ensures) (sym (fallback (c .before) .1))
@@ -118,5 +118,5 @@ successor-spec =
     target-requires
     returns-4
     block-word-requires-7
-    sub-t16
+    sub-t15
     returns-5)
