@@ -7,6 +7,7 @@ pub mod Outcomes
 pub mod Edges
 pub mod UseWords
 pub mod OrderOnce
+pub mod PredecessorLaws
 pub mod OrderProof
 pub mod SetLaws
 pub mod RowLaws

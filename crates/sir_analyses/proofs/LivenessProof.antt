@@ -12,7 +12,7 @@ use Rattle.sir_data.specs.WellFormed.{WellFormed}
 use Rattle.sir_analyses.specs.Order.{blocksRpo, predecessors}
 use Rattle.sir_analyses.specs.Liveness.{Set, has, members, rowOf, entryFrom, renamed, noExits, pass, settle, settled, sameRows, rounds, exitSet, entrySet}
 use Rattle.sir_analyses.specs.Claims.{block, Visited, Solves, after, LivenessRule}
-use Rattle.sir_analyses.proofs.SetLaws.{members-out}
+use Rattle.sir_analyses.proofs.SetLaws.{members-out, Within}
 use Rattle.sir_analyses.proofs.RowLaws.{Ended, total, total-sum, settleBy}
 use Rattle.sir_analyses.proofs.FlowLaws.{Flow, Closed, Held, fixed-solves, passes-end, exit-length}
 use Rattle.sir_analyses.proofs.GenKill.{entry-length, entry-grows, gen-kill}
@@ -79,14 +79,23 @@ module _ (w : List ℕ) (good : WellFormed w) where
       let e = live-ended .state in
       ap (after w) (live-ended .last) ∙ ap (pass w) (sym e) ∙ settles
 
+  visited-size : (b : ℕ) → Visited w (block b) → length (exitSet w b) ≡ locals w
+  visited-size b m = exit-size b (blocks-below w good b (blocks-visited w good b .1 m))
+
+  least-exit : (y : ℕ → Set) → Solves w y → (b : ℕ) → Visited w (block b) → Within (exitSet w b) (y b)
+  least-exit y s b m = live-ended .held .least y (solution-closed y s) b (blocks-visited w good b .1 m)
+
+  least-entry : (y : ℕ → Set) → Solves w y → (b v : ℕ) → Visited w (block b) → has (entrySet w b) v ≡ true → has (entryFrom w b (y b)) v ≡ true
+  least-entry y s b v m t =
+      let wide = solution-closed y s .sized b (blocks-visited w good b .1 m) in
+      entry-grows w b (exitSet w b) (y b) (visited-size b m ∙ sym wide) (least-exit y s b m) v (ap (λ (x : Set). has x v) (sym (entry-is b m)) ∙ t)
+
   pub liveness-rule : LivenessRule w
   liveness-rule = record {
-    exits = record {
-      solution = live-solves;
-      least = λ y s b v m t. live-ended .held .least y (solution-closed y s) b (blocks-visited w good b .1 m) v t;
-    };
+    exits = record { solution = live-solves; least = λ y s b v m t. least-exit y s b m v t };
     entries = entry-is;
-    sized = λ b m. exit-size b (blocks-below w good b (blocks-visited w good b .1 m));
+    least-entries = least-entry;
+    sized = visited-size;
     use-def = λ b x v e. gen-kill w b x e v;
     unvisited-entry = λ b n. ap (λ (t : Bool). members (cond t (entryFrom w b (exitSet w b)) [])) (not-visited w b n);
     unvisited-exit = λ b n. no-members (members (exitSet w b)) (λ v m. n (exit-visited b v (members-out (exitSet w b) m)));

@@ -1,17 +1,18 @@
--- What is claimed of the answers beyond their definitions: that the order visits exactly what can be reached, that the sets are
--- the least solution of the equations, that an unvisited block has empty sets and no predecessors, that the round number counts passes
--- and is bounded, that marks follow the reach rule, and that the source's own steps come to the same marks, owners and intervals. The
+-- What is claimed of the answers beyond their definitions: that the order visits exactly what can be reached, by the source's own
+-- recursion, that predecessors are exactly the edges, that the sets are the least solution of the equations, that an unvisited block has
+-- empty sets and no predecessors, that the round number counts passes and is bounded, that marks follow the reach rule, and that the source's own steps come to the same marks, owners and intervals. The
 -- claim on walks is in Walk. Definitions and statements only; each record is a claim on the payload words of an accepted image.
 use mathlib.Core.Path.{_≡_}
 use mathlib.Core.Logic.{_↔_}
-use mathlib.Core.Bool.{true, false, not, _&&_, _||_}
+use mathlib.Core.Bool.{Bool, true, false, not, _&&_, _||_, cond}
 use Prim.Native.Nat.{ℕ, zero, suc, _+_, _≤_, _<_}
-use mathlib.Core.List.{List, [], map, List·Memᴰ}
+use mathlib.Core.List.{List, [], _∷_, map, List·Memᴰ}
 use lib.ListN.{length, getD}
-use lib.Dec.{eqb}
-use Rattle.plank_core.specs.Lists.{distinct, upto, sum, _∈_}
-use Rattle.sir_data.specs.Records.{blocks, locals, initFunction, mainPlusOne, entryBlock, ops, successors, callees}
-use Rattle.sir_analyses.specs.Order.{functionsRpo, blocksRpo, predecessors}
+use lib.Dec.{eqb, leb}
+use Rattle.plank_core.specs.Lists.{foldl, bind, all, distinct, upto, sum, _∈_, mem}
+use Rattle.plank_core.specs.laws.Lists.{times}
+use Rattle.sir_data.specs.Records.{functions, blocks, locals, initFunction, mainPlusOne, entryBlock, ops, successors, callees}
+use Rattle.sir_analyses.specs.Order.{Visit, seeFunction, seeBlock, finishFunction, finishBlock, visitFunction, visitBlock, functionsRpo, blocksRpo, predecessors}
 use Rattle.sir_analyses.specs.Liveness.{Use, uses, Set, has, members, useSet, defSet, entryFrom, exitFrom, rowOf, noExits, pass, entrySet, exitSet, rounds}
 use Rattle.sir_analyses.specs.Allocation.{allocs, allocAt, base, carried, escapes, isReturned, reach, marked, owners, merged}
 use Rattle.sir_analyses.specs.Source.{sourceAfter, sourceState, sourceMarked, sourceIntervals}
@@ -20,6 +21,11 @@ use Rattle.sir_analyses.specs.Source.{sourceAfter, sourceState, sourceMa
 pub data Item : Type 0 where
   function : ℕ → Item
   block : ℕ → Item
+
+-- is no number of the list above a later one?
+abbrev pub ascending : List ℕ → Bool
+ascending [] = true
+ascending (x ∷ xs) = all (leb x) xs && ascending xs
 
 module _ (w : List ℕ) where
   -- ---- order
@@ -32,12 +38,30 @@ module _ (w : List ℕ) where
     successor : {b s : ℕ} → Visited (block b) → s ∈ successors w b → Visited (block s)
     callee : {b o f : ℕ} → Visited (block b) → o ∈ ops w b → f ∈ callees w o → Visited (function f)
 
+  -- the depth that the order is given
+  abbrev pub depth : ℕ
+  depth = functions w + blocks w
+
   -- the order: every visited function and block, each once, and no other
   pub record OrderRule : Type 0 where
     pub blocks-exact : (b : ℕ) → b ∈ blocksRpo w ↔ Visited (block b)
     pub functions-exact : (f : ℕ) → f ∈ functionsRpo w ↔ Visited (function f)
     pub blocks-once : distinct (blocksRpo w) ≡ true
     pub functions-once : distinct (functionsRpo w) ≡ true
+    -- its depth cuts nothing off, whatever was seen before: each visit is the source's own text, whose recursion has no bound
+    pub visit-function : (f : ℕ) (v : Visit) → f < functions w
+        → visitFunction depth w f v ≡ cond (mem f (v .seenFunctions)) v (finishFunction (visitBlock depth w f (entryBlock w f) (seeFunction v f)) f)
+    pub visit-block : (f b : ℕ) (v : Visit) → b < blocks w
+        → visitBlock depth w f b v ≡ cond (mem b (v .seenBlocks)) v
+        (finishBlock
+        (foldl (λ u s. visitBlock depth w f s u)
+        (foldl (λ u g. visitFunction depth w g u) (seeBlock v b) (bind (ops w b) (callees w)))
+        (successors w b))
+        f b)
+    -- the predecessors of b: each visited block as often as it has b for a successor, no other block, ids ascending
+    pub edges-exact : (p b : ℕ) → Visited (block p) → times p (predecessors w b) ≡ times b (successors w p)
+    pub edges-only : (p b : ℕ) → ¬ Visited (block p) → times p (predecessors w b) ≡ 0
+    pub edges-ascending : (b : ℕ) → ascending (predecessors w b) ≡ true
     -- an unvisited block has no predecessors
     pub unvisited : (b : ℕ) → ¬ Visited (block b) → predecessors w b ≡ []
 
@@ -61,6 +85,8 @@ module _ (w : List ℕ) where
   pub record LivenessRule : Type 0 where
     pub exits : Least (exitSet w)
     pub entries : (b : ℕ) → Visited (block b) → entrySet w b ≡ entryFrom w b (exitSet w b)
+    -- so that the entry sets are least too: every other solution has all their members at its entries
+    pub least-entries : (y : ℕ → Set) → Solves y → (b v : ℕ) → Visited (block b) → has (entrySet w b) v ≡ true → has (entryFrom w b (y b)) v ≡ true
     -- an exit set has a place for each local
     pub sized : (b : ℕ) → Visited (block b) → length (exitSet w b) ≡ locals w
     -- the equations are those of the Dragon Book, whatever the exit set: entry = use ∪ (exit − def)
