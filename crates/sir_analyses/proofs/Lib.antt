@@ -23,6 +23,10 @@ pub mod SetAnswers
 pub mod BlockSets
 pub mod LivenessProof
 pub mod Accepted
+pub mod SourceTables
+pub mod SourceMerging
+pub mod SourceScans
+pub mod SourceLive
 pub mod Bases
 pub mod Positions
 pub mod Marks

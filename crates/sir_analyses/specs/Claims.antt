@@ -1,7 +1,8 @@
 -- What is claimed of the answers beyond their definitions: that the order visits exactly what can be reached, by the source's own
--- recursion, that predecessors are exactly the edges, that the sets are the least solution of the equations, that an unvisited block has
--- empty sets and no predecessors, that the round number counts passes and is bounded, that marks follow the reach rule, and that the source's own steps come to the same marks, owners and intervals. The
--- claim on walks is in Walk. Definitions and statements only; each record is a claim on the payload words of an accepted image.
+-- recursion; that predecessors are exactly the edges; that the sets are the least solution of the equations; that an unvisited block has
+-- empty sets and no predecessors; that the round number counts passes and is bounded; that marks follow the reach rule; and that the
+-- source's own steps come to the same answers. The claim on walks is in Walk. Definitions and statements only; each record is a claim on
+-- the payload words of an accepted image.
 use mathlib.Core.Path.{_≡_}
 use mathlib.Core.Logic.{_↔_}
 use mathlib.Core.Bool.{Bool, true, false, not, _&&_, _||_, cond}
@@ -13,8 +14,10 @@ use Rattle.plank_core.specs.Lists.{foldl, bind, all, distinct, upto, sum, _∈_
 use Rattle.plank_core.specs.laws.Lists.{times}
 use Rattle.sir_data.specs.Records.{functions, blocks, locals, initFunction, mainPlusOne, entryBlock, ops, successors, callees}
 use Rattle.sir_analyses.specs.Order.{Visit, seeFunction, seeBlock, finishFunction, finishBlock, visitFunction, visitBlock, functionsRpo, blocksRpo, predecessors}
-use Rattle.sir_analyses.specs.Liveness.{Use, uses, Set, has, members, useSet, defSet, entryFrom, exitFrom, rowOf, noExits, pass, entrySet, exitSet, rounds}
+use Rattle.sir_analyses.specs.Liveness.{Use, uses, Set, has, members, useSet, defSet, entryFrom, exitFrom, rowOf, noExits, pass, entrySet, exitSet, rounds, intervals}
 use Rattle.sir_analyses.specs.Allocation.{allocs, allocAt, base, carried, escapes, isReturned, reach, marked, owners, merged}
+use Rattle.sir_analyses.specs.SourceUses.{sourcePredecessors, sourceUses}
+use Rattle.sir_analyses.specs.SourceLiveness.{sourceLive, sourceLocalIntervals}
 use Rattle.sir_analyses.specs.Source.{sourceAfter, sourceState, sourceMarked, sourceIntervals}
 
 -- what is visited: a function or a block
@@ -121,10 +124,18 @@ module _ (w : List ℕ) where
     pub reach-exact : (a v : ℕ) → a < length (allocs w) → (has (reach w (allocAt w a)) v ≡ true) ↔ Reached a v
     pub mark-exact : (a : ℕ) → a < length (allocs w) → (marked w a ≡ true) ↔ Marked a
 
-  -- ---- the source's own marks, owners and owned locals
+  -- ---- the source's own steps
 
-  -- the source's own steps (Source) come to the marks, owners and merged intervals of the definitions
+  -- the source's own steps come to the predecessors, uses, sets, intervals, marks, owners and merged intervals of the definitions: SourceUses,
+  -- SourceLiveness and Source have them line by line, but for the order, whose definition is the source's text
   pub record SourceRule : Type 0 where
+    pub predecessors-same : (b : ℕ) → b < blocks w → sourcePredecessors w b ≡ predecessors w b
+    pub uses-same : (v : ℕ) → sourceUses w v ≡ uses w v
+    -- its `while` ends by itself: the bound in `sourceLive` cuts nothing off
+    pub unchanged : sourceLive w .changed ≡ false
+    pub exits-same : (b : ℕ) → rowOf (sourceLive w .exits) b ≡ exitSet w b
+    pub entries-same : (b : ℕ) → members (rowOf (sourceLive w .entries) b) ≡ members (entrySet w b)
+    pub local-intervals-same : (v : ℕ) → v < locals w → sourceLocalIntervals w v ≡ intervals w v
     -- behind each allocation its work list is empty: the bound in `drain` cuts nothing off
     pub drained : (n : ℕ) → n ≤ length (allocs w) → sourceAfter w n .work ≡ []
     pub marks : (a : ℕ) → a < length (allocs w) → sourceMarked w a ≡ marked w a

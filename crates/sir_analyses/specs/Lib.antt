@@ -8,6 +8,8 @@ pub mod Allocation
 pub mod Bases
 pub mod Pointers
 pub mod Propagation
+pub mod SourceUses
+pub mod SourceLiveness
 pub mod Source
 pub mod Discovery
 pub mod Answers
