@@ -34,10 +34,12 @@ pub mod PointerLinks
 pub mod Merging
 pub mod Scans
 pub mod Lifetime
+pub mod SourceDiscovery
 pub mod SourceSteps
 pub mod SourceMarks
 pub mod SourceOwners
 pub mod Propagation
+pub mod SourceIntervals
 pub mod SourceProof
 pub mod Linking
 pub mod Following

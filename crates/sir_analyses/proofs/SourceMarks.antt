@@ -20,7 +20,7 @@ use Rattle.sir_analyses.specs.Source.{followUse, pop, drain, propagate, 
 use Rattle.sir_analyses.specs.Claims.{Reached, itself, linked, Marked, escaped, returned, met}
 use Rattle.sir_analyses.proofs.SetLaws.{none-in, add-in}
 use Rattle.sir_analyses.proofs.Marks.{next-less, base-less, mark-rule}
-use Rattle.sir_analyses.proofs.SourceTables.{after-uses}
+use Rattle.sir_analyses.proofs.SourceDiscovery.{after-same}
 use Rattle.sir_analyses.proofs.SourceSteps.{marksAt, follow-use, zeros-most, bases-out, bases-in, zeros-at, Meets, same, each, Joined, meets-trans, joined-grow, baseOf, start-length, Done, Inv, Grown, grown-trans, grown-refl, remark, fold-step}
 
 any-or : {A : Type 0} (p q : A → Bool) (xs : List A) → any (λ x. p x || q x) xs ≡ (any p xs || any q xs)
@@ -291,7 +291,7 @@ module _ (w : List ℕ) (good : WellFormed w) where
   -- nothing is left of the work list
   pub source-after : rule12 w ≡ false → (n m : ℕ) → n + m ≡ length (allocs w) → (a : ℕ) × Inv w a (sourceAfter w n) (map (baseOf w) (count n m)) × (sourceAfter w n .work ≡ [])
   source-after twelve n m h =
-      subst (λ (s : State). (a : ℕ) × Inv w a s (map (baseOf w) (count n m)) × (s .work ≡ [])) (sym (after-uses w good n))
+      subst (λ (s : State). (a : ℕ) × Inv w a s (map (baseOf w) (count n m)) × (s .work ≡ [])) (sym (after-same w good n))
       (phases 0 n (length (allocs w)) n m (start w) (started twelve) refl (omega arith) (omega arith) h)
 
   pub source-ends : rule12 w ≡ false → (a : ℕ) × Inv w a (sourceState w) [] × (sourceState w .work ≡ [])

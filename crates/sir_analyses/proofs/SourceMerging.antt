@@ -14,7 +14,7 @@ use Rattle.plank_core.specs.Lists.{foldl, count}
 use Rattle.plank_core.specs.laws.Lists.{same-tests, or-cases, or-true-right}
 use Rattle.sir_analyses.specs.Liveness.{Interval, blockEnd}
 use Rattle.sir_analyses.specs.Allocation.{sort, furthest, join, merge}
-use Rattle.sir_analyses.specs.Source.{Merging, noInterval, overlaps, mergeAt, mergeSorted, mergeIntervals}
+use Rattle.sir_analyses.specs.SourceIntervals.{Merging, noInterval, overlaps, mergeAt, mergeSorted, mergeIntervals}
 use Rattle.sir_analyses.proofs.Merging.{sort-member}
 
 -- a start that is no later than every block end

@@ -22,7 +22,7 @@ use Rattle.sir_analyses.specs.Propagation.{State, linkLocal, follow, sta
 use Rattle.sir_analyses.specs.Source.{followUse, pop, drain, propagate, sourceState}
 use Rattle.sir_analyses.proofs.SetLaws.{members-in, members-out}
 use Rattle.sir_analyses.proofs.Marks.{spread-sound, spread-base, spread-step, next-less, base-less}
-use Rattle.sir_analyses.proofs.SourceTables.{after-uses}
+use Rattle.sir_analyses.proofs.SourceDiscovery.{after-same}
 use Rattle.sir_analyses.proofs.SourceSteps.{marksAt, follow-use, zeros-most, zeros-fewer, zeros-no-more, start-length}
 
 -- what the work list comes to from v, where o has the owners before: v itself, and what nobody had
@@ -313,4 +313,4 @@ module _ (w : List ℕ) (good : WellFormed w) where
 
   -- the source's owners are the owners
   pub source-owners : sourceState w .owner ≡ owners w
-  source-owners = ap (λ (s : State). s .owner) (after-uses w good (length (allocs w))) ∙ turns 0 (length (allocs w)) (start w) (start-length w) (omega arith)
+  source-owners = ap (λ (s : State). s .owner) (after-same w good (length (allocs w))) ∙ turns 0 (length (allocs w)) (start w) (start-length w) (omega arith)

@@ -1,5 +1,5 @@
 -- The source's tables of lists, filled by `push`, hold the predecessors and the uses of the definitions.
-use mathlib.Core.Path.{_≡_, refl, sym, ap, _∙_, subst, fun-ext}
+use mathlib.Core.Path.{_≡_, refl, sym, ap, _∙_, subst}
 use mathlib.Core.Logic.{⊎-elim}
 use mathlib.Core.Bool.{Bool, true, false, cond}
 use Prim.Native.Nat.{ℕ, zero, suc, _≤_, _<_}
@@ -16,8 +16,6 @@ use Rattle.sir_data.specs.WellFormed.{WellFormed}
 use Rattle.sir_analyses.specs.Order.{blocksRpo, isVisited, edgesFrom, predecessors}
 use Rattle.sir_analyses.specs.Liveness.{Use, positions, usesIn, uses}
 use Rattle.sir_analyses.specs.SourceUses.{push, pushToSuccessors, predecessorTable, sourcePredecessors, useInputs, useCondition, useOutputs, useBlock, useTable, sourceUses}
-use Rattle.sir_analyses.specs.Propagation.{start}
-use Rattle.sir_analyses.specs.Source.{propagate, sourceAfter}
 use Rattle.sir_analyses.proofs.OrderProof.{blocks-below}
 use Rattle.sir_analyses.proofs.Accepted.{listed-op}
 
@@ -91,7 +89,7 @@ same-row {A} x v (s ∷ xs) = go (eqb s v) (same-row x v xs)
     go true e = ap (λ (r : List A). x ∷ r) e
     go false e = e
 
-bind-kept : {A : Type 0} (on : ℕ → Bool) (g : ℕ → List A) (xs : List ℕ) → bind xs (λ x. cond (on x) (g x) []) ≡ bind (keep on xs) g
+pub bind-kept : {A : Type 0} (on : ℕ → Bool) (g : ℕ → List A) (xs : List ℕ) → bind xs (λ x. cond (on x) (g x) []) ≡ bind (keep on xs) g
 bind-kept on g [] = refl
 bind-kept {A} on g (x ∷ xs) = go (on x) (bind-kept on g xs)
   where
@@ -191,7 +189,7 @@ positions-none : (v : ℕ) (xs : List ℕ) (k : ℕ) → ¬ (v ∈ xs) → posit
 positions-none v [] k n = refl
 positions-none v (x ∷ xs) k n = rw (ne-eqb x v (λ e. n (List·Memᴰ·head (sym e)))) (positions-none v xs (suc k) (λ m. n (List·Memᴰ·tail m)))
 
-bind-none : {A X : Type 0} (g : X → List A) (xs : List X) → ((x : X) → List·Memᴰ x xs → g x ≡ []) → bind xs g ≡ []
+pub bind-none : {A X : Type 0} (g : X → List A) (xs : List X) → ((x : X) → List·Memᴰ x xs → g x ≡ []) → bind xs g ≡ []
 bind-none g [] h = refl
 bind-none g (x ∷ xs) h = rw (h x (List·Memᴰ·head refl)) (bind-none g xs (λ y m. h y (List·Memᴰ·tail m)))
 
@@ -218,7 +216,3 @@ module _ (w : List ℕ) (good : WellFormed w) where
     where
       tall : (v : ℕ) → length (useTable w) ≡ locals w
       tall v = appends-all v (block-append v w) .tall (replicate (locals w) []) (blocksRpo w) ∙ length-replicate (locals w) []
-
-  -- so that the allocations propagate by the uses of the definition
-  pub after-uses : (n : ℕ) → sourceAfter w n ≡ foldl (propagate (uses w) w) (start w) (upto n)
-  after-uses n = ap (λ (usesOf : ℕ → List Use). foldl (propagate usesOf w) (start w) (upto n)) (fun-ext source-uses)

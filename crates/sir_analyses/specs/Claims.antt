@@ -15,10 +15,11 @@ use Rattle.plank_core.specs.laws.Lists.{times}
 use Rattle.sir_data.specs.Records.{functions, blocks, locals, initFunction, mainPlusOne, entryBlock, ops, successors, callees}
 use Rattle.sir_analyses.specs.Order.{Visit, seeFunction, seeBlock, finishFunction, finishBlock, visitFunction, visitBlock, functionsRpo, blocksRpo, predecessors}
 use Rattle.sir_analyses.specs.Liveness.{Use, uses, Set, has, members, useSet, defSet, entryFrom, exitFrom, rowOf, noExits, pass, entrySet, exitSet, rounds, intervals}
-use Rattle.sir_analyses.specs.Allocation.{allocs, allocAt, base, carried, escapes, isReturned, reach, marked, owners, merged}
+use Rattle.sir_analyses.specs.Allocation.{allocs, allocAt, base, carried, escapes, isReturned, reach, marked, bases, owners, merged}
 use Rattle.sir_analyses.specs.SourceUses.{sourcePredecessors, sourceUses}
 use Rattle.sir_analyses.specs.SourceLiveness.{sourceLive, sourceLocalIntervals}
-use Rattle.sir_analyses.specs.Source.{sourceAfter, sourceState, sourceMarked, sourceIntervals}
+use Rattle.sir_analyses.specs.Source.{discovered, sourceAfter, sourceState, sourceMarked}
+use Rattle.sir_analyses.specs.SourceIntervals.{sourceIntervals}
 
 -- what is visited: a function or a block
 pub data Item : Type 0 where
@@ -126,8 +127,8 @@ module _ (w : List ℕ) where
 
   -- ---- the source's own steps
 
-  -- the source's own steps come to the predecessors, uses, sets, intervals, marks, owners and merged intervals of the definitions: SourceUses,
-  -- SourceLiveness and Source have them line by line, but for the order, whose definition is the source's text
+  -- the source's own steps come to the predecessors, uses, sets, intervals, allocations, marks, owners and merged intervals of the
+  -- definitions: SourceUses, SourceLiveness, Source and SourceIntervals have them line by line. The order's definition is the source's text
   pub record SourceRule : Type 0 where
     pub predecessors-same : (b : ℕ) → b < blocks w → sourcePredecessors w b ≡ predecessors w b
     pub uses-same : (v : ℕ) → sourceUses w v ≡ uses w v
@@ -136,6 +137,10 @@ module _ (w : List ℕ) where
     pub exits-same : (b : ℕ) → rowOf (sourceLive w .exits) b ≡ exitSet w b
     pub entries-same : (b : ℕ) → members (rowOf (sourceLive w .entries) b) ≡ members (entrySet w b)
     pub local-intervals-same : (v : ℕ) → v < locals w → sourceLocalIntervals w v ≡ intervals w v
+    -- the allocations that it finds, and every base for its own; its assertion holds
+    pub allocations-same : discovered w .allocations ≡ allocs w
+    pub bases-same : discovered w .owner ≡ bases w
+    pub asserted : discovered w .failed ≡ false
     -- behind each allocation its work list is empty: the bound in `drain` cuts nothing off
     pub drained : (n : ℕ) → n ≤ length (allocs w) → sourceAfter w n .work ≡ []
     pub marks : (a : ℕ) → a < length (allocs w) → sourceMarked w a ≡ marked w a

@@ -14,7 +14,8 @@ use Rattle.sir_analyses.specs.Liveness.{has, Interval, blockEnd}
 use Rattle.sir_analyses.specs.Allocation.{rule12, sort, merge, marked}
 use Rattle.sir_analyses.specs.SourceUses.{sourcePredecessors, sourceUses}
 use Rattle.sir_analyses.specs.SourceLiveness.{sourceLive, sourceLocalIntervals}
-use Rattle.sir_analyses.specs.Source.{sourceState, sourceMarked, mergeIntervals, sourceIntervals}
+use Rattle.sir_analyses.specs.Source.{sourceState, sourceMarked}
+use Rattle.sir_analyses.specs.SourceIntervals.{mergeIntervals, sourceIntervals}
 use Rattle.sir_analyses.specs.Answers.{orderAnswer, predecessorsAnswer, entryAnswer, exitAnswer, usesAnswer, intervalsAnswer, intervalWords, allocationAnswer, ownerAnswer, roundsAnswer, Outcome, outcome}
 use Rattle.sir_analyses.specs.Walk.{Event, op, edge, Walk, enter, step, follow, Holds, given, kept, moved, Executed, now, before}
 

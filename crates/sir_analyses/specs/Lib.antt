@@ -11,6 +11,7 @@ pub mod Propagation
 pub mod SourceUses
 pub mod SourceLiveness
 pub mod Source
+pub mod SourceIntervals
 pub mod Discovery
 pub mod Answers
 pub mod Loading
