@@ -14,7 +14,7 @@ use Rattle.plank_core.specs.Lists.{foldl, bind, all, distinct, upto, sum, _∈_
 use Rattle.plank_core.specs.laws.Lists.{times}
 use Rattle.sir_data.specs.Records.{functions, blocks, locals, initFunction, mainPlusOne, entryBlock, ops, successors, callees}
 use Rattle.sir_analyses.specs.Order.{Visit, seeFunction, seeBlock, finishFunction, finishBlock, visitFunction, visitBlock, functionsRpo, blocksRpo, predecessors}
-use Rattle.sir_analyses.specs.Liveness.{Use, uses, Set, has, members, useSet, defSet, entryFrom, exitFrom, rowOf, noExits, pass, entrySet, exitSet, rounds, intervals}
+use Rattle.sir_analyses.specs.Liveness.{Use, uses, Set, has, members, useSet, defSet, entryFrom, renamed, exitFrom, rowOf, noExits, pass, entrySet, exitSet, rounds, intervals}
 use Rattle.sir_analyses.specs.Allocation.{allocs, allocAt, base, carried, escapes, isReturned, reach, marked, bases, owners, merged}
 use Rattle.sir_analyses.specs.SourceUses.{sourcePredecessors, sourceUses}
 use Rattle.sir_analyses.specs.SourceLiveness.{sourceLive, sourceLocalIntervals}
@@ -80,6 +80,19 @@ module _ (w : List ℕ) where
     pub solution : Solves x
     pub least : (y : ℕ → Set) → Solves y → (b v : ℕ) → Visited (block b) → has (x b) v ≡ true → has (y b) v ≡ true
 
+  -- v is live at the exit of b from the entry sets: some successor has a local live at its entry that is called v at the exit of b
+  pub record LiveOut (entry : ℕ → Set) (b v : ℕ) : Type 0 where
+    pub to : ℕ
+    pub local : ℕ
+    pub follows : to ∈ successors w b
+    pub live : has (entry to) local ≡ true
+    pub called : renamed w b to local ≡ v
+
+  -- the two equations of the Dragon Book, member by member: entry = use ∪ (exit − def), and exit is what the successors' entries pass on
+  pub record Equations (entry exit : ℕ → Set) : Type 0 where
+    pub entry-is : (b v : ℕ) → Visited (block b) → has (entry b) v ≡ (has (useSet w b) v || (has (exit b) v && not (has (defSet w b) v)))
+    pub exit-is : (b v : ℕ) → Visited (block b) → (has (exit b) v ≡ true) ↔ LiveOut entry b v
+
   -- the exit sets after n passes; the first pass starts from empty sets
   abbrev pub after : ℕ → List Set
   after zero = noExits w
@@ -91,6 +104,10 @@ module _ (w : List ℕ) where
     pub entries : (b : ℕ) → Visited (block b) → entrySet w b ≡ entryFrom w b (exitSet w b)
     -- so that the entry sets are least too: every other solution has all their members at its entries
     pub least-entries : (y : ℕ → Set) → Solves y → (b v : ℕ) → Visited (block b) → has (entrySet w b) v ≡ true → has (entryFrom w b (y b)) v ≡ true
+    -- in one: the pair of both is the least solution of the two equations
+    pub equations : Equations (entrySet w) (exitSet w)
+    pub least-pair : (y z : ℕ → Set) → Equations y z → (b v : ℕ) → Visited (block b)
+        → (has (entrySet w b) v ≡ true → has (y b) v ≡ true) × (has (exitSet w b) v ≡ true → has (z b) v ≡ true)
     -- an exit set has a place for each local
     pub sized : (b : ℕ) → Visited (block b) → length (exitSet w b) ≡ locals w
     -- the equations are those of the Dragon Book, whatever the exit set: entry = use ∪ (exit − def)
