@@ -7,6 +7,7 @@ pub mod Calls
 pub mod Edges
 pub mod UseWords
 pub mod OrderOnce
+pub mod PredecessorLaws
 pub mod OrderProof
 pub mod SetLaws
 pub mod RowLaws
@@ -22,6 +23,10 @@ pub mod SetAnswers
 pub mod BlockSets
 pub mod LivenessProof
 pub mod Accepted
+pub mod SourceTables
+pub mod SourceMerging
+pub mod SourceScans
+pub mod SourceLive
 pub mod Bases
 pub mod Positions
 pub mod Marks
@@ -29,10 +34,12 @@ pub mod PointerLinks
 pub mod Merging
 pub mod Scans
 pub mod Lifetime
+pub mod SourceDiscovery
 pub mod SourceSteps
 pub mod SourceMarks
 pub mod SourceOwners
 pub mod Propagation
+pub mod SourceIntervals
 pub mod SourceProof
 pub mod Linking
 pub mod Following

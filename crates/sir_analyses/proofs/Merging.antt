@@ -257,7 +257,7 @@ insert-member {k} i (j ∷ js) m = go (before i j) (insert-member i js) m
     go false f (List·Memᴰ·head e) = List·Memᴰ·tail (List·Memᴰ·head e)
     go false f (List·Memᴰ·tail h) = swap (f h)
 
-sort-member : {k : Interval} (is : List Interval) → List·Memᴰ k (sort is) → List·Memᴰ k is
+pub sort-member : {k : Interval} (is : List Interval) → List·Memᴰ k (sort is) → List·Memᴰ k is
 sort-member [] m = m
 sort-member {k} (i ∷ is) m = go (sort-member is) (insert-member i (sort is) m)
   where

@@ -12,10 +12,11 @@ use Rattle.plank_core.specs.Lists.{bind, keep, mem, distinct, upto, oneIf, _∈
 use Rattle.sir_data.specs.Records.{functions, blocks, initFunction, mainPlusOne, optional, entryBlock, ops, successors, callees}
 use Rattle.sir_analyses.specs.Order.{Visit, start, visited, functionsRpo, blocksRpo, isVisited, predecessors}
 use Rattle.sir_analyses.specs.Claims.{Item, function, block, Visited, init, main, entry, successor, callee, OrderRule}
-use Rattle.plank_core.specs.laws.Lists.{or-cases, bool-or, none, refuted, no-members, map-each, bind-mem, bind-out, keep-mem, keep-out, upto-mem, oneIf-most, oneIf-some, times, times-reverse, mem-times, times-mem, times-distinct}
+use Rattle.plank_core.specs.laws.Lists.{or-cases, bool-or, none, refuted, no-members, map-each, bind-mem, bind-out, keep-mem, keep-out, upto-mem, oneIf-most, oneIf-some, times, times-reverse, mem-times, times-mem, times-distinct, split}
 use Rattle.sir_data.specs.WellFormed.{InRange, WellFormed}
-use Rattle.sir_analyses.proofs.OrderLaws.{seen, enter, finish, owner, kids, visit, visits, visits-functions, visit-zero, visit-new, visit-old, left, Grows, grows, all-grow, Ok, kids-each, kids-ok, enter-left, left-none, left-most}
+use Rattle.sir_analyses.proofs.OrderLaws.{seen, enter, finish, owner, kids, visit, visits, visits-functions, visit-zero, visit-new, visit-old, left, Grows, grows, all-grow, Ok, kids-each, kids-ok, enter-left, left-none, left-most, order-function, order-block}
 use Rattle.sir_analyses.proofs.OrderOnce.{spread, done, tally, all-tally, Owned, May, all-owned}
+use Rattle.sir_analyses.proofs.PredecessorLaws.{predecessor-times, predecessors-ascend}
 
 oneIf-open : (n : ℕ) (t : Bool) → n + oneIf (not t) ≡ 1 → n ≡ oneIf t
 oneIf-open n true h = omega arith
@@ -234,6 +235,9 @@ module _ (w : List ℕ) where
 
 -- ---- the claim
 
+not-among : (p : ℕ) (xs : List ℕ) → ¬ (p ∈ xs) → times p xs ≡ 0
+not-among p xs n = ⊎-elim (λ (l : 0 < times p xs). absurd (n (times-mem p xs l))) (λ (l : times p xs ≤ 0). omega arith) (split 0 (times p xs))
+
 module _ (w : List ℕ) (good : WellFormed w) where
   pub blocks-visited : (b : ℕ) → b ∈ blocksRpo w ↔ Visited w (block b)
   blocks-visited b = ((λ m. seen-visited w (block b) (blocks-seen w b .0 m)), (λ p. blocks-seen w b .1 (visited-seen w (good .in-range) p)))
@@ -255,4 +259,15 @@ module _ (w : List ℕ) (good : WellFormed w) where
   next-listed {b} {s} m n = blocks-visited s .1 (successor (blocks-visited b .0 m) n)
 
   pub order-rule : OrderRule w
-  order-rule = record { blocks-exact = blocks-visited; functions-exact = functions-visited; blocks-once = blocks-distinct w; functions-once = functions-distinct w; unvisited = alone w }
+  order-rule = record {
+    blocks-exact = blocks-visited;
+    functions-exact = functions-visited;
+    blocks-once = blocks-distinct w;
+    functions-once = functions-distinct w;
+    visit-function = order-function w (good .in-range);
+    visit-block = order-block w (good .in-range);
+    edges-exact = λ p b v. predecessor-times w p b (visited-seen w (good .in-range) v) (visited-ok w (good .in-range) v);
+    edges-only = λ p b n. not-among p (predecessors w b) (λ m. n (seen-visited w (block p) (predecessors-out w p b m .0)));
+    edges-ascending = predecessors-ascend w;
+    unvisited = alone w;
+  }

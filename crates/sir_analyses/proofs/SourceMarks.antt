@@ -20,6 +20,7 @@ use Rattle.sir_analyses.specs.Source.{followUse, pop, drain, propagate, 
 use Rattle.sir_analyses.specs.Claims.{Reached, itself, linked, Marked, escaped, returned, met}
 use Rattle.sir_analyses.proofs.SetLaws.{none-in, add-in}
 use Rattle.sir_analyses.proofs.Marks.{next-less, base-less, mark-rule}
+use Rattle.sir_analyses.proofs.SourceDiscovery.{after-same}
 use Rattle.sir_analyses.proofs.SourceSteps.{marksAt, follow-use, zeros-most, bases-out, bases-in, zeros-at, Meets, same, each, Joined, meets-trans, joined-grow, baseOf, start-length, Done, Inv, Grown, grown-trans, grown-refl, remark, fold-step}
 
 any-or : {A : Type 0} (p q : A → Bool) (xs : List A) → any (λ x. p x || q x) xs ≡ (any p xs || any q xs)
@@ -262,12 +263,12 @@ module _ (w : List ℕ) (good : WellFormed w) where
       let P : Step w I (carried w x) (marksAt w l x) (followUse w a l s x) = subst (Step w I (carried w x) (marksAt w l x)) (sym (follow-use w a l s x)) Q in
       step-trans w (carried w x) (bind xs (carried w)) (marksAt w l x) (any (marksAt w l) xs) P (uses-step xs (followUse w a l s x) (P .grown .inv) less r (λ y k. f y (List·Memᴰ·tail k)))
 
-  drain-step : {a : ℕ} {more : List ℕ} (m : ℕ) (s : State) → Inv w a s more → a < length (allocs w) → zeros (s .owner) + length (s .work) ≤ m → Inv w a (drain m w a s) more × (drain m w a s .work ≡ [])
+  drain-step : {a : ℕ} {more : List ℕ} (m : ℕ) (s : State) → Inv w a s more → a < length (allocs w) → zeros (s .owner) + length (s .work) ≤ m → Inv w a (drain (uses w) m w a s) more × (drain (uses w) m w a s .work ≡ [])
   drain-step zero s I less h = (I, length-none (s .work) (omega arith))
   drain-step {a} {more} (suc m) s I less h = go (s .work) refl (drain-step m)
     where
-      go : (vs : List ℕ) → s .work ≡ vs → ((t : State) → Inv w a t more → a < length (allocs w) → zeros (t .owner) + length (t .work) ≤ m → Inv w a (drain m w a t) more × (drain m w a t .work ≡ []))
-          → Inv w a (pop (λ v t. drain m w a (foldl (followUse w a v) t (uses w v))) vs s) more × (pop (λ v t. drain m w a (foldl (followUse w a v) t (uses w v))) vs s .work ≡ [])
+      go : (vs : List ℕ) → s .work ≡ vs → ((t : State) → Inv w a t more → a < length (allocs w) → zeros (t .owner) + length (t .work) ≤ m → Inv w a (drain (uses w) m w a t) more × (drain (uses w) m w a t .work ≡ []))
+          → Inv w a (pop (λ v t. drain (uses w) m w a (foldl (followUse w a v) t (uses w v))) vs s) more × (pop (λ v t. drain (uses w) m w a (foldl (followUse w a v) t (uses w v))) vs s .work ≡ [])
       go [] e f = (I, e)
       go (v ∷ vs) e f =
           let t : State = record { owner = s .owner; marks = s .marks; work = vs } in
@@ -276,7 +277,7 @@ module _ (w : List ℕ) (good : WellFormed w) where
 
   -- allocations k to j have their turns; the bases of the other m are still to be followed
   phases : {b : ℕ} (k n r j m : ℕ) (s : State) → Inv w b s (map (baseOf w) (count k r)) → s .work ≡ [] → k + r ≡ length (allocs w) → k + n ≡ j → n + m ≡ r
-      → (a : ℕ) × Inv w a (foldl (propagate w) s (count k n)) (map (baseOf w) (count j m)) × (foldl (propagate w) s (count k n) .work ≡ [])
+      → (a : ℕ) × Inv w a (foldl (propagate (uses w) w) s (count k n)) (map (baseOf w) (count j m)) × (foldl (propagate (uses w) w) s (count k n) .work ≡ [])
   phases {b} k zero r j m s I e h p q =
       let y : j ≡ k = omega arith in
       let z : m ≡ r = omega arith in
@@ -285,11 +286,13 @@ module _ (w : List ℕ) (good : WellFormed w) where
   phases {b} k (suc n) (suc r) j m s I e h p q =
       let less : k < length (allocs w) = omega arith in
       let d = drain-step (suc (locals w)) (record { owner = s .owner; marks = s .marks; work = baseOf w k ∷ [] }) (begun w k I e less) less (omega (arith, zeros-most (s .owner), I .owner-length)) in
-      phases (suc k) n r j m (propagate w s k) (d .0) (d .1) (omega arith) (omega arith) (omega arith)
+      phases (suc k) n r j m (propagate (uses w) w s k) (d .0) (d .1) (omega arith) (omega arith) (omega arith)
 
   -- nothing is left of the work list
   pub source-after : rule12 w ≡ false → (n m : ℕ) → n + m ≡ length (allocs w) → (a : ℕ) × Inv w a (sourceAfter w n) (map (baseOf w) (count n m)) × (sourceAfter w n .work ≡ [])
-  source-after twelve n m h = phases 0 n (length (allocs w)) n m (start w) (started twelve) refl (omega arith) (omega arith) h
+  source-after twelve n m h =
+      subst (λ (s : State). (a : ℕ) × Inv w a s (map (baseOf w) (count n m)) × (s .work ≡ [])) (sym (after-same w good n))
+      (phases 0 n (length (allocs w)) n m (start w) (started twelve) refl (omega arith) (omega arith) h)
 
   pub source-ends : rule12 w ≡ false → (a : ℕ) × Inv w a (sourceState w) [] × (sourceState w .work ≡ [])
   source-ends twelve = source-after twelve (length (allocs w)) 0 (omega arith)

@@ -22,6 +22,7 @@ use Rattle.sir_analyses.specs.Propagation.{State, linkLocal, follow, sta
 use Rattle.sir_analyses.specs.Source.{followUse, pop, drain, propagate, sourceState}
 use Rattle.sir_analyses.proofs.SetLaws.{members-in, members-out}
 use Rattle.sir_analyses.proofs.Marks.{spread-sound, spread-base, spread-step, next-less, base-less}
+use Rattle.sir_analyses.proofs.SourceDiscovery.{after-same}
 use Rattle.sir_analyses.proofs.SourceSteps.{marksAt, follow-use, zeros-most, zeros-fewer, zeros-no-more, start-length}
 
 -- what the work list comes to from v, where o has the owners before: v itself, and what nobody had
@@ -207,12 +208,12 @@ module _ (w o : List ℕ) (v a : ℕ) where
   -- ---- the source's work list
 
   module _ (small : (u x : ℕ) → x ∈ next w u → x < locals w) where
-    drained : (m : ℕ) (s : State) → Taking (s .owner) (s .work) [] → zeros (s .owner) + length (s .work) ≤ m → Taking (drain m w a s .owner) [] []
+    drained : (m : ℕ) (s : State) → Taking (s .owner) (s .work) [] → zeros (s .owner) + length (s .work) ≤ m → Taking (drain (uses w) m w a s .owner) [] []
     drained zero s I h = let e : s .work ≡ [] = length-none (s .work) (omega arith) in rw e at I
     drained (suc m) s I h = go (s .work) refl (drained m)
       where
-        go : (vs : List ℕ) → s .work ≡ vs → ((t : State) → Taking (t .owner) (t .work) [] → zeros (t .owner) + length (t .work) ≤ m → Taking (drain m w a t .owner) [] [])
-            → Taking (pop (λ v t. drain m w a (foldl (followUse w a v) t (uses w v))) vs s .owner) [] []
+        go : (vs : List ℕ) → s .work ≡ vs → ((t : State) → Taking (t .owner) (t .work) [] → zeros (t .owner) + length (t .work) ≤ m → Taking (drain (uses w) m w a t .owner) [] [])
+            → Taking (pop (λ v t. drain (uses w) m w a (foldl (followUse w a v) t (uses w v))) vs s .owner) [] []
         go [] e f = rw e at I
         go (u ∷ vs) e f =
             let t : State = record { owner = s .owner; marks = s .marks; work = vs } in
@@ -297,19 +298,19 @@ module _ (w : List ℕ) (good : WellFormed w) where
             go (inr e) = absurd (not-in (bind-mem (next w) (members-in reached (e .1 .by) (onward-reached (e .1 .onward))) (e .1 .carries)))
 
     -- one turn of the source
-    turn : (marks : Set) (work : List ℕ) → propagate w (record { owner = o; marks = marks; work = work }) a .owner ≡ link w o a
+    turn : (marks : Set) (work : List ℕ) → propagate (uses w) w (record { owner = o; marks = marks; work = work }) a .owner ≡ link w o a
     turn marks work = turned (drained w o v a (next-less w good) (suc (locals w)) (record { owner = o; marks = marks; work = v ∷ [] }) first (omega (arith, zeros-most o)))
 
   pub link-length : (a : ℕ) (o : List ℕ) → length (link w o a) ≡ length o
   link-length a o = length-give o (nextOf w (spread w (unowned w o) (base w (allocAt w a)))) a
 
-  turns : (k m : ℕ) (s : State) → length (s .owner) ≡ locals w → k + m ≡ length (allocs w) → foldl (propagate w) s (count k m) .owner ≡ foldl (link w) (s .owner) (count k m)
+  turns : (k m : ℕ) (s : State) → length (s .owner) ≡ locals w → k + m ≡ length (allocs w) → foldl (propagate (uses w) w) s (count k m) .owner ≡ foldl (link w) (s .owner) (count k m)
   turns k zero s size h = refl
   turns k (suc m) s size h =
-      let e : propagate w s k .owner ≡ link w (s .owner) k = turn k (omega arith) (s .owner) size (s .marks) (s .work) in
-      turns (suc k) m (propagate w s k) (ap length e ∙ link-length k (s .owner) ∙ size) (omega arith)
+      let e : propagate (uses w) w s k .owner ≡ link w (s .owner) k = turn k (omega arith) (s .owner) size (s .marks) (s .work) in
+      turns (suc k) m (propagate (uses w) w s k) (ap length e ∙ link-length k (s .owner) ∙ size) (omega arith)
       ∙ ap (λ (o : List ℕ). foldl (link w) o (count (suc k) m)) e
 
   -- the source's owners are the owners
   pub source-owners : sourceState w .owner ≡ owners w
-  source-owners = turns 0 (length (allocs w)) (start w) (start-length w) (omega arith)
+  source-owners = ap (λ (s : State). s .owner) (after-same w good (length (allocs w))) ∙ turns 0 (length (allocs w)) (start w) (start-length w) (omega arith)

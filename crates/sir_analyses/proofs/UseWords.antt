@@ -142,7 +142,7 @@ block-next g rpo i h = ap (λ (l : List ℕ). bind l g) (drop-cons rpo i 0 h ∙
 pub block-end : (g : ℕ → List ℕ) (rpo : List ℕ) (i : ℕ) → length rpo ≤ i → bind (drop i rpo) g ≡ []
 block-end g rpo i h = ap (λ (l : List ℕ). bind l g) (drop-of-length-le rpo {i = i} h)
 
-bind-each : {B : Type 0} (g h : ℕ → List B) (xs : List ℕ) → ((x : ℕ) → x ∈ xs → g x ≡ h x) → bind xs g ≡ bind xs h
+pub bind-each : {B : Type 0} (g h : ℕ → List B) (xs : List ℕ) → ((x : ℕ) → x ∈ xs → g x ≡ h x) → bind xs g ≡ bind xs h
 bind-each g h [] e = refl
 bind-each g h (x ∷ xs) e = ap₂ (λ a b. a ++ b) (e x (List·Memᴰ·head refl)) (bind-each g h xs (λ y m. e y (List·Memᴰ·tail m)))
 

@@ -1,25 +1,35 @@
--- What is claimed of the answers beyond their definitions: that the order visits exactly what can be reached, that the sets are
--- the least solution of the equations, that an unvisited block has empty sets and no predecessors, that the round number counts passes
--- and is bounded, that marks follow the reach rule, and that the source's own steps come to the same marks, owners and intervals. The
--- claim on walks is in Walk. Definitions and statements only; each record is a claim on the payload words of an accepted image.
+-- What is claimed of the answers beyond their definitions: that the order visits exactly what can be reached, by the source's own
+-- recursion; that predecessors are exactly the edges; that the sets are the least solution of the equations; that an unvisited block has
+-- empty sets and no predecessors; that the round number counts passes and is bounded; that marks follow the reach rule; and that the
+-- source's own steps come to the same answers. The claim on walks is in Walk. Definitions and statements only; each record is a claim on
+-- the payload words of an accepted image.
 use mathlib.Core.Path.{_≡_}
 use mathlib.Core.Logic.{_↔_}
-use mathlib.Core.Bool.{true, false, not, _&&_, _||_}
+use mathlib.Core.Bool.{Bool, true, false, not, _&&_, _||_, cond}
 use Prim.Native.Nat.{ℕ, zero, suc, _+_, _≤_, _<_}
-use mathlib.Core.List.{List, [], map, List·Memᴰ}
+use mathlib.Core.List.{List, [], _∷_, map, List·Memᴰ}
 use lib.ListN.{length, getD}
-use lib.Dec.{eqb}
-use Rattle.plank_core.specs.Lists.{distinct, upto, sum, _∈_}
-use Rattle.sir_data.specs.Records.{blocks, locals, initFunction, mainPlusOne, entryBlock, ops, successors, callees}
-use Rattle.sir_analyses.specs.Order.{functionsRpo, blocksRpo, predecessors}
-use Rattle.sir_analyses.specs.Liveness.{Use, uses, Set, has, members, useSet, defSet, entryFrom, exitFrom, rowOf, noExits, pass, entrySet, exitSet, rounds}
-use Rattle.sir_analyses.specs.Allocation.{allocs, allocAt, base, carried, escapes, isReturned, reach, marked, owners, merged}
-use Rattle.sir_analyses.specs.Source.{sourceAfter, sourceState, sourceMarked, sourceIntervals}
+use lib.Dec.{eqb, leb}
+use Rattle.plank_core.specs.Lists.{foldl, bind, all, distinct, upto, sum, _∈_, mem}
+use Rattle.plank_core.specs.laws.Lists.{times}
+use Rattle.sir_data.specs.Records.{functions, blocks, locals, initFunction, mainPlusOne, entryBlock, ops, successors, callees}
+use Rattle.sir_analyses.specs.Order.{Visit, seeFunction, seeBlock, finishFunction, finishBlock, visitFunction, visitBlock, functionsRpo, blocksRpo, predecessors}
+use Rattle.sir_analyses.specs.Liveness.{Use, uses, Set, has, members, useSet, defSet, entryFrom, renamed, exitFrom, rowOf, noExits, pass, entrySet, exitSet, rounds, intervals}
+use Rattle.sir_analyses.specs.Allocation.{allocs, allocAt, base, carried, escapes, isReturned, reach, marked, bases, owners, merged}
+use Rattle.sir_analyses.specs.SourceUses.{sourcePredecessors, sourceUses}
+use Rattle.sir_analyses.specs.SourceLiveness.{sourceLive, sourceLocalIntervals}
+use Rattle.sir_analyses.specs.Source.{discovered, sourceAfter, sourceState, sourceMarked}
+use Rattle.sir_analyses.specs.SourceIntervals.{sourceIntervals}
 
 -- what is visited: a function or a block
 pub data Item : Type 0 where
   function : ℕ → Item
   block : ℕ → Item
+
+-- is no number of the list above a later one?
+abbrev pub ascending : List ℕ → Bool
+ascending [] = true
+ascending (x ∷ xs) = all (leb x) xs && ascending xs
 
 module _ (w : List ℕ) where
   -- ---- order
@@ -32,12 +42,30 @@ module _ (w : List ℕ) where
     successor : {b s : ℕ} → Visited (block b) → s ∈ successors w b → Visited (block s)
     callee : {b o f : ℕ} → Visited (block b) → o ∈ ops w b → f ∈ callees w o → Visited (function f)
 
+  -- the depth that the order is given
+  abbrev pub depth : ℕ
+  depth = functions w + blocks w
+
   -- the order: every visited function and block, each once, and no other
   pub record OrderRule : Type 0 where
     pub blocks-exact : (b : ℕ) → b ∈ blocksRpo w ↔ Visited (block b)
     pub functions-exact : (f : ℕ) → f ∈ functionsRpo w ↔ Visited (function f)
     pub blocks-once : distinct (blocksRpo w) ≡ true
     pub functions-once : distinct (functionsRpo w) ≡ true
+    -- its depth cuts nothing off, whatever was seen before: each visit is the source's own text, whose recursion has no bound
+    pub visit-function : (f : ℕ) (v : Visit) → f < functions w
+        → visitFunction depth w f v ≡ cond (mem f (v .seenFunctions)) v (finishFunction (visitBlock depth w f (entryBlock w f) (seeFunction v f)) f)
+    pub visit-block : (f b : ℕ) (v : Visit) → b < blocks w
+        → visitBlock depth w f b v ≡ cond (mem b (v .seenBlocks)) v
+        (finishBlock
+        (foldl (λ u s. visitBlock depth w f s u)
+        (foldl (λ u g. visitFunction depth w g u) (seeBlock v b) (bind (ops w b) (callees w)))
+        (successors w b))
+        f b)
+    -- the predecessors of b: each visited block as often as it has b for a successor, no other block, ids ascending
+    pub edges-exact : (p b : ℕ) → Visited (block p) → times p (predecessors w b) ≡ times b (successors w p)
+    pub edges-only : (p b : ℕ) → ¬ Visited (block p) → times p (predecessors w b) ≡ 0
+    pub edges-ascending : (b : ℕ) → ascending (predecessors w b) ≡ true
     -- an unvisited block has no predecessors
     pub unvisited : (b : ℕ) → ¬ Visited (block b) → predecessors w b ≡ []
 
@@ -52,6 +80,19 @@ module _ (w : List ℕ) where
     pub solution : Solves x
     pub least : (y : ℕ → Set) → Solves y → (b v : ℕ) → Visited (block b) → has (x b) v ≡ true → has (y b) v ≡ true
 
+  -- v is live at the exit of b from the entry sets: some successor has a local live at its entry that is called v at the exit of b
+  pub record LiveOut (entry : ℕ → Set) (b v : ℕ) : Type 0 where
+    pub to : ℕ
+    pub local : ℕ
+    pub follows : to ∈ successors w b
+    pub live : has (entry to) local ≡ true
+    pub called : renamed w b to local ≡ v
+
+  -- the two equations of the Dragon Book, member by member: entry = use ∪ (exit − def), and exit is what the successors' entries pass on
+  pub record Equations (entry exit : ℕ → Set) : Type 0 where
+    pub entry-is : (b v : ℕ) → Visited (block b) → has (entry b) v ≡ (has (useSet w b) v || (has (exit b) v && not (has (defSet w b) v)))
+    pub exit-is : (b v : ℕ) → Visited (block b) → (has (exit b) v ≡ true) ↔ LiveOut entry b v
+
   -- the exit sets after n passes; the first pass starts from empty sets
   abbrev pub after : ℕ → List Set
   after zero = noExits w
@@ -61,6 +102,12 @@ module _ (w : List ℕ) where
   pub record LivenessRule : Type 0 where
     pub exits : Least (exitSet w)
     pub entries : (b : ℕ) → Visited (block b) → entrySet w b ≡ entryFrom w b (exitSet w b)
+    -- so that the entry sets are least too: every other solution has all their members at its entries
+    pub least-entries : (y : ℕ → Set) → Solves y → (b v : ℕ) → Visited (block b) → has (entrySet w b) v ≡ true → has (entryFrom w b (y b)) v ≡ true
+    -- in one: the pair of both is the least solution of the two equations
+    pub equations : Equations (entrySet w) (exitSet w)
+    pub least-pair : (y z : ℕ → Set) → Equations y z → (b v : ℕ) → Visited (block b)
+        → (has (entrySet w b) v ≡ true → has (y b) v ≡ true) × (has (exitSet w b) v ≡ true → has (z b) v ≡ true)
     -- an exit set has a place for each local
     pub sized : (b : ℕ) → Visited (block b) → length (exitSet w b) ≡ locals w
     -- the equations are those of the Dragon Book, whatever the exit set: entry = use ∪ (exit − def)
@@ -95,10 +142,22 @@ module _ (w : List ℕ) where
     pub reach-exact : (a v : ℕ) → a < length (allocs w) → (has (reach w (allocAt w a)) v ≡ true) ↔ Reached a v
     pub mark-exact : (a : ℕ) → a < length (allocs w) → (marked w a ≡ true) ↔ Marked a
 
-  -- ---- the source's own marks, owners and owned locals
+  -- ---- the source's own steps
 
-  -- the source's own steps (Source) come to the marks, owners and merged intervals of the definitions
+  -- the source's own steps come to the predecessors, uses, sets, intervals, allocations, marks, owners and merged intervals of the
+  -- definitions: SourceUses, SourceLiveness, Source and SourceIntervals have them line by line. The order's definition is the source's text
   pub record SourceRule : Type 0 where
+    pub predecessors-same : (b : ℕ) → b < blocks w → sourcePredecessors w b ≡ predecessors w b
+    pub uses-same : (v : ℕ) → sourceUses w v ≡ uses w v
+    -- its `while` ends by itself: the bound in `sourceLive` cuts nothing off
+    pub unchanged : sourceLive w .changed ≡ false
+    pub exits-same : (b : ℕ) → rowOf (sourceLive w .exits) b ≡ exitSet w b
+    pub entries-same : (b : ℕ) → members (rowOf (sourceLive w .entries) b) ≡ members (entrySet w b)
+    pub local-intervals-same : (v : ℕ) → v < locals w → sourceLocalIntervals w v ≡ intervals w v
+    -- the allocations that it finds, and every base for its own; its assertion holds
+    pub allocations-same : discovered w .allocations ≡ allocs w
+    pub bases-same : discovered w .owner ≡ bases w
+    pub asserted : discovered w .failed ≡ false
     -- behind each allocation its work list is empty: the bound in `drain` cuts nothing off
     pub drained : (n : ℕ) → n ≤ length (allocs w) → sourceAfter w n .work ≡ []
     pub marks : (a : ℕ) → a < length (allocs w) → sourceMarked w a ≡ marked w a

@@ -10,9 +10,12 @@ use Rattle.plank_core.specs.Lists.{all, bind, oneIf, _∈_}
 use Rattle.sir_data.specs.Pages.{pageWord, checkOf, payload, bytesOf}
 use Rattle.sir_data.specs.Records.{blocks, ins}
 use Rattle.sir_data.specs.Rules.{first, recordRules, rule4, rule5, rule6, rule7, rule8, rule9, rule10, rule11}
-use Rattle.sir_analyses.specs.Liveness.{Interval, blockEnd}
+use Rattle.sir_analyses.specs.Liveness.{has, Interval, blockEnd}
 use Rattle.sir_analyses.specs.Allocation.{rule12, sort, merge, marked}
-use Rattle.sir_analyses.specs.Source.{sourceState, sourceMarked, sourceIntervals}
+use Rattle.sir_analyses.specs.SourceUses.{sourcePredecessors, sourceUses}
+use Rattle.sir_analyses.specs.SourceLiveness.{sourceLive, sourceLocalIntervals}
+use Rattle.sir_analyses.specs.Source.{sourceState, sourceMarked}
+use Rattle.sir_analyses.specs.SourceIntervals.{mergeIntervals, sourceIntervals}
 use Rattle.sir_analyses.specs.Answers.{orderAnswer, predecessorsAnswer, entryAnswer, exitAnswer, usesAnswer, intervalsAnswer, intervalWords, allocationAnswer, ownerAnswer, roundsAnswer}
 use Rattle.sir_analyses.specs.Calls.{Outcome, asked, noRules, known, inWords}
 use Rattle.sir_analyses.specs.Walk.{Event, op, edge, Walk, enter, step, follow, Holds, given, kept, moved, Executed, now, before}
@@ -202,7 +205,7 @@ abbrev outcomeWords : Outcome → List ℕ
 outcomeWords o = o .number ∷ o .len ∷ o .result
 
 -- each row: what is computed, and what it must be. So says document 01, but for the rows on predecessors, v3, uses, owner of v2 and
--- outcomes of `report`, and those on `looping`, which are our own
+-- outcomes of `report`, those on `looping`, and those by the source's own steps, which are our own
 abbrev table : List (List ℕ × List ℕ)
 table =
     -- rules 4 to 12 refuse none of the images
@@ -268,6 +271,16 @@ table =
     -- stopping after one pass of a loop
     ∷ (roundsAnswer looping, 3 ∷ [])
     ∷ (exitAnswer looping 1, 1 ∷ [])
+    -- and so by the source's own steps: its tables, its `while`, its scan of a block for all locals, its merging in place
+    ∷ (sourcePredecessors looping 1, 0 ∷ 2 ∷ [])
+    ∷ (sourcePredecessors (branching 1 1) 1, 0 ∷ 0 ∷ [])
+    ∷ (bind (sourceUses looping 1) (λ u. u .block ∷ u .kind ∷ u .place ∷ []), 1 ∷ 0 ∷ 1 ∷ 1 ∷ 2 ∷ 0 ∷ [])
+    ∷ (map (λ e. oneIf (has e 1)) (sourceLive looping .exits), 0 ∷ 1 ∷ 0 ∷ 0 ∷ [])
+    ∷ (map (λ e. oneIf (has e 1)) (sourceLive looping .entries), 0 ∷ 1 ∷ 0 ∷ 0 ∷ [])
+    ∷ (oneIf (sourceLive looping .changed) ∷ [], 0 ∷ [])
+    ∷ (intervalWords (sourceLocalIntervals looping 1), 1 ∷ 0 ∷ blockEnd ∷ [])
+    ∷ (intervalWords (sourceLocalIntervals looping 2), 1 ∷ 2 ∷ blockEnd ∷ [])
+    ∷ (intervalWords (mergeIntervals (interval 1 0 2 ∷ interval 0 3 5 ∷ interval 0 7 8 ∷ interval 0 1 3 ∷ interval 0 8 blockEnd ∷ [])), 0 ∷ 1 ∷ 5 ∷ 0 ∷ 7 ∷ blockEnd ∷ 1 ∷ 0 ∷ 2 ∷ [])
     ∷ (intervalWords (sourceIntervals looping 0), 0 ∷ 1 ∷ blockEnd ∷ 1 ∷ 0 ∷ blockEnd ∷ 2 ∷ 0 ∷ blockEnd ∷ [])
     ∷ (allocationAnswer looping 0, 0 ∷ 0 ∷ 0 ∷ 0 ∷ 32 ∷ 0 ∷ 0 ∷ 3 ∷ 0 ∷ 1 ∷ blockEnd ∷ 1 ∷ 0 ∷ blockEnd ∷ 2 ∷ 0 ∷ blockEnd ∷ [])
     ∷ []

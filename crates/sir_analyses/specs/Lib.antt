@@ -8,7 +8,10 @@ pub mod Allocation
 pub mod Bases
 pub mod Pointers
 pub mod Propagation
+pub mod SourceUses
+pub mod SourceLiveness
 pub mod Source
+pub mod SourceIntervals
 pub mod Kinds
 pub mod Discovery
 pub mod Answers
