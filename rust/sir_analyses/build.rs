@@ -5,9 +5,6 @@
 use std::env;
 use std::path::PathBuf;
 
-/// What the library may be called: the first that is there is linked.
-const NAMES: [&str; 2] = ["sir_capi", "sir_analyses"];
-
 fn main() {
     println!("cargo::rustc-check-cfg=cfg(sir_linked)");
     println!("cargo::rerun-if-env-changed=SIR_ANALYSES_LIB");
@@ -15,16 +12,14 @@ fn main() {
     let repository = package.ancestors().nth(2).expect("the crate stands in the folder rust of the repository");
     let folder = env::var_os("SIR_ANALYSES_LIB").unwrap_or_else(|| "target/staticlib".into());
     let folder = repository.join(folder);
-    let library = |name: &str| folder.join(format!("lib{name}.a"));
-    for name in NAMES {
-        println!("cargo::rerun-if-changed={}", library(name).display());
-    }
-    let Some(name) = NAMES.into_iter().find(|name| library(name).is_file()) else {
-        println!("cargo::warning=no library in {}: built without it (run rt staticlib sir_capi)", folder.display());
+    let library = folder.join("libsir_capi.a");
+    println!("cargo::rerun-if-changed={}", library.display());
+    if !library.is_file() {
+        println!("cargo::warning=no {}: built without it (run rt staticlib sir_capi)", library.display());
         return;
-    };
+    }
     println!("cargo::rustc-cfg=sir_linked");
-    println!("cargo::rustc-env=SIR_LIBRARY={}", library(name).display());
+    println!("cargo::rustc-env=SIR_LIBRARY={}", library.display());
     println!("cargo::rustc-link-search=native={}", folder.display());
-    println!("cargo::rustc-link-lib=static={name}");
+    println!("cargo::rustc-link-lib=static=sir_capi");
 }

@@ -1,14 +1,14 @@
 // Puts recorded questions by their numbers: every exported function is called here and nowhere else in this program.
 use sir_analyses::answers::Answer;
-use sir_analyses::questions::sir_allocation;
-use sir_analyses::questions::sir_entry_set;
-use sir_analyses::questions::sir_exit_set;
-use sir_analyses::questions::sir_intervals;
-use sir_analyses::questions::sir_order;
-use sir_analyses::questions::sir_owner;
-use sir_analyses::questions::sir_predecessors;
-use sir_analyses::questions::sir_rounds;
-use sir_analyses::questions::sir_uses;
+use sir_capi::sir_allocation;
+use sir_capi::sir_entry_set;
+use sir_capi::sir_exit_set;
+use sir_capi::sir_intervals;
+use sir_capi::sir_order;
+use sir_capi::sir_owner;
+use sir_capi::sir_predecessors;
+use sir_capi::sir_rounds;
+use sir_capi::sir_uses;
 use sir_data::pages::word_at;
 
 // What an unknown question gives, or one with another number of ids: a length that no file can state, so that it differs.
