@@ -10,8 +10,7 @@ use Prim.Native.Nat.{ℕ, zero, suc, _+_, _≤_, _<_}
 use mathlib.Core.List.{List, [], _∷_, map, List·Memᴰ}
 use lib.ListN.{length, getD}
 use lib.Dec.{eqb, leb}
-use Rattle.plank_core.specs.Lists.{foldl, bind, all, distinct, upto, sum, _∈_, mem}
-use Rattle.plank_core.specs.laws.Lists.{times}
+use Rattle.plank_core.specs.Lists.{foldl, bind, all, distinct, upto, sum, _∈_, mem, times}
 use Rattle.sir_data.specs.Records.{functions, blocks, locals, initFunction, mainPlusOne, entryBlock, ops, successors, callees}
 use Rattle.sir_analyses.specs.Order.{Visit, seeFunction, seeBlock, finishFunction, finishBlock, visitFunction, visitBlock, functionsRpo, blocksRpo, predecessors}
 use Rattle.sir_analyses.specs.Liveness.{Use, uses, Set, has, members, useSet, defSet, entryFrom, renamed, exitFrom, rowOf, noExits, pass, entrySet, exitSet, rounds, intervals}
