@@ -1,20 +1,21 @@
 -- The source's `compute_liveness` ends by itself, with the exit sets of the passes and the entry sets of the equations.
 use mathlib.Core.Path.{_≡_, refl, sym, ap, _∙_, subst, fun-ext}
 use mathlib.Core.Logic.{⊎-elim, _⊎_, inl, inr}
-use mathlib.Core.Bool.{Bool, true, false, not, _&&_, _||_, cond, Bool·beq, or-false}
+use mathlib.Core.Bool.{Bool, true, false, not, _||_, cond, or-false}
 use Prim.Native.Nat.{ℕ, zero, suc, _+_, _*_, _≤_, _<_}
 use native.Mathlib.Omega.{arith}
-use mathlib.Core.List.{List, [], _∷_, map, reverse, List·Memᴰ, List·Memᴰ·head, List·Memᴰ·tail, List·Memᴰ·not-nil, List·Memᴰ·cases-cons}
-use lib.ListN.{length, getD, set, length-set, length-replicate, List·getD-eq-default}
+use mathlib.Core.List.{List, [], _∷_, _++_, map, reverse, reverse-append, reverse-cons, List·Memᴰ, List·Memᴰ·head, List·Memᴰ·tail, List·Memᴰ·not-nil, List·Memᴰ·cases-cons}
+use lib.ListN.{length, getD, set, length-set, List·getD-eq-default}
 use lib.Seq.{getD-set-same, set-getD, set-set}
 use lib.Dec.{eqb}
 use borrow.Author.Tests.{eqb-true, eq-eqb}
-use Rattle.plank_core.specs.Lists.{foldl, mem, _∈_}
+use Rattle.plank_core.specs.Lists.{foldl, bind, mem, _∈_}
 use Rattle.plank_core.specs.laws.Lists.{or-true-left, or-cases, bool-or, none, refuted, no-members, reverse-mem, reverse-out, getD-any, mem-in, in-mem}
+use Rattle.plank_core.specs.laws.Loops.{bind-snoc}
 use Rattle.sir_data.specs.Records.{blocks, locals, inputs, outputs}
 use Rattle.sir_data.specs.WellFormed.{WellFormed}
-use Rattle.sir_analyses.specs.Order.{blocksRpo, isVisited, predecessors}
-use Rattle.sir_analyses.specs.Liveness.{Set, has, addAll, members, entryFrom, indexOf, renamed, rowOf, back, pass, sameSet, sameRows, settle, settled, noExits, exitSet, entrySet}
+use Rattle.sir_analyses.specs.Order.{functionsRpo, functionBlocks, blocksRpo, isVisited, predecessors}
+use Rattle.sir_analyses.specs.Liveness.{Set, has, addAll, members, entryFrom, indexOf, renamed, rowOf, back, pass, sameSet, sameRows, settle, noExits, exitSet, entrySet}
 use Rattle.sir_analyses.specs.SourceUses.{sourcePredecessors}
 use Rattle.sir_analyses.specs.SourceLiveness.{Live, insertExit, propagated, propagateLive, liveBlock, livePass, liveLoop, sourceLive}
 use Rattle.sir_analyses.proofs.OrderProof.{blocks-seen, blocks-below}
@@ -54,6 +55,12 @@ same-rows-refl (s ∷ e) = rw (same-set-refl s) (same-rows-refl e)
 fold-as : {A C : Type 0} (F G : C → A → C) (xs : List A) → ((c : C) (x : A) → List·Memᴰ x xs → F c x ≡ G c x) → (c : C) → foldl F c xs ≡ foldl G c xs
 fold-as F G [] h c = refl
 fold-as F G (x ∷ xs) h c = ap (λ d. foldl F d xs) (h c x (List·Memᴰ·head refl)) ∙ fold-as F G xs (λ d y m. h d y (List·Memᴰ·tail m)) (G c x)
+
+reverse-bind : {A B : Type 0} (g : A → List B) (xs : List A) → reverse (bind xs g) ≡ bind (reverse xs) (λ x. reverse (g x))
+reverse-bind g [] = refl
+reverse-bind {A} {B} g (x ∷ xs) =
+    reverse-append (g x) (bind xs g) ∙ ap (λ (l : List B). l ++ reverse (g x)) (reverse-bind g xs)
+    ∙ sym (bind-snoc (λ x. reverse (g x)) (reverse xs) x) ∙ ap (λ (l : List A). bind l (λ x. reverse (g x))) (sym (reverse-cons x xs))
 
 -- ---- inserting
 
@@ -285,11 +292,17 @@ module _ (w : List ℕ) (good : WellFormed w) where
                 ∙ row-other (s .entries) b a entry (λ q. n (List·Memᴰ·head q));
           }
 
+  -- a pass begins with nothing changed
+  abbrev begun : Live → Live
+  begun s = record { entries = s .entries; exits = s .exits; changed = false }
+
   pass-done : (s : Live) → length (s .entries) ≡ blocks w → Shape (blocks w) (locals w) (s .exits)
-      → Done (s .exits) (reverse (blocksRpo w)) (record { entries = s .entries; exits = s .exits; changed = false }) (livePass w s)
+      → Done (s .exits) (reverse (blocksRpo w)) (begun s) (livePass w s)
   pass-done s tall h =
-      blocks-done (s .exits) (reverse (blocksRpo w)) (record { entries = s .entries; exits = s .exits; changed = false }) (λ b m. reverse-out (blocksRpo w) m) tall
-      (record { shape = h; told = inl (refl, refl) })
+      subst (λ (bs : List ℕ). Done (s .exits) (reverse (blocksRpo w)) (begun s) (foldl (liveBlock w) (begun s) bs))
+      (reverse-bind (functionBlocks w) (functionsRpo w))
+      (blocks-done (s .exits) (reverse (blocksRpo w)) (begun s) (λ b m. reverse-out (blocksRpo w) m) tall
+      (record { shape = h; told = inl (refl, refl) }))
 
   -- how the `while` ends, from the exits that the passes have come to
   record Settles (n k : ℕ) (e : List Set) (t : Live) : Type 0 where
@@ -319,7 +332,7 @@ module _ (w : List ℕ) (good : WellFormed w) where
       e : List Set
       e = s .exits
 
-      go : Done e (reverse (blocksRpo w)) (record { entries = s .entries; exits = e; changed = false }) next
+      go : Done e (reverse (blocksRpo w)) (begun s) next
           → (next .changed ≡ true → length (next .entries) ≡ blocks w → Shape (blocks w) (locals w) (next .exits) → suc k ≤ total (next .exits) → blocks w * locals w < n + suc k
           → ((b : ℕ) → ¬ (b ∈ blocksRpo w) → rowOf (next .entries) b ≡ rowOf (noExits w) b) → Settles n (suc k) (next .exits) (liveLoop n w next))
           → Settles (suc n) k e (liveLoop n w next)

@@ -2,7 +2,7 @@
 use mathlib.Core.Path.{_≡_, refl, sym, ap, _∙_, subst}
 use mathlib.Core.Logic.{_≢_}
 use mathlib.Core.Bool.{Bool, true, false, _&&_, _||_, cond}
-use Prim.Native.Nat.{ℕ, zero, suc, _≤_, _<_}
+use Prim.Native.Nat.{ℕ, suc, _<_}
 use native.Mathlib.Omega.{arith}
 use mathlib.Core.List.{List, [], _∷_, _++_, foldr, reverse, reverseAux, append-nil, append-assoc}
 use lib.ListN.{length, getD, set, replicate, length-set, length-replicate, getD-replicate}
@@ -18,7 +18,6 @@ use Rattle.sir_analyses.specs.Liveness.{Set, has, members, endReads, row
 use Rattle.sir_analyses.specs.SourceUses.{push}
 use Rattle.sir_analyses.specs.SourceLiveness.{Ends, endAtBlockEnd, removeEnd, endAtOperation, intervalsAtOp, intervalsAtBlock, sourceLive, sourceLocalIntervals}
 use Rattle.sir_analyses.proofs.SetLaws.{members-in, members-out}
-use Rattle.sir_analyses.proofs.FlowLaws.{row-split}
 use Rattle.sir_analyses.proofs.SourceTables.{listOf, push-list, push-tall}
 
 -- a loop backwards
