@@ -64,6 +64,16 @@ reverse-bind {A} {B} g (x ∷ xs) =
 
 -- ---- inserting
 
+-- what some locals give the exit of p
+pub inserts-exits : (p : ℕ) (g : ℕ → ℕ) (vs : List ℕ) (s : Live) → p < length (s .exits)
+    → foldl (λ u v. insertExit p u (g v)) s vs .exits ≡ set (s .exits) p (addAll (rowOf (s .exits) p) (map g vs))
+inserts-exits p g [] s l = sym (set-getD (s .exits) p [])
+inserts-exits p g (v ∷ vs) s l =
+    let x = s .exits in
+    let r = set (rowOf x p) (g v) true in
+    inserts-exits p g vs (insertExit p s (g v)) (subst (λ (n : ℕ). p < n) (sym (length-set x p r)) l)
+    ∙ set-set x p r (addAll (rowOf (set x p r) p) (map g vs)) ∙ ap (λ (y : Set). set x p (addAll y (map g vs))) (getD-set-same x p r [] l)
+
 -- `changed` tells whether the exits have more members than e
 abbrev Told : List Set → Live → Type 0
 Told e s = ((s .changed ≡ false) × (s .exits ≡ e)) ⊎ ((s .changed ≡ true) × (total e < total (s .exits)))
@@ -134,15 +144,6 @@ module _ (B L : ℕ) where
       sent-then e s t (foldl (λ u v. insertExit p u (g v)) t vs)
       (record { from = k; entries-kept = refl; stays = λ c. or-true-left (s .changed) (not (has (rowOf (s .exits) p) (g v))) c })
       (inserts-sent e p g vs t l (λ u m. h u (List·Memᴰ·tail m)) k)
-
-  inserts-exits : (p : ℕ) (g : ℕ → ℕ) (vs : List ℕ) (s : Live) → p < length (s .exits)
-      → foldl (λ u v. insertExit p u (g v)) s vs .exits ≡ set (s .exits) p (addAll (rowOf (s .exits) p) (map g vs))
-  inserts-exits p g [] s l = sym (set-getD (s .exits) p [])
-  inserts-exits p g (v ∷ vs) s l =
-      let x = s .exits in
-      let r = set (rowOf x p) (g v) true in
-      inserts-exits p g vs (insertExit p s (g v)) (subst (λ (n : ℕ). p < n) (sym (length-set x p r)) l)
-      ∙ set-set x p r (addAll (rowOf (set x p r) p) (map g vs)) ∙ ap (λ (y : Set). set x p (addAll y (map g vs))) (getD-set-same x p r [] l)
 
   -- to all predecessors
   module _ (e : List Set) (g : ℕ → ℕ → ℕ) (vs : List ℕ) where

@@ -1,5 +1,6 @@
 -- Live sets and intervals of locals as the source makes them: `compute_liveness` and `compute_intervals` of local_liveness.rs. The numbers
--- are its lines. A `HashSet` is a set with a place for each local; where the source takes its members in any order, they go by id.
+-- are its lines. A `HashSet` is a set with a place for each local, and a `HashMap` a list with an entry for each; where the source takes
+-- the members of one in any order, they go by id here, and `SourceRule` says that their order does not matter.
 use mathlib.Core.Bool.{Bool, true, false, not, _||_, cond}
 use Prim.Native.Nat.{ℕ, zero, suc, _+_, _*_}
 use mathlib.Core.List.{List, [], _∷_, reverse}
