@@ -1,15 +1,19 @@
 -- Allocations as numbers, block by block and read back, and their bases.
 use mathlib.Core.Path.{_≡_, refl, sym, ap, ap₂, subst, _∙_}
-use mathlib.Core.Bool.{true, false, not, Bool·not-not}
+use mathlib.Core.Bool.{Bool, true, false, not, Bool·not-not}
 use mathlib.Core.List.{List, [], _∷_, _++_, map}
 use Prim.Native.Nat.{ℕ, suc, _+_, _*_, _/_, _%_, _≤_, _<_}
 use native.Mathlib.Omega.{arith}
 use native.Mathlib.Numerals.{add-one}
+use borrow.Author.Tests.{not-true, not-false}
 use lib.ListN.{length, getD, drop, set, replicate, length-set, length-replicate, length-map, List·getD-map}
 use Rattle.plank_core.specs.Lists.{foldl, range, bind, keep, upto, distinct, _∈_}
-use Rattle.plank_core.specs.laws.Lists.{map-each, foldl-keeps, mem-place}
+use Rattle.plank_core.specs.laws.Lists.{map-each, foldl-keeps, mem-place, getD-any}
 use Rattle.plank_core.specs.laws.Loops.{upto-suc, range-next, range-none, map-append}
-use Rattle.sir_data.specs.Records.{operations, locals, blockWord, ops, code}
+use Rattle.plank_core.specs.DenseIndexSet.{contains, wordOf, setOf, emptySet, added, fresh}
+use Rattle.plank_core.specs.laws.Distinct.{fresh-all, fresh-step, fresh-stop, fresh-end}
+use Rattle.plank_core.specs.laws.DenseIndexSet.{length-added}
+use Rattle.sir_data.specs.Records.{operations, locals, blockWord, ops, code, outs}
 use Rattle.sir_data.specs.Codes.{isAlloc}
 use Rattle.sir_data.specs.WellFormed.{WellFormed}
 use Rattle.sir_analyses.specs.Order.{blocksRpo}
@@ -97,6 +101,68 @@ module _ (w : List ℕ) (good : WellFormed w) where
   keys-most r =
       let d : distinct (map (base w) (allocs w)) ≡ true = sym (Bool·not-not (distinct (map (base w) (allocs w)))) ∙ ap not r in
       omega (arith, length-map (allocs w) (base w), distinct-few (locals w) (map (base w) (allocs w)) d base-listed, good .sized .locals-most)
+
+-- ---- rule 12, allocation by allocation
+
+-- the bases of all allocations, in turn
+abbrev pub allBases : List ℕ → List ℕ
+allBases w = map (base w) (allocs w)
+
+module _ (w : List ℕ) (good : WellFormed w) where
+  pub bases-start : fresh (replicate 8 0) (allBases w) ≡ not (rule12 w)
+  unfolding emptySet setOf wordOf
+  bases-start = fresh-all (allBases w) ∙ sym (Bool·not-not (distinct (allBases w)))
+
+  -- more of them than there can be bases
+  pub keys-over : 512 < length (allocKeys w) → rule12 w ≡ true
+  keys-over h = go (rule12 w) refl
+    where
+      go : (t : Bool) → rule12 w ≡ t → t ≡ true
+      go true e = refl
+      go false e = absurd (omega (arith, keys-most w good e, keys-long w))
+
+  pub base-small : (v : ℕ) → v ∈ allBases w → v < 512
+  base-small v m = omega (arith, base-listed w good v m, good .sized .locals-most)
+
+-- in these bases are those of the first a allocations; those of the others decide
+pub record Deciding (w bases : List ℕ) (a : ℕ) : Type 0 where
+  pub long : length bases ≡ 8
+  pub left : fresh bases (drop a (allBases w)) ≡ not (rule12 w)
+
+module _ (w : List ℕ) (good : WellFormed w) {keys : List ℕ} (e : keys ≡ allocKeys w) {a : ℕ} (h : a < length keys) where
+  known : a < length (allocs w)
+  known = omega (arith, ap length e, keys-long w)
+
+  pub key-known : (getD keys a 0 % 1024 < operations w) × (isAlloc (code w (getD keys a 0 % 1024)) ≡ true)
+  key-known =
+      let q : getD keys a 0 % 1024 ≡ allocAt w a .op = ap (λ (l : List ℕ). getD l a 0 % 1024) e ∙ key-op w good a known in
+      subst (λ (o : ℕ). (o < operations w) × (isAlloc (code w o) ≡ true)) (sym q) (alloc-op w good a known)
+
+  -- the base of allocation a, read from its key
+  base-at : getD (outs w (getD keys a 0 % 1024)) 0 0 ≡ getD (allBases w) a 0
+  base-at =
+      ap (λ (l : List ℕ). getD (outs w (getD l a 0 % 1024)) 0 0) e
+      ∙ rw (key-op w good a known) (sym (getD-any (allBases w) a 0 (base w noAlloc) (omega (arith, known, length-map (allocs w) (base w))) ∙ List·getD-map (base w) (allocs w) a noAlloc))
+
+  module _ {v : ℕ} (q : v ≡ getD (outs w (getD keys a 0 % 1024)) 0 0) {bases : List ℕ} (k : Deciding w bases a) where
+    is-base : v ≡ getD (allBases w) a 0
+    is-base = q ∙ base-at
+
+    listed : a < length (allBases w)
+    listed = omega (arith, known, length-map (allocs w) (base w))
+
+    pub deciding-next : contains bases v ≡ false → Deciding w (added bases v) (a + 1)
+    deciding-next t = record {
+      long = length-added bases v ∙ k .long;
+      left = rw is-base (fresh-step bases a (allBases w) listed (λ u m. omega (arith, base-small w good u m, k .long)) (ap (contains bases) (sym is-base) ∙ t) ∙ k .left);
+    }
+
+    pub deciding-stop : contains bases v ≡ true → rule12 w ≡ true
+    deciding-stop t = not-false (rule12 w) (sym (k .left) ∙ fresh-stop bases a (allBases w) listed (ap (contains bases) (sym is-base) ∙ t))
+
+pub deciding-all : (w : List ℕ) {keys bases : List ℕ} {a : ℕ} → keys ≡ allocKeys w → length keys ≤ a → Deciding w bases a → rule12 w ≡ false
+deciding-all w {keys} {bases} {a} e h k =
+    not-true (rule12 w) (sym (k .left) ∙ fresh-end bases a (allBases w) (omega (arith, ap length e, keys-long w, length-map (allocs w) (base w))))
 
 -- ---- every base for its own
 

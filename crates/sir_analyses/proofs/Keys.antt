@@ -19,6 +19,7 @@ use Rattle.sir_analyses.specs.Claims.{function}
 use Rattle.sir_analyses.proofs.OrderLaws.{seen}
 use Rattle.sir_analyses.proofs.OrderProof.{blocks-times, functions-times, blocks-below, functions-below}
 use Rattle.sir_analyses.specs.Answers.{orderAnswer}
+use Rattle.sir_analyses.specs.Discovery.{Capped}
 use Rattle.sir_analyses.specs.Visiting.{Shows, keyedBlock, keyedFunction, blockOf, blocksOf, functionOf, blocksIn, entryOf, orderIn, Listed}
 
 -- ---- a list under way
@@ -40,12 +41,15 @@ module _ {full : List ℕ} {at : ℕ} {old : List ℕ} where
   pub listing-room : {x : ℕ} {rest new : List ℕ} {m : ℕ} → at + length full ≤ length old → Listing full at old (x ∷ rest) new m → m < length new
   listing-room h k = omega (arith, k .count, k .long)
 
-  pub listing-one : {x : ℕ} {rest new : List ℕ} {m : ℕ} → at + length full ≤ length old → Listing full at old (x ∷ rest) new m → Listing full at old rest (set new m x) (m + 1)
-  listing-one {x} {rest} {new} {m} h k = record {
+  pub listing-put : {x : ℕ} {rest new : List ℕ} {m : ℕ} → m < length new → Listing full at old (x ∷ rest) new m → Listing full at old rest (set new m x) (m + 1)
+  listing-put {x} {rest} {new} {m} h k = record {
     count = omega (arith, k .count);
-    list = rw (add-one, take-suc-set new m x (listing-room h k), append-assoc) (k .list);
+    list = rw (add-one, take-suc-set new m x h, append-assoc) (k .list);
     long = length-set new m x ∙ k .long;
   }
+
+  pub listing-one : {x : ℕ} {rest new : List ℕ} {m : ℕ} → at + length full ≤ length old → Listing full at old (x ∷ rest) new m → Listing full at old rest (set new m x) (m + 1)
+  listing-one h k = listing-put (listing-room h k) k
 
   -- there is room for the next ones
   pub listing-fits : (xs rest : List ℕ) {new : List ℕ} {m : ℕ} → at + length full ≤ length old → Listing full at old (xs ++ rest) new m → m + length xs ≤ length new
@@ -64,6 +68,41 @@ module _ {full : List ℕ} {at : ℕ} {old : List ℕ} where
     list = sym (append-nil (take m new)) ∙ ap (λ (l : List ℕ). take m new ++ l) (sym e) ∙ k .list;
     long = k .long;
   }
+
+-- ---- a list that may not fit
+
+module _ {full : List ℕ} {at : ℕ} {old : List ℕ} where
+  -- it was listed to its end
+  pub capped-all : {new : List ℕ} {m : ℕ} → m ≤ length new → Listed full at old new m → Capped full at old new m
+  capped-all h k = record { fits = λ f. k; over = λ o. absurd (omega (arith, k .next, k .long)); long = k .long }
+
+  -- there is no room for the next one
+  pub capped-stop : {x : ℕ} {rest new : List ℕ} {m r : ℕ} → length new ≤ m → length new < r → Listing full at old (x ∷ rest) new m → Capped full at old new r
+  capped-stop h l k = record { fits = λ f. absurd (omega (arith, k .count, k .long)); over = λ o. omega (arith, k .long); long = k .long }
+
+  -- some of it did not fit
+  pub capped-over : (xs rest : List ℕ) {new new′ : List ℕ} {m r : ℕ} → length new′ < r → Listing full at old (xs ++ rest) new m → Capped xs m new new′ r → Capped full at old new′ r
+  capped-over xs rest {new} {new′} {m} {r} l k p = record {
+    fits = λ f. absurd (let a = length-append xs rest in let q = p .fits (omega (arith, k .count, k .long)) in omega (arith, q .next, q .long, k .count, k .long));
+    over = λ o. omega (arith, p .long, k .long);
+    long = p .long ∙ k .long;
+  }
+
+-- where the number is past the array's end, it did not fit
+pub capped-past : {xs old new : List ℕ} {at r : ℕ} → length new < r → Capped xs at old new r → length old < at + length xs
+capped-past {xs} {old} {new} {at} {r} h p = go (leb (at + length xs) (length old)) refl
+  where
+    go : (t : Bool) → leb (at + length xs) (length old) ≡ t → length old < at + length xs
+    go true e = let f = leb-true (at + length xs) (length old) e in let q = p .fits f in absurd (omega (arith, q .next, q .long))
+    go false e = leb-false (at + length xs) (length old) e
+
+-- some of it fitted
+pub capped-fits : {xs new new′ : List ℕ} {m r : ℕ} → r ≤ length new′ → Capped xs m new new′ r → Listed xs m new new′ r
+capped-fits {xs} {new} {new′} {m} {r} h p = p .fits (go (leb (m + length xs) (length new)) refl)
+  where
+    go : (t : Bool) → leb (m + length xs) (length new) ≡ t → m + length xs ≤ length new
+    go true e = leb-true (m + length xs) (length new) e
+    go false e = absurd (omega (arith, p .over (leb-false (m + length xs) (length new) e), p .long))
 
 -- a list behind two words that are set around it
 pub listed-headed : {xs : List ℕ} {at f : ℕ} {old mid new : List ℕ} {m n : ℕ} → at + 2 ≤ length old → Listed xs (at + 2) (set old at f) mid m → n ≡ length xs → new ≡ set mid (at + 1) n → Listed (f ∷ length xs ∷ xs) at old new m

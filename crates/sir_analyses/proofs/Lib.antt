@@ -28,7 +28,6 @@ pub mod SourceMerging
 pub mod SourceScans
 pub mod SourceLive
 pub mod SourceOrders
-pub mod Bases
 pub mod Positions
 pub mod Marks
 pub mod PointerLinks

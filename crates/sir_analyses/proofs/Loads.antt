@@ -2,7 +2,7 @@
 use mathlib.Core.Path.{_≡_, refl, sym, ap, _∙_, subst}
 use mathlib.Core.Bool.{Bool, true, false, cond}
 use mathlib.Core.List.{List, [], _∷_, _++_}
-use Prim.Native.Nat.{ℕ, _*_, _/_, _≤_}
+use Prim.Native.Nat.{ℕ, _*_, _/_, _≤_, _<_}
 use native.Mathlib.Omega.{arith}
 use lib.ListN.{length, take, drop, length-append}
 use lib.Seq.{take-at, length-take-le}
@@ -17,9 +17,10 @@ use Rattle.sir_analyses.specs.Allocation.{rule12}
 use Rattle.sir_analyses.specs.Answers.{orderAnswer}
 use Rattle.sir_analyses.specs.Calls.{refusal}
 use Rattle.sir_analyses.specs.Visiting.{VisitedAll, SeenBlocks, blocksIn, orderIn, Listed}
+use Rattle.sir_analyses.specs.Discovery.{allocKeys, Capped}
 use Rattle.sir_analyses.specs.Loading.{Prepared}
-use Rattle.sir_analyses.proofs.Discovery.{keys-long, keys-most}
-use Rattle.sir_analyses.proofs.Keys.{blocks-rpo, order-answer, blocks-most, order-most}
+use Rattle.sir_analyses.proofs.Discovery.{keys-long, keys-most, keys-over}
+use Rattle.sir_analyses.proofs.Keys.{blocks-rpo, order-answer, blocks-most, order-most, capped-past}
 
 -- an earlier rule decides
 decided : (xs ys : List (ℕ × Bool)) → (first xs ≡ 0 → ⊥) → first (xs ++ ys) ≡ first xs
@@ -80,10 +81,15 @@ visited-seen good v = record {
   visited-is = λ b l. sym (v .shows .blocks-seen b (omega (arith, good .sized .blocks-most)));
 }
 
+-- more allocations than there can be bases
+pub found-over : {w old new : List ℕ} {r : ℕ} → WellFormed w → length old ≡ 512 → length new < r → Capped (allocKeys w) 0 old new r → rule12 w ≡ true
+found-over {w} {old} good long h k = keys-over w good (let p = capped-past h k in omega arith)
+
 -- all is at hand
-pub prepared : {w words seen post old rpo : List ℕ} {n k m : ℕ} → n ≤ length words → take n words ≡ w → WellFormed (take n words) → VisitedAll (take n words) seen post k
-    → Listed (blocksIn (take k post)) 0 old rpo m → length old ≡ 256 → rule12 (take n words) ≡ false → Prepared w words seen post rpo n k m
-prepared {w} {words} {seen} {post} {old} {rpo} {n} {k} {m} fit is good v l long differ =
+pub prepared : {w words seen post old rpo oldKeys keys : List ℕ} {n k m a : ℕ} → n ≤ length words → take n words ≡ w → WellFormed (take n words) → VisitedAll (take n words) seen post k
+    → Listed (blocksIn (take k post)) 0 old rpo m → length old ≡ 256 → Listed (allocKeys (take n words)) 0 oldKeys keys a → a ≤ length keys → rule12 (take n words) ≡ false
+    → Prepared w words seen post rpo keys n k m a
+prepared {w} {words} {seen} {post} {old} {rpo} {oldKeys} {keys} {n} {k} {m} {a} fit is good v l long found room differ =
     let order : orderIn (take k post) ≡ orderAnswer (take n words) = sym (order-answer (take n words) (v .shows)) in
     record {
       words-fit = fit;
@@ -92,11 +98,13 @@ prepared {w} {words} {seen} {post} {old} {rpo} {n} {k} {m} fit is good v l long 
       order-is = order;
       order-fits = omega (arith, ap length order, order-most (take n words) good, good .sized .functions-most, good .sized .blocks-most);
       rpo-fit = omega (arith, l .next, l .long, blocks-fit good v);
+      keys-fit = room;
       ready = record {
         well-formed = good;
         seen-are = visited-seen good v;
         rpo-is = rpo-is good v l;
         bases-differ = differ;
-        keys-few = omega (arith, keys-long (take n words), keys-most (take n words) good differ);
+        keys-are = found .list;
+        keys-few = omega (arith, ap length (found .list), keys-long (take n words), keys-most (take n words) good differ);
       };
     }

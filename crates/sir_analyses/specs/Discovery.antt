@@ -13,6 +13,7 @@ use Rattle.sir_data.specs.Codes.{isAlloc}
 use Rattle.sir_analyses.specs.Liveness.{has}
 use Rattle.sir_analyses.specs.Allocation.{Alloc, allocs, allocAt, reach, marked, owners}
 use Rattle.sir_analyses.specs.Tables.{Same}
+use Rattle.sir_analyses.specs.Visiting.{Listed}
 use Rattle.sir_analyses.specs.Propagation.{State, Propagates}
 use Rattle.sir_analyses.specs.Kinds.{kindOf, kindWords}
 
@@ -27,6 +28,12 @@ allocKeys w = map allocKey (allocs w)
 -- the allocations among a block's operations, as numbers
 unfoldable pub blockKeys : List ℕ → ℕ → List ℕ
 blockKeys w b = map (λ o. 1024 * b + o) (keep (λ o. isAlloc (code w o)) (ops w b))
+
+-- a list stands in an array behind its first `at`, up to r; where it does not fit, r is past the array's end
+pub record Capped (xs : List ℕ) (at : ℕ) (old new : List ℕ) (r : ℕ) : Type 0 where
+  pub fits : at + length xs ≤ length old → Listed xs at old new r
+  pub over : length old < at + length xs → length old < r
+  pub long : length new ≡ length old
 
 -- how many entries of an owner array are 0
 unfoldable pub zeros : List ℕ → ℕ

@@ -5,7 +5,6 @@ pub mod Liveness
 pub mod Uses
 pub mod Tables
 pub mod Allocation
-pub mod Bases
 pub mod Pointers
 pub mod Propagation
 pub mod SourceUses

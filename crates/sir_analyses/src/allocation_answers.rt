@@ -1,6 +1,5 @@
 // The answers that need pointers: the record of an allocation, and the owner of a local.
 use crate::allocation_liveness::discover_allocations;
-use crate::allocation_liveness::find_allocations;
 use crate::allocation_words::AllocSite;
 use crate::allocation_words::put_head;
 use crate::allocation_words::site_of;
@@ -171,8 +170,8 @@ fn allocation_answer(
     a: AllocId,
     out: &mut [u8],
 ) -> Answer
-    requires { ⌜ Ready (now words) (now seen) (now rpo) ⌝ }
-    requires { ⌜ (now keys ≡ allocKeys (now words)) × (length (now keys) ≤ 512) × (a .0 < length (now keys)) ⌝ }
+    requires { ⌜ Ready (now words) (now seen) (now rpo) (now keys) ⌝ }
+    requires { ⌜ a .0 < length (now keys) ⌝ }
     requires { ⌜ (length (now owner) ≡ 512) × (length (now marks) ≡ 8) × Discovered (now words) (now owner) (now marks) ⌝ }
     ensures { λ r. ⌜ made (r .number) (r .length) (now (out .exit)) ≡ answered (bind (allocationAnswer (now (words .entry)) (a .0)) bytesOf) (now (out .entry)) ⌝ }
 {
@@ -220,31 +219,23 @@ pub fn pointer_answer(
     words: &[u32],
     seen: &[u64],
     rpo: &[u32],
+    keys: &[u32],
     question: PointerQuestion,
     out: &mut [u8],
 ) -> Answer
-    requires { ⌜ Ready (now words) (now seen) (now rpo) ⌝ }
+    requires { ⌜ Ready (now words) (now seen) (now rpo) (now keys) ⌝ }
     requires { ⌜ first (ownRules (Question.OfPointers question) (now words)) ≡ 0 ⌝ }
     ensures { λ r. ⌜ made (r .number) (r .length) (now (out .exit)) ≡ answered (inWords (answerWords (Question.OfPointers question)) (now (words .entry))) (now (out .entry)) ⌝ }
 {
-    let mut keys = [0u32; 512];
-    let count = find_allocations(words, rpo, &mut keys);
     let mut links = [0u64; 4096];
     let mut harms = [0u64; 8];
     pointer_links(words, rpo, &mut links, &mut harms);
     let mut owner = [0u32; 512];
     let mut marks = [0u64; 8];
-    discover_allocations(
-        words,
-        &keys[..count],
-        &links,
-        &harms,
-        &mut owner,
-        &mut marks,
-    );
+    discover_allocations(words, keys, &links, &harms, &mut owner, &mut marks);
     match question {
         PointerQuestion::Allocation(a) => {
-            allocation_answer(words, seen, rpo, &keys[..count], &owner, &marks, a, out)
+            allocation_answer(words, seen, rpo, keys, &owner, &marks, a, out)
         }
         PointerQuestion::Owner(v) => words_answer(&[owner[v.0 as usize]], out),
     }

@@ -22,56 +22,16 @@ ghost use Rattle.sir_data.specs.Codes.{isAlloc};
 ghost use Rattle.sir_data.specs.WellFormed.{WellFormed};
 ghost use Rattle.sir_analyses.specs.Order.{blocksRpo};
 ghost use Rattle.sir_analyses.specs.Allocation.{rule12, allocs, bases};
-ghost use Rattle.sir_analyses.specs.Bases.{basesIn, Added};
-ghost use Rattle.sir_analyses.specs.Visiting.{Listed};
 ghost use Rattle.sir_analyses.specs.Pointers.{PointerRows};
 ghost use Rattle.sir_analyses.specs.Propagation.{linkLocal, follow};
-ghost use Rattle.sir_analyses.specs.Discovery.{allocKeys, blockKeys, Room, StepTaken, linksIn, Propagated, Discovered};
+ghost use Rattle.sir_analyses.specs.Discovery.{allocKeys, blockKeys, Capped, Room, StepTaken, linksIn, Propagated, Discovered};
 
-// Adds the base locals of a block's allocations to a set: whether none was there before, nor came twice.
-fn add_bases(words: &[u32], b: BlockId, bases: &mut [u64]) -> bool
+// The allocations of a block behind the first `at` of `keys`, each as one number: 1024 times the block, plus the operation. Where
+// there is no room for one of them, a number past the end of `keys`.
+fn block_allocations(words: &[u32], b: BlockId, keys: &mut [u32], at: usize) -> usize
     requires { ⌜ WellFormed (now words) ⌝ }
-    requires { ⌜ (b .0 < blocks (now words)) × (length (now bases) ≡ 8) ⌝ }
-    ensures { λ r. ⌜ Added (basesIn (now (words .entry)) (b .0)) (now (bases .entry)) (now (bases .exit)) r ⌝ }
-{
-    let span = block_operations(words, b);
-    let last = span.end;
-    let mut o = span.start;
-    while o < last {
-        let id = OpIdx(o);
-        o += 1;
-        if is_alloc(op_word(words, id, 0)) {
-            let outputs = op_outputs(words, id);
-            if !row_add(bases, 0, outputs[0]) {
-                return false;
-            }
-        }
-    }
-    true
-}
-
-// Rule 12: two allocations met in visited blocks with one base local.
-pub fn rule_12(words: &[u32], rpo: &[u32]) -> bool
-    requires { ⌜ WellFormed (now words) ⌝ }
-    requires { ⌜ now rpo ≡ blocksRpo (now words) ⌝ }
-    ensures { λ r. ⌜ r ≡ rule12 (now (words .entry)) ⌝ }
-{
-    let mut bases = [0u64; 8];
-    let mut i: usize = 0;
-    while i < rpo.len() {
-        if !add_bases(words, BlockId(rpo[i]), &mut bases) {
-            return true;
-        }
-        i += 1;
-    }
-    false
-}
-
-// The allocations of a block behind the first `at` of `out`, each as one number: 1024 times the block, plus the operation.
-fn block_allocations(words: &[u32], b: BlockId, out: &mut [u32], at: usize) -> usize
-    requires { ⌜ WellFormed (now words) ⌝ }
-    requires { ⌜ (b .0 < blocks (now words)) × (at + length (blockKeys (now words) (b .0)) ≤ length (now out)) ⌝ }
-    ensures { λ r. ⌜ Listed (blockKeys (now (words .entry)) (b .0)) at (now (out .entry)) (now (out .exit)) r ⌝ }
+    requires { ⌜ (b .0 < blocks (now words)) × (at ≤ length (now keys)) ⌝ }
+    ensures { λ r. ⌜ Capped (blockKeys (now (words .entry)) (b .0)) at (now (keys .entry)) (now (keys .exit)) r ⌝ }
 {
     let span = block_operations(words, b);
     let last = span.end;
@@ -81,7 +41,10 @@ fn block_allocations(words: &[u32], b: BlockId, out: &mut [u32], at: usize) -> u
         let id = o;
         o += 1;
         if is_alloc(op_word(words, OpIdx(id), 0)) {
-            out[m] = 1024 * b.0 + id;
+            if m == keys.len() {
+                return m + 1;
+            }
+            keys[m] = 1024 * b.0 + id;
             m += 1;
         }
     }
@@ -89,15 +52,18 @@ fn block_allocations(words: &[u32], b: BlockId, out: &mut [u32], at: usize) -> u
 }
 
 // The allocations of all visited blocks, in the order's sequence.
-pub fn find_allocations(words: &[u32], rpo: &[u32], out: &mut [u32]) -> usize
+pub fn find_allocations(words: &[u32], rpo: &[u32], keys: &mut [u32]) -> usize
     requires { ⌜ WellFormed (now words) ⌝ }
-    requires { ⌜ (now rpo ≡ blocksRpo (now words)) × (length (allocKeys (now words)) ≤ length (now out)) ⌝ }
-    ensures { λ r. ⌜ Listed (allocKeys (now (words .entry))) 0 (now (out .entry)) (now (out .exit)) r ⌝ }
+    requires { ⌜ now rpo ≡ blocksRpo (now words) ⌝ }
+    ensures { λ r. ⌜ Capped (allocKeys (now (words .entry))) 0 (now (keys .entry)) (now (keys .exit)) r ⌝ }
 {
     let mut m: usize = 0;
     let mut i: usize = 0;
     while i < rpo.len() {
-        m = block_allocations(words, BlockId(rpo[i]), out, m);
+        m = block_allocations(words, BlockId(rpo[i]), keys, m);
+        if m > keys.len() {
+            return m;
+        }
         i += 1;
     }
     m
@@ -111,6 +77,24 @@ pub fn base_ptr(words: &[u32], o: OpIdx) -> LocalId
 {
     let outputs = op_outputs(words, o);
     LocalId(outputs[0])
+}
+
+// Rule 12: two of these allocations have one base local.
+pub fn rule_12(words: &[u32], keys: &[u32]) -> bool
+    requires { ⌜ WellFormed (now words) ⌝ }
+    requires { ⌜ now keys ≡ allocKeys (now words) ⌝ }
+    ensures { λ r. ⌜ r ≡ rule12 (now (words .entry)) ⌝ }
+{
+    let mut bases = [0u64; 8];
+    let mut a: usize = 0;
+    while a < keys.len() {
+        let base = base_ptr(words, OpIdx(keys[a] % 1024));
+        a += 1;
+        if !row_add(&mut bases, 0, base.0) {
+            return true;
+        }
+    }
+    false
 }
 
 // Every base first for its own.

@@ -25,21 +25,22 @@ fn answer(
     seen: &[u64],
     post: &[u32],
     rpo: &[u32],
+    keys: &[u32],
     question: Question,
     out: &mut [u8],
 ) -> Answer
-    requires { ⌜ Ready (now words) (now seen) (now rpo) ⌝ }
+    requires { ⌜ Ready (now words) (now seen) (now rpo) (now keys) ⌝ }
     requires { ⌜ (orderIn (now post) ≡ orderAnswer (now words)) × (length (orderIn (now post)) ≤ 384) ⌝ }
     ensures { λ r. ⌜ made (r .number) (r .length) (now (out .exit)) ≡ call (ownRules question (now (words .entry))) (inWords (answerWords question) (now (words .entry))) (now (out .entry)) ⌝ }
 {
-    let number = own_refusal(words, seen, rpo, question);
+    let number = own_refusal(words, keys, question);
     if number != 0 {
         return refuse(number);
     }
     match question {
         Question::OfOrder(q) => order_answer(words, seen, post, rpo, q, out),
         Question::OfLiveness(q) => live_answer(words, seen, rpo, q, out),
-        Question::OfPointers(q) => pointer_answer(words, seen, rpo, q, out),
+        Question::OfPointers(q) => pointer_answer(words, seen, rpo, keys, q, out),
     }
 }
 
@@ -52,19 +53,29 @@ pub fn ask(image: &[u8], question: Question, out: &mut [u8]) -> Answer
     let mut seen = [0u64; 16];
     let mut post = [0u32; 320];
     let mut rpo = [0u32; 256];
-    let sizes = load(image, &mut words, &mut seen, &mut post, &mut rpo);
+    let mut found = [0u32; 512];
+    let sizes = load(
+        image,
+        &mut words,
+        &mut seen,
+        &mut post,
+        &mut rpo,
+        &mut found,
+    );
     let number = sizes.number;
     if number != 0 {
         return refuse(number);
     }
     let n = sizes.words;
-    let keys = sizes.keys;
+    let finished = sizes.finished;
     let blocks = sizes.blocks;
+    let allocations = sizes.allocations;
     answer(
         &words[..n],
         &seen,
-        &post[..keys],
+        &post[..finished],
         &rpo[..blocks],
+        &found[..allocations],
         question,
         out,
     )

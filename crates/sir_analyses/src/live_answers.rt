@@ -26,7 +26,6 @@ ghost use Rattle.sir_analyses.specs.Order.{blocksRpo};
 ghost use Rattle.sir_analyses.specs.Liveness.{settled};
 ghost use Rattle.sir_analyses.specs.Answers.{entryAnswer, intervalsAnswer};
 ghost use Rattle.sir_analyses.specs.Calls.{made, answered, inWords};
-ghost use Rattle.sir_analyses.specs.Loading.{Ready};
 ghost use Rattle.sir_analyses.specs.Questions.{ownRules, answerWords};
 ghost use Rattle.sir_analyses.specs.Visiting.{SeenBlocks};
 ghost use Rattle.sir_analyses.specs.Tables.{OperandRows, SameRows, LiveRows};
@@ -96,7 +95,8 @@ pub fn live_answer(
     question: LiveQuestion,
     out: &mut [u8],
 ) -> Answer
-    requires { ⌜ Ready (now words) (now seen) (now rpo) ⌝ }
+    requires { ⌜ WellFormed (now words) ⌝ }
+    requires { ⌜ SeenBlocks (now words) (now seen) × (now rpo ≡ blocksRpo (now words)) ⌝ }
     requires { ⌜ first (ownRules (Question.OfLiveness question) (now words)) ≡ 0 ⌝ }
     ensures { λ r. ⌜ made (r .number) (r .length) (now (out .exit)) ≡ answered (inWords (answerWords (Question.OfLiveness question)) (now (words .entry))) (now (out .entry)) ⌝ }
 {

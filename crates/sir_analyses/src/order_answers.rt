@@ -18,7 +18,6 @@ ghost use Rattle.sir_data.specs.WellFormed.{WellFormed};
 ghost use Rattle.sir_analyses.specs.Order.{blocksRpo};
 ghost use Rattle.sir_analyses.specs.Answers.{orderAnswer, predecessorsAnswer, usesAnswer};
 ghost use Rattle.sir_analyses.specs.Calls.{made, answered, inWords};
-ghost use Rattle.sir_analyses.specs.Loading.{Ready};
 ghost use Rattle.sir_analyses.specs.Questions.{answerWords};
 ghost use Rattle.sir_analyses.specs.Visiting.{SeenBlocks, orderIn};
 ghost use Rattle.sir_analyses.specs.declared.questions.Question.{Question};
@@ -68,7 +67,8 @@ pub fn order_answer(
     question: OrderQuestion,
     out: &mut [u8],
 ) -> Answer
-    requires { ⌜ Ready (now words) (now seen) (now rpo) ⌝ }
+    requires { ⌜ WellFormed (now words) ⌝ }
+    requires { ⌜ SeenBlocks (now words) (now seen) × (now rpo ≡ blocksRpo (now words)) ⌝ }
     requires { ⌜ (orderIn (now post) ≡ orderAnswer (now words)) × (length (orderIn (now post)) ≤ 384) ⌝ }
     ensures { λ r. ⌜ made (r .number) (r .length) (now (out .exit)) ≡ answered (inWords (answerWords (Question.OfOrder question)) (now (words .entry))) (now (out .entry)) ⌝ }
 {

@@ -1,5 +1,4 @@
 // The questions that can be put to an image, by what they need: the order alone, liveness, or the pointers of allocations.
-use crate::allocation_liveness::find_allocations;
 use plank_core::index::AllocId;
 use plank_core::index::BlockId;
 use plank_core::index::LocalId;
@@ -7,11 +6,12 @@ use sir_data::records::block_count;
 use sir_data::records::local_count;
 ghost use mathlib.Core.Path.{_≡_};
 ghost use mathlib.Core.Bool.{not, cond};
+ghost use Prim.Native.Nat.{_≤_};
 ghost use lib.Dec.{ltb};
 ghost use lib.ListN.{length};
 ghost use Rattle.sir_data.specs.Rules.{first};
-ghost use Rattle.sir_analyses.specs.Allocation.{allocs};
-ghost use Rattle.sir_analyses.specs.Loading.{Ready};
+ghost use Rattle.sir_data.specs.WellFormed.{WellFormed};
+ghost use Rattle.sir_analyses.specs.Discovery.{allocKeys};
 ghost use Rattle.sir_analyses.specs.Questions.{ownRules};
 
 pub enum OrderQuestion {
@@ -48,18 +48,10 @@ fn id_refusal(id: u32, count: u32) -> u32
     13
 }
 
-// How many allocations there are.
-fn allocation_count(words: &[u32], seen: &[u64], rpo: &[u32]) -> u32
-    requires { ⌜ Ready (now words) (now seen) (now rpo) ⌝ }
-    ensures { λ r. ⌜ r ≡ length (allocs (now (words .entry))) ⌝ }
-{
-    let mut keys = [0u32; 512];
-    find_allocations(words, rpo, &mut keys) as u32
-}
-
 // The first of a question's own rules that applies, or 0.
-pub fn own_refusal(words: &[u32], seen: &[u64], rpo: &[u32], question: Question) -> u32
-    requires { ⌜ Ready (now words) (now seen) (now rpo) ⌝ }
+pub fn own_refusal(words: &[u32], keys: &[u32], question: Question) -> u32
+    requires { ⌜ WellFormed (now words) ⌝ }
+    requires { ⌜ (now keys ≡ allocKeys (now words)) × (length (now keys) ≤ 512) ⌝ }
     ensures { λ r. ⌜ r ≡ first (ownRules question (now (words .entry))) ⌝ }
 {
     match question {
@@ -75,7 +67,7 @@ pub fn own_refusal(words: &[u32], seen: &[u64], rpo: &[u32], question: Question)
             LiveQuestion::Rounds => 0,
         },
         Question::OfPointers(q) => match q {
-            PointerQuestion::Allocation(a) => id_refusal(a.0, allocation_count(words, seen, rpo)),
+            PointerQuestion::Allocation(a) => id_refusal(a.0, keys.len() as u32),
             PointerQuestion::Owner(v) => id_refusal(v.0, local_count(words)),
         },
     }

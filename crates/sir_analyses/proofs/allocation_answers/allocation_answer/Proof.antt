@@ -23,7 +23,7 @@ row-contains-requires c κs = search needs
 -- src/allocation_answers.rt:173:9
 marked-answer-requires : tie.Need-marked-answer-requires
 marked-answer-requires c κs = let s = c .before .before .before .before .before .before .before .before .before .before .before in
-    (s .pre .0 .well-formed, (s .args .a .0, (c .before .before .before .site-of .ensures (s .args .words .now) (s .pre .0 .well-formed) (s .pre .1 .0 .0))))
+    (s .pre .0 .well-formed, (s .args .a .0, (c .before .before .before .site-of .ensures (s .args .words .now) (s .pre .0 .well-formed) (s .pre .0 .keys-are))))
 
 -- src/allocation_answers.rt:173:9
 same-length : tie.Need-same-length
@@ -32,7 +32,7 @@ same-length c = search needs
 -- src/allocation_answers.rt:173:9
 returns : tie.Need-returns
 returns c = let s = c .before .before .before .before .before .before .before .before .before .before .before .before .before .before in
-    let x = (c .before .before .before .before .before .before .site-of .ensures (s .args .words .now) (s .pre .0 .well-formed) (s .pre .1 .0 .0)) in
+    let x = (c .before .before .before .before .before .before .site-of .ensures (s .args .words .now) (s .pre .0 .well-formed) (s .pre .0 .keys-are)) in
     c .before .before .marked-answer .ensures (s .args .a .0) x (mark-told (s .pre .1 .1 .2) (x .known) (c .before .before .before .before .before .row-contains .ensures) (c .before .before .before .before .if1 .taken))
 
 -- src/allocation_answers.rt:176:35
@@ -42,7 +42,7 @@ slice-aggregate-owned-locals c = search needs
 -- src/allocation_answers.rt:176:5
 owned-locals-requires : tie.Need-owned-locals-requires
 owned-locals-requires c κs = let s = c .before .before .before .before .before .before .before .before .before .before .before in
-    (s .pre .0 .well-formed, (s .pre .1 .1 .0, omega (arith, s .pre .1 .0 .1, s .pre .1 .0 .2), refl))
+    (s .pre .0 .well-formed, (s .pre .1 .1 .0, omega (arith, s .pre .0 .keys-few, s .pre .1 .0), refl))
 
 -- src/allocation_answers.rt:177:45
 slice-aggregate-unmarked-answer : tie.Need-slice-aggregate-unmarked-answer
@@ -51,7 +51,7 @@ slice-aggregate-unmarked-answer c = search needs
 -- src/allocation_answers.rt:177:5
 unmarked-answer-requires : tie.Need-unmarked-answer-requires
 unmarked-answer-requires c κs = let s = c .before .before .before .before .before .before .before .before .before .before .before .before .before .before .before in
-    let x = (c .before .before .before .before .before .before .before .site-of .ensures (s .args .words .now) (s .pre .0 .well-formed) (s .pre .1 .0 .0)) in
+    let x = (c .before .before .before .before .before .before .before .site-of .ensures (s .args .words .now) (s .pre .0 .well-formed) (s .pre .0 .keys-are)) in
     (s .pre .0 .well-formed, ((s .pre .0 .seen-are, s .pre .0 .rpo-is), (s .args .a .0, owned-unmarked (s .pre .0 .well-formed) (s .pre .1 .1 .2) (x .known) (mark-told (s .pre .1 .1 .2) (x .known) (c .before .before .before .before .before .before .row-contains .ensures) (c .before .before .before .before .before .if1 .left)) x (c .before .before .before .owned-locals .ensures))))
 
 -- src/allocation_answers.rt:156:1
@@ -61,7 +61,7 @@ same-length-2 c = search needs
 -- src/allocation_answers.rt:156:1
 returns-2 : tie.Need-returns-2
 returns-2 c = let s = c .before .before .before .before .before .before .before .before .before .before .before .before .before .before .before .before .before .before in
-    let x = (c .before .before .before .before .before .before .before .before .before .before .site-of .ensures (s .args .words .now) (s .pre .0 .well-formed) (s .pre .1 .0 .0)) in
+    let x = (c .before .before .before .before .before .before .before .before .before .before .site-of .ensures (s .args .words .now) (s .pre .0 .well-formed) (s .pre .0 .keys-are)) in
     c .before .before .unmarked-answer .ensures (s .args .a .0) (owned-unmarked (s .pre .0 .well-formed) (s .pre .1 .1 .2) (x .known) (mark-told (s .pre .1 .1 .2) (x .known) (c .before .before .before .before .before .before .before .before .before .row-contains .ensures) (c .before .before .before .before .before .before .before .before .if1 .left)) x (c .before .before .before .before .before .before .owned-locals .ensures))
 
 pub allocation-answer-spec : {M : Type 1} → statement M

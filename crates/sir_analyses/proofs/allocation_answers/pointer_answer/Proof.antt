@@ -14,7 +14,6 @@ use Rattle.sir_analyses.specs.declared.questions.PointerQuestion.{Pointe
 use Rattle.sir_analyses.specs.declared.questions.Question.{Question}
 use Rattle.sir_analyses.proofs.Calls.{known-below}
 use Rattle.sir_analyses.proofs.Discovery.{keys-long}
-use Rattle.sir_analyses.proofs.Loads.{front-length}
 use borrow.Author.Needs.{needs}
 use Rattle.sir_analyses.proofs.allocation_answers.pointer_answer.Statement.{statement}
 use Rattle.sir_analyses.proofs.allocation_answers.pointer_answer.Tie as tie
@@ -22,7 +21,6 @@ use Rattle.sir_analyses.proofs.allocation_answers.pointer_answer.Reads 
 use Rattle.sir_analyses.proofs.allocation_answers.pointer_answer.Lts as lts
 use Rattle.sir_analyses.proofs.allocation_answers.allocation_answer.Reads as allocation-answer-reads
 use Rattle.sir_analyses.proofs.allocation_liveness.discover_allocations.Reads as discover-allocations-reads
-use Rattle.sir_analyses.proofs.allocation_liveness.find_allocations.Reads as find-allocations-reads
 use Rattle.sir_analyses.proofs.answers.words_answer.Reads as words-answer-reads
 use Rattle.sir_analyses.proofs.pointer_links.pointer_links.Reads as pointer-links-reads
 
@@ -33,125 +31,98 @@ below w e z = subst (λ (q : PointerQuestion). first (ownRules (Question.OfPoint
 pointers-as : (w out : List ℕ) {question q : PointerQuestion} → question ≡ q → answered (inWords (answerWords (Question.OfPointers q)) w) out ≡ answered (inWords (answerWords (Question.OfPointers question)) w) out
 pointers-as w out e = ap (λ (q : PointerQuestion). answered (inWords (answerWords (Question.OfPointers q)) w) out) (sym e)
 
--- src/allocation_answers.rt:223:46
-slice-aggregate-find-allocations : tie.Need-slice-aggregate-find-allocations
-slice-aggregate-find-allocations c = search needs
-
--- src/allocation_answers.rt:223:9
-find-allocations-requires : tie.Need-find-allocations-requires
-find-allocations-requires c κs = search needs
-
--- src/allocation_answers.rt:226:31
+-- src/allocation_answers.rt:232:31
 slice-aggregate-pointer-links : tie.Need-slice-aggregate-pointer-links
 slice-aggregate-pointer-links c = search needs
 
--- src/allocation_answers.rt:226:43
+-- src/allocation_answers.rt:232:43
 slice-aggregate-pointer-links-2 : tie.Need-slice-aggregate-pointer-links-2
 slice-aggregate-pointer-links-2 c = search needs
 
--- src/allocation_answers.rt:226:5
+-- src/allocation_answers.rt:232:5
 pointer-links-requires : tie.Need-pointer-links-requires
 pointer-links-requires c κs = search needs
 
--- src/allocation_answers.rt:231:9
-array-share-prefix-keys : tie.Need-array-share-prefix-keys
-array-share-prefix-keys c = search needs
-
--- src/allocation_answers.rt:231:9
+-- src/allocation_answers.rt:235:39
 slice-aggregate-discover-allocations : tie.Need-slice-aggregate-discover-allocations
-slice-aggregate-discover-allocations c = let k = c .before .before .before .before .before .before .before .find-allocations .ensures in
-    front-length _ _ (omega (arith, k .next, k .long, c .before .before .before .before .before .before .before .before .before .before .before .before .before .pre .0 .keys-few))
+slice-aggregate-discover-allocations c = search needs
 
--- src/allocation_answers.rt:232:9
+-- src/allocation_answers.rt:235:47
 slice-aggregate-discover-allocations-2 : tie.Need-slice-aggregate-discover-allocations-2
 slice-aggregate-discover-allocations-2 c = search needs
 
--- src/allocation_answers.rt:233:9
+-- src/allocation_answers.rt:235:55
 slice-aggregate-discover-allocations-3 : tie.Need-slice-aggregate-discover-allocations-3
 slice-aggregate-discover-allocations-3 c = search needs
 
--- src/allocation_answers.rt:234:9
+-- src/allocation_answers.rt:235:67
 slice-aggregate-discover-allocations-4 : tie.Need-slice-aggregate-discover-allocations-4
 slice-aggregate-discover-allocations-4 c = search needs
 
--- src/allocation_answers.rt:235:9
-slice-aggregate-discover-allocations-5 : tie.Need-slice-aggregate-discover-allocations-5
-slice-aggregate-discover-allocations-5 c = search needs
-
--- src/allocation_answers.rt:229:5
+-- src/allocation_answers.rt:235:5
 discover-allocations-requires : tie.Need-discover-allocations-requires
 discover-allocations-requires c κs = search needs
 
--- src/allocation_answers.rt:238:37
+-- src/allocation_answers.rt:237:37
 enum-known-question : tie.Need-enum-known-question
 enum-known-question c = search needs
 
--- src/allocation_answers.rt:239:49
-array-share-prefix-keys-2 : tie.Need-array-share-prefix-keys-2
-array-share-prefix-keys-2 c = search needs
-
--- src/allocation_answers.rt:239:49
+-- src/allocation_answers.rt:238:55
 slice-aggregate-allocation-answer : tie.Need-slice-aggregate-allocation-answer
-slice-aggregate-allocation-answer c = let k = c .before .before .before .before .before .before .before .before .before .before .before .before .before .before .before .before .before .before .find-allocations .ensures in
-    front-length _ _ (omega (arith, k .next, k .long, c .before .before .before .before .before .before .before .before .before .before .before .before .before .before .before .before .before .before .before .before .before .before .before .before .pre .0 .keys-few))
+slice-aggregate-allocation-answer c = search needs
 
--- src/allocation_answers.rt:239:65
+-- src/allocation_answers.rt:238:63
 slice-aggregate-allocation-answer-2 : tie.Need-slice-aggregate-allocation-answer-2
 slice-aggregate-allocation-answer-2 c = search needs
 
--- src/allocation_answers.rt:239:73
-slice-aggregate-allocation-answer-3 : tie.Need-slice-aggregate-allocation-answer-3
-slice-aggregate-allocation-answer-3 c = search needs
-
--- src/allocation_answers.rt:239:13
+-- src/allocation_answers.rt:238:13
 allocation-answer-requires : tie.Need-allocation-answer-requires
-allocation-answer-requires c κs = let s = c .before .before .before .before .before .before .before .before .before .before .before .before .before .before .before .before .before .before .before .before .before .before .before .before .before .before .before in
+allocation-answer-requires c κs = let s = c .before .before .before .before .before .before .before .before .before .before .before .before .before .before .before .before .before .before .before .before .before .before .before in
     let w = s .args .words .now in
-    let e = c .before .before .before .before .before .before .before .before .before .before .before .before .before .before .before .before .before .before .before .before .before .find-allocations .ensures .list in
-    (s .pre .0, ((e, omega (arith, ap length e, s .pre .0 .keys-few), omega (arith, ap length e, keys-long w, known-below (λ x. length (allocs x)) _ w (below w (c .before .before .before .before .before .question .given .1) (s .pre .1)))), (c .before .before .before .before .before .before .before .before .before .discover-allocations .kept .1 .1 .1 .1 .0, c .before .before .before .before .before .before .before .before .before .discover-allocations .kept .1 .1 .1 .1 .1 .0, c .before .before .before .before .before .before .before .before .before .discover-allocations .ensures)))
+    (s .pre .0, (omega (arith, ap length (s .pre .0 .keys-are), keys-long w, known-below (λ x. length (allocs x)) _ w (below w (c .before .before .before .before .question .given .1) (s .pre .1))), (c .before .before .before .before .before .before .before .before .discover-allocations .kept .1 .1 .1 .1 .0, c .before .before .before .before .before .before .before .before .discover-allocations .kept .1 .1 .1 .1 .1 .0, c .before .before .before .before .before .before .before .before .discover-allocations .ensures)))
 
--- src/allocation_answers.rt:241:32
+-- src/allocation_answers.rt:240:32
 enum-known-question-2 : tie.Need-enum-known-question-2
 enum-known-question-2 c = search needs
 
--- src/allocation_answers.rt:241:59
-cast-t41 : tie.Need-cast-t41
-cast-t41 c = search needs
+-- src/allocation_answers.rt:240:59
+cast-t34 : tie.Need-cast-t34
+cast-t34 c = search needs
 
--- src/allocation_answers.rt:241:53
-mul-t42 : tie.Need-mul-t42
-mul-t42 c = search needs
+-- src/allocation_answers.rt:240:53
+mul-t35 : tie.Need-mul-t35
+mul-t35 c = search needs
 
--- src/allocation_answers.rt:241:53
-array-read-t45 : tie.Need-array-read-t45
-array-read-t45 c = let s = c .before .before .before .before .before .before .before .before .before .before .before .before .before .before .before .before .before .before .before .before .before .before .before .before in
+-- src/allocation_answers.rt:240:53
+array-read-t38 : tie.Need-array-read-t38
+array-read-t38 c = let s = c .before .before .before .before .before .before .before .before .before .before .before .before .before .before .before .before .before .before .before .before .before in
     let w = s .args .words .now in
     omega (arith, known-below locals _ w (below w (c .before .before .question2 .given .1) (s .pre .1)), s .pre .0 .well-formed .sized .locals-most)
 
--- src/allocation_answers.rt:241:51
+-- src/allocation_answers.rt:240:51
 slice-aggregate-words-answer : tie.Need-slice-aggregate-words-answer
 slice-aggregate-words-answer c = search needs
 
--- src/allocation_answers.rt:241:38
+-- src/allocation_answers.rt:240:38
 words-answer-requires : tie.Need-words-answer-requires
 words-answer-requires c κs = search needs
 
--- src/allocation_answers.rt:211:1
+-- src/allocation_answers.rt:218:1
 same-length : tie.Need-same-length
 same-length c = search needs
 
--- src/allocation_answers.rt:211:1
+-- src/allocation_answers.rt:218:1
 returns : tie.Need-returns
-returns c = let a = c .before .before .before .before .before .before .before .before .before .before .before .before .before .before .before .before .before .before .before .before .before .before .before .before .before .before .before .before .before .before .args in
-    c .before .before .allocation-answer .ensures ∙ pointers-as (a .words .now) (a .out .now) (c .before .before .before .before .before .before .before .before .question .given .1)
+returns c = let a = c .before .before .before .before .before .before .before .before .before .before .before .before .before .before .before .before .before .before .before .before .before .before .before .before .before .before .args in
+    c .before .before .allocation-answer .ensures ∙ pointers-as (a .words .now) (a .out .now) (c .before .before .before .before .before .before .before .question .given .1)
 
--- src/allocation_answers.rt:211:1
+-- src/allocation_answers.rt:218:1
 same-length-2 : tie.Need-same-length-2
 same-length-2 c = search needs
 
--- src/allocation_answers.rt:211:1
+-- src/allocation_answers.rt:218:1
 returns-2 : tie.Need-returns-2
-returns-2 c = let s = c .before .before .before .before .before .before .before .before .before .before .before .before .before .before .before .before .before .before .before .before .before .before .before .before .before .before .before .before .before in
+returns-2 c = let s = c .before .before .before .before .before .before .before .before .before .before .before .before .before .before .before .before .before .before .before .before .before .before .before .before .before .before in
     let a = s .args in
     let w = a .words .now in
     c .before .before .words-answer .ensures ∙ ap (λ (n : ℕ). answered (bind (n ∷ []) bytesOf) (a .out .now)) (c .before .before .before .before .before .before .before .before .before .before .before .discover-allocations .ensures .owner-is _ (known-below locals _ w (below w (c .before .before .before .before .before .before .before .question2 .given .1) (s .pre .1)))) ∙ pointers-as w (a .out .now) (c .before .before .before .before .before .before .before .question2 .given .1)
@@ -160,28 +131,22 @@ pub pointer-answer-spec : {M : Type 1} → statement M
 pointer-answer-spec =
     tie.close
     (tie.spec
-    slice-aggregate-find-allocations
-    find-allocations-requires
     slice-aggregate-pointer-links
     slice-aggregate-pointer-links-2
     pointer-links-requires
-    array-share-prefix-keys
     slice-aggregate-discover-allocations
     slice-aggregate-discover-allocations-2
     slice-aggregate-discover-allocations-3
     slice-aggregate-discover-allocations-4
-    slice-aggregate-discover-allocations-5
     discover-allocations-requires
     enum-known-question
-    array-share-prefix-keys-2
     slice-aggregate-allocation-answer
     slice-aggregate-allocation-answer-2
-    slice-aggregate-allocation-answer-3
     allocation-answer-requires
     enum-known-question-2
-    cast-t41
-    mul-t42
-    array-read-t45
+    cast-t34
+    mul-t35
+    array-read-t38
     slice-aggregate-words-answer
     words-answer-requires
     same-length

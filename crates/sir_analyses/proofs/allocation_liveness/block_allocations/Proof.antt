@@ -1,119 +1,135 @@
--- `block_allocations` meets its contract. The invariant: the keys of the operations left are to be written.
 use mathlib.Core.Path.{_≡_, sym, ap, _∙_}
 use mathlib.Core.Bool.{true, false}
-use Prim.Native.Nat.{_-_, _<_}
+use Prim.Native.Nat.{_+_, _-_, _*_, _≤_, _<_}
 use native.Mathlib.Omega.{arith}
+use lib.ListN.{length, length-set}
 use Rattle.plank_core.specs.Lists.{range}
 use Rattle.sir_data.specs.Records.{operations, code}
 use Rattle.sir_data.specs.Codes.{isAlloc}
 use Rattle.sir_analyses.specs.Discovery.{blockKeys}
-use Rattle.sir_analyses.proofs.Keys.{Listing, listing-none, listing-as, listing-room, listing-one, listing-all}
+use Rattle.sir_analyses.proofs.Keys.{Listing, listing-none, listing-as, listing-put, listing-all, capped-all, capped-stop}
 use Rattle.sir_analyses.proofs.Discovery.{keysOf, key-next, key-skip, key-end, block-keys}
 use Rattle.sir_analyses.proofs.allocation_liveness.block_allocations.Statement.{statement}
 use Rattle.sir_analyses.proofs.allocation_liveness.block_allocations.Tie as tie
+use Rattle.sir_analyses.proofs.allocation_liveness.block_allocations.Reads as reads
+use Rattle.sir_analyses.proofs.allocation_liveness.block_allocations.Lts as lts
+use Rattle.sir_data.proofs.codes.is_alloc.Reads as is-alloc-reads
+use Rattle.sir_data.proofs.records.block_operations.Reads as block-operations-reads
+use Rattle.sir_data.proofs.records.op_word.Reads as op-word-reads
 
 abbrev Inv-loop : tie.InvT-loop
-Inv-loop words b out₀ at last m₀ o₀ out m o = Listing (blockKeys words (b .0)) at out₀ (keysOf words (b .0) (range o last)) out m
+Inv-loop words b keys₀ at last m₀ o₀ keys m o = (m ≤ length keys) × Listing (blockKeys words (b .0)) at keys₀ (keysOf words (b .0) (range o last)) keys m
 
 abbrev μ-loop : tie.MeasureT-loop
-μ-loop words b out₀ at last m₀ o₀ out m o = last - o
+μ-loop words b keys₀ at last m₀ o₀ keys m o = last - o
 
+-- src/allocation_liveness.rt:36:9
 block-operations-requires : tie.Need-block-operations-requires Inv-loop μ-loop
 block-operations-requires c κs = let S = c .before .before in (S .pre .0 .sized, S .pre .1 .0)
 
+-- src/allocation_liveness.rt:40:5
 loop-holds : tie.Need-loop-holds Inv-loop μ-loop
 loop-holds c = let S = c .before .before .before in
-    listing-as (block-keys (S .args .words .now) (S .args .b .0) _ _ (c .block-operations .ensures .0) (c .block-operations .ensures .1)) listing-none
+    (S .pre .1 .1, listing-as (block-keys (S .args .words .now) (S .args .b .0) _ _ (c .block-operations .ensures .0) (c .block-operations .ensures .1)) listing-none)
 
+-- src/allocation_liveness.rt:42:9
 add-o : tie.Need-add-o Inv-loop μ-loop
 add-o c = omega arith
 
+-- src/allocation_liveness.rt:43:21
 op-word-requires : tie.Need-op-word-requires Inv-loop μ-loop
 op-word-requires c κs = let S = c .before .before .before .before .before in
     let L = c .before .loop in
-    let B = c .before .before in
     let w = S .args .words .now in
-    let h : L .o < operations w = omega (arith, S .pre .0 .in-range .ops-range (S .args .b .0) (S .pre .1 .0), B .block-operations .ensures, c .loop-test .taken) in
+    let h : L .o < operations w = omega (arith, S .pre .0 .in-range .ops-range (S .args .b .0) (S .pre .1 .0), c .before .before .block-operations .ensures, c .loop-test .taken) in
     (S .pre .0 .sized, (h, omega arith))
 
+-- src/allocation_liveness.rt:43:12
 is-alloc-requires : tie.Need-is-alloc-requires Inv-loop μ-loop
 is-alloc-requires c κs = let S = c .before .before .before .before .before .before in
     let L = c .before .before .loop in
-    let B = c .before .before .before in
     let w = S .args .words .now in
-    let h : L .o < operations w = omega (arith, S .pre .0 .in-range .ops-range (S .args .b .0) (S .pre .1 .0), B .block-operations .ensures, c .before .loop-test .taken) in
+    let h : L .o < operations w = omega (arith, S .pre .0 .in-range .ops-range (S .args .b .0) (S .pre .1 .0), c .before .before .before .block-operations .ensures, c .before .loop-test .taken) in
     omega (arith, S .pre .0 .in-range .code-most (L .o) h, c .op-word .ensures)
 
-mul-out : tie.Need-mul-out Inv-loop μ-loop
-mul-out c = let S = c .before .before .before .before .before .before .before .before .before in
+-- src/allocation_liveness.rt:45:24
+add-result : tie.Need-add-result Inv-loop μ-loop
+add-result c = omega (arith, c .before .before .before .before .before .loop .inv .0)
+
+-- src/allocation_liveness.rt:45:17
+same-length : tie.Need-same-length Inv-loop μ-loop
+same-length c = c .before .before .before .before .before .loop .inv .1 .long
+
+-- src/allocation_liveness.rt:45:17
+returns : tie.Need-returns Inv-loop μ-loop
+returns c = let S = c .before .before .before .before .before .before .before .before .before in
+    let L = c .before .before .before .before .before .loop in
+    let w = S .args .words .now in
+    let t : isAlloc (code w (L .o)) ≡ true = ap isAlloc (sym (c .before .before .before .op-word .ensures)) ∙ sym (c .before .before .is-alloc .ensures) ∙ c .before .if1 .taken in
+    let e = key-next w (S .args .b .0) (L .o) (c .before .before .before .before .before .before .block-operations .result .end) (c .before .before .before .before .loop-test .taken) t in
+    capped-stop (omega (arith, c .if2 .taken)) (omega (arith, c .if2 .taken)) (listing-as e (L .inv .1))
+
+-- src/allocation_liveness.rt:47:23
+mul-keys : tie.Need-mul-keys Inv-loop μ-loop
+mul-keys c = let S = c .before .before .before .before .before .before .before .before .before .before in
     omega (arith, S .pre .0 .sized .blocks-most, S .pre .1 .0)
 
-add-out : tie.Need-add-out Inv-loop μ-loop
-add-out c = let S = c .before .before .before .before .before .before .before .before .before in
-    let L = c .before .before .before .before .before .loop in
-    let B = c .before .before .before .before .before .before in
+-- src/allocation_liveness.rt:47:23
+add-keys : tie.Need-add-keys Inv-loop μ-loop
+add-keys c = let S = c .before .before .before .before .before .before .before .before .before .before in
+    let L = c .before .before .before .before .before .before .loop in
     let w = S .args .words .now in
-    let h : L .o < operations w = omega (arith, S .pre .0 .in-range .ops-range (S .args .b .0) (S .pre .1 .0), B .block-operations .ensures, c .before .before .before .before .loop-test .taken) in
+    let h : L .o < operations w = omega (arith, S .pre .0 .in-range .ops-range (S .args .b .0) (S .pre .1 .0), c .before .before .before .before .before .before .before .block-operations .ensures, c .before .before .before .before .before .loop-test .taken) in
     omega (arith, S .pre .0 .sized .blocks-most, S .pre .0 .sized .operations-most, S .pre .1 .0)
 
-mul-out-2 : tie.Need-mul-out-2 Inv-loop μ-loop
-mul-out-2 c = omega arith
+-- src/allocation_liveness.rt:47:13
+mul-keys-2 : tie.Need-mul-keys-2 Inv-loop μ-loop
+mul-keys-2 c = omega arith
 
-slice-write-out : tie.Need-slice-write-out Inv-loop μ-loop
-slice-write-out c = let S = c .before .before .before .before .before .before .before .before .before in
-    let L = c .before .before .before .before .before .loop in
-    let B = c .before .before .before .before .before .before in
-    let w = S .args .words .now in
-    let last = B .block-operations .result .end in
-    let t : isAlloc (code w (L .o)) ≡ true = ap isAlloc (sym (c .before .before .before .op-word .ensures)) ∙ sym (c .before .before .is-alloc .ensures) ∙ c .before .if1 .taken in
-    let e = key-next w (S .args .b .0) (L .o) last (c .before .before .before .before .loop-test .taken) t in
-    listing-room (S .pre .1 .1) (listing-as e (L .inv))
+-- src/allocation_liveness.rt:47:13
+slice-write-keys : tie.Need-slice-write-keys Inv-loop μ-loop
+slice-write-keys c = omega (arith, c .before .before .before .before .before .before .loop .inv .0, c .before .if2 .left)
 
+-- src/allocation_liveness.rt:48:13
 add-m : tie.Need-add-m Inv-loop μ-loop
-add-m c = let S = c .before .before .before .before .before .before .before .before .before in
-    let L = c .before .before .before .before .before .loop in
-    let B = c .before .before .before .before .before .before in
-    let w = S .args .words .now in
-    let last = B .block-operations .result .end in
-    let t : isAlloc (code w (L .o)) ≡ true = ap isAlloc (sym (c .before .before .before .op-word .ensures)) ∙ sym (c .before .before .is-alloc .ensures) ∙ c .before .if1 .taken in
-    let e = key-next w (S .args .b .0) (L .o) last (c .before .before .before .before .loop-test .taken) t in
-    omega (arith, listing-room (S .pre .1 .1) (listing-as e (L .inv)))
+add-m c = omega (arith, c .before .before .before .before .before .before .loop .inv .0, c .before .if2 .left)
 
+-- src/allocation_liveness.rt:40:5
 loop-less : tie.Need-loop-less Inv-loop μ-loop
 loop-less c = omega arith
 
+-- src/allocation_liveness.rt:40:5
 loop-again : tie.Need-loop-again Inv-loop μ-loop
-loop-again c = let S = c .before .before .before .before .before .before .before .before .before in
-    let L = c .before .before .before .before .before .loop in
-    let B = c .before .before .before .before .before .before in
+loop-again c = let S = c .before .before .before .before .before .before .before .before .before .before in
+    let L = c .before .before .before .before .before .before .loop in
     let w = S .args .words .now in
-    let last = B .block-operations .result .end in
-    let t : isAlloc (code w (L .o)) ≡ true = ap isAlloc (sym (c .before .before .before .op-word .ensures)) ∙ sym (c .before .before .is-alloc .ensures) ∙ c .before .if1 .taken in
-    let e = key-next w (S .args .b .0) (L .o) last (c .before .before .before .before .loop-test .taken) t in
-    listing-one (S .pre .1 .1) (listing-as e (L .inv))
+    let t : isAlloc (code w (L .o)) ≡ true = ap isAlloc (sym (c .before .before .before .before .op-word .ensures)) ∙ sym (c .before .before .before .is-alloc .ensures) ∙ c .before .before .if1 .taken in
+    let e = key-next w (S .args .b .0) (L .o) (c .before .before .before .before .before .before .before .block-operations .result .end) (c .before .before .before .before .before .loop-test .taken) t in
+    let r : L .m < length (L .keys) = omega (arith, L .inv .0, c .before .if2 .left) in
+    (omega (arith, length-set (L .keys) (L .m) (1024 * S .args .b .0 + L .o)), listing-put r (listing-as e (L .inv .1)))
 
+-- src/allocation_liveness.rt:40:5
 loop-less-2 : tie.Need-loop-less-2 Inv-loop μ-loop
 loop-less-2 c = omega arith
 
+-- src/allocation_liveness.rt:40:5
 loop-again-2 : tie.Need-loop-again-2 Inv-loop μ-loop
 loop-again-2 c = let S = c .before .before .before .before .before .before .before .before in
     let L = c .before .before .before .before .loop in
-    let B = c .before .before .before .before .before in
     let w = S .args .words .now in
-    let last = B .block-operations .result .end in
     let t : isAlloc (code w (L .o)) ≡ false = ap isAlloc (sym (c .before .before .op-word .ensures)) ∙ sym (c .before .is-alloc .ensures) ∙ c .if1 .left in
-    listing-as (key-skip w (S .args .b .0) (L .o) last (c .before .before .before .loop-test .taken) t) (L .inv)
+    (L .inv .0, listing-as (key-skip w (S .args .b .0) (L .o) (c .before .before .before .before .before .block-operations .result .end) (c .before .before .before .loop-test .taken) t) (L .inv .1))
 
-same-length : tie.Need-same-length Inv-loop μ-loop
-same-length c = c .before .loop .inv .long
+-- src/allocation_liveness.rt:31:1
+same-length-2 : tie.Need-same-length-2 Inv-loop μ-loop
+same-length-2 c = c .before .loop .inv .1 .long
 
-returns : tie.Need-returns Inv-loop μ-loop
-returns c = let S = c .before .before .before .before .before in
+-- src/allocation_liveness.rt:31:1
+returns-2 : tie.Need-returns-2 Inv-loop μ-loop
+returns-2 c = let S = c .before .before .before .before .before in
     let L = c .before .loop in
-    let B = c .before .before in
     let w = S .args .words .now in
-    let last = B .block-operations .result .end in
-    listing-all (key-end w (S .args .b .0) (L .o) last (c .loop-test .left)) (L .inv)
+    capped-all (L .inv .0) (listing-all (key-end w (S .args .b .0) (L .o) (c .before .before .block-operations .result .end) (c .loop-test .left)) (L .inv .1))
 
 pub block-allocations-spec : {M : Type 1} → statement M
 block-allocations-spec =
@@ -126,14 +142,17 @@ block-allocations-spec =
     add-o
     op-word-requires
     is-alloc-requires
-    mul-out
-    add-out
-    mul-out-2
-    slice-write-out
+    add-result
+    same-length
+    returns
+    mul-keys
+    add-keys
+    mul-keys-2
+    slice-write-keys
     add-m
     loop-less
     loop-again
     loop-less-2
     loop-again-2
-    same-length
-    returns)
+    same-length-2
+    returns-2)

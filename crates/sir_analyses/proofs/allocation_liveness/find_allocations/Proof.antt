@@ -1,63 +1,88 @@
--- `find_allocations` meets its contract. The invariant: the keys of the blocks left are to be written.
+use mathlib.Core.Path.{_∙_}
 use Prim.Native.Nat.{_+_, _-_, _≤_}
 use native.Mathlib.Omega.{arith}
 use lib.ListN.{length, getD, drop}
 use Rattle.plank_core.specs.Lists.{bind}
 use Rattle.plank_core.specs.laws.Lists.{getD-mem}
 use Rattle.sir_analyses.specs.Discovery.{allocKeys, blockKeys}
-use Rattle.sir_analyses.proofs.Keys.{Listing, listing-none, listing-as, listing-fits, listing-more, listing-all, rpo-below}
+use Rattle.sir_analyses.proofs.Keys.{Listing, listing-none, listing-as, listing-more, listing-all, capped-all, capped-over, capped-fits, rpo-below}
 use Rattle.sir_analyses.proofs.UseWords.{block-next, block-end}
 use Rattle.sir_analyses.proofs.Discovery.{keys-start}
 use Rattle.sir_analyses.proofs.allocation_liveness.find_allocations.Statement.{statement}
 use Rattle.sir_analyses.proofs.allocation_liveness.find_allocations.Tie as tie
+use Rattle.sir_analyses.proofs.allocation_liveness.find_allocations.Reads as reads
+use Rattle.sir_analyses.proofs.allocation_liveness.find_allocations.Lts as lts
+use Rattle.sir_analyses.proofs.allocation_liveness.block_allocations.Reads as block-allocations-reads
 
 abbrev Inv-loop : tie.InvT-loop
-Inv-loop words rpo out₀ m₀ i₀ out m i = (i ≤ length rpo) × Listing (allocKeys words) 0 out₀ (bind (drop i rpo) (blockKeys words)) out m
+Inv-loop words rpo keys₀ m₀ i₀ keys m i = (i ≤ length rpo) × (m ≤ length keys) × Listing (allocKeys words) 0 keys₀ (bind (drop i rpo) (blockKeys words)) keys m
 
 abbrev μ-loop : tie.MeasureT-loop
-μ-loop words rpo out₀ m₀ i₀ out m i = length rpo - i
+μ-loop words rpo keys₀ m₀ i₀ keys m i = length rpo - i
 
+-- src/allocation_liveness.rt:62:5
 loop-holds : tie.Need-loop-holds Inv-loop μ-loop
-loop-holds c = let S = c .before .before .before in (omega arith, listing-as (keys-start (S .args .words .now) (S .args .rpo .now) (S .pre .1 .0)) listing-none)
+loop-holds c = let S = c .before .before .before in
+    (omega arith, omega arith, listing-as (keys-start (S .args .words .now) (S .args .rpo .now) (S .pre .1)) listing-none)
 
+-- src/allocation_liveness.rt:63:46
 mul-t6 : tie.Need-mul-t6 Inv-loop μ-loop
 mul-t6 c = omega arith
 
+-- src/allocation_liveness.rt:63:46
 shared-slice-read-t9 : tie.Need-shared-slice-read-t9 Inv-loop μ-loop
 shared-slice-read-t9 c = omega arith
 
+-- src/allocation_liveness.rt:63:9
 block-allocations-requires : tie.Need-block-allocations-requires Inv-loop μ-loop
 block-allocations-requires c κs = let S = c .before .before .before .before .before .before .before in
     let L = c .before .before .before .loop in
     let w = S .args .words .now in
     let rpo = S .args .rpo .now in
-    let e = block-next (blockKeys w) rpo (L .i) (c .before .before .loop-test .taken) in
     let b = getD rpo (L .i) 0 in
-    (S .pre .0, (rpo-below w (S .pre .0) (S .pre .1 .0) b (getD-mem rpo (L .i) 0 (c .before .before .loop-test .taken)), listing-fits (blockKeys w b) (bind (drop (L .i + 1) rpo) (blockKeys w)) (omega (arith, S .pre .1 .1)) (listing-as e (L .inv .1))))
+    (S .pre .0, (rpo-below w (S .pre .0) (S .pre .1) b (getD-mem rpo (L .i) 0 (c .before .before .loop-test .taken)), omega (arith, L .inv .1)))
 
+-- src/allocation_liveness.rt:65:13
+same-length : tie.Need-same-length Inv-loop μ-loop
+same-length c = c .before .before .before .block-allocations .ensures .long ∙ c .before .before .before .before .before .before .before .loop .inv .2 .long
+
+-- src/allocation_liveness.rt:65:13
+returns : tie.Need-returns Inv-loop μ-loop
+returns c = let S = c .before .before .before .before .before .before .before .before .before .before .before in
+    let L = c .before .before .before .before .before .before .before .loop in
+    let w = S .args .words .now in
+    let rpo = S .args .rpo .now in
+    let e = block-next (blockKeys w) rpo (L .i) (c .before .before .before .before .before .before .loop-test .taken) in
+    capped-over (blockKeys w (getD rpo (L .i) 0)) (bind (drop (L .i + 1) rpo) (blockKeys w)) (omega (arith, c .if1 .taken)) (listing-as e (L .inv .2)) (c .before .before .before .block-allocations .ensures)
+
+-- src/allocation_liveness.rt:67:9
 add-i : tie.Need-add-i Inv-loop μ-loop
 add-i c = omega arith
 
+-- src/allocation_liveness.rt:62:5
 loop-less : tie.Need-loop-less Inv-loop μ-loop
 loop-less c = omega arith
 
+-- src/allocation_liveness.rt:62:5
 loop-again : tie.Need-loop-again Inv-loop μ-loop
-loop-again c = let S = c .before .before .before .before .before .before .before .before .before .before in
-    let L = c .before .before .before .before .before .before .loop in
+loop-again c = let S = c .before .before .before .before .before .before .before .before .before .before .before in
+    let L = c .before .before .before .before .before .before .before .loop in
     let w = S .args .words .now in
     let rpo = S .args .rpo .now in
-    let e = block-next (blockKeys w) rpo (L .i) (c .before .before .before .before .before .loop-test .taken) in
-    (omega arith, listing-more (listing-as e (L .inv .1)) (c .before .before .block-allocations .ensures))
+    let e = block-next (blockKeys w) rpo (L .i) (c .before .before .before .before .before .before .loop-test .taken) in
+    (omega arith, omega (arith, c .if1 .left), listing-more (listing-as e (L .inv .2)) (capped-fits (omega (arith, c .if1 .left)) (c .before .before .before .block-allocations .ensures)))
 
-same-length : tie.Need-same-length Inv-loop μ-loop
-same-length c = c .before .loop .inv .1 .long
+-- src/allocation_liveness.rt:55:1
+same-length-2 : tie.Need-same-length-2 Inv-loop μ-loop
+same-length-2 c = c .before .loop .inv .2 .long
 
-returns : tie.Need-returns Inv-loop μ-loop
-returns c = let S = c .before .before .before .before .before in
+-- src/allocation_liveness.rt:55:1
+returns-2 : tie.Need-returns-2 Inv-loop μ-loop
+returns-2 c = let S = c .before .before .before .before .before in
     let L = c .before .loop in
     let w = S .args .words .now in
     let rpo = S .args .rpo .now in
-    listing-all (block-end (blockKeys w) rpo (L .i) (c .loop-test .left)) (L .inv .1)
+    capped-all (L .inv .1) (listing-all (block-end (blockKeys w) rpo (L .i) (c .loop-test .left)) (L .inv .2))
 
 pub find-allocations-spec : {M : Type 1} → statement M
 find-allocations-spec =
@@ -69,8 +94,10 @@ find-allocations-spec =
     mul-t6
     shared-slice-read-t9
     block-allocations-requires
+    same-length
+    returns
     add-i
     loop-less
     loop-again
-    same-length
-    returns)
+    same-length-2
+    returns-2)

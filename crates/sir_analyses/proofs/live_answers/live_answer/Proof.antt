@@ -66,8 +66,8 @@ slice-aggregate-live-sets-5 c = search needs
 
 -- src/live_answers.rt:109:9
 live-sets-requires : tie.Need-live-sets-requires
-live-sets-requires c κs = let r = c .before .before .before .before .before .before .before .before .before .before .before .before .before .before .pre .0 in
-    (r .well-formed, ((r .seen-are, r .rpo-is), (c .before .before .before .before .before .before .before .operand-sets .ensures, (refl, refl, refl))))
+live-sets-requires c κs = let r = c .before .before .before .before .before .before .before .before .before .before .before .before .before .before .pre in
+    (r .0, (r .1 .0, (c .before .before .before .before .before .before .before .operand-sets .ensures, (refl, refl, refl))))
 
 -- src/live_answers.rt:120:32
 enum-known-question : tie.Need-enum-known-question
@@ -88,8 +88,8 @@ slice-aggregate-entry-answer-3 c = search needs
 -- src/live_answers.rt:120:38
 entry-answer-requires : tie.Need-entry-answer-requires
 entry-answer-requires c κs = let s = c .before .before .before .before .before .before .before .before .before .before .before .before .before .before .before .before .before .before .before .before .before .before .before .before .before in
-    let r = s .pre .0 in
-    (r .well-formed, ((r .seen-are, c .before .before .before .before .before .before .before .before .before .before .live-sets .ensures .1), known-below blocks _ (s .args .words .now) (below (s .args .words .now) (c .before .before .before .before .before .question .given .1) (s .pre .1))))
+    let r = s .pre in
+    (r .0, ((r .1 .0 .0, c .before .before .before .before .before .before .before .before .before .before .live-sets .ensures .1), known-below blocks _ (s .args .words .now) (below (s .args .words .now) (c .before .before .before .before .before .question .given .1) (s .pre .1 .1))))
 
 -- src/live_answers.rt:121:31
 enum-known-question-2 : tie.Need-enum-known-question-2
@@ -106,12 +106,12 @@ cast-row-of c = search needs
 -- src/live_answers.rt:121:48
 row-of-requires : tie.Need-row-of-requires
 row-of-requires c κs = let s = c .before .before .before .before .before .before .before .before .before .before .before .before .before .before .before .before .before .before .before .before .before .before .before in
-    omega (arith, known-below blocks _ (s .args .words .now) (below (s .args .words .now) (c .before .before .before .question2 .given .1) (s .pre .1)), c .before .before .before .before .before .before .before .before .live-sets .ensures .1 .exits-long, s .pre .0 .well-formed .sized .blocks-most)
+    omega (arith, known-below blocks _ (s .args .words .now) (below (s .args .words .now) (c .before .before .before .question2 .given .1) (s .pre .1 .1)), c .before .before .before .before .before .before .before .before .live-sets .ensures .1 .exits-long, s .pre .0 .sized .blocks-most)
 
 -- src/live_answers.rt:121:37
 set-answer-requires : tie.Need-set-answer-requires
 set-answer-requires c κs = let s = c .before .before .before .before .before .before .before .before .before .before .before .before .before .before .before .before .before .before .before .before .before .before .before .before .before in
-    row-answer (s .pre .0 .well-formed) (c .before .before .before .before .before .before .before .before .before .before .live-sets .ensures .1) (known-below blocks _ (s .args .words .now) (below (s .args .words .now) (c .before .before .before .before .before .question2 .given .1) (s .pre .1))) (c .before .row-of .ensures) .0
+    row-answer (s .pre .0) (c .before .before .before .before .before .before .before .before .before .before .live-sets .ensures .1) (known-below blocks _ (s .args .words .now) (below (s .args .words .now) (c .before .before .before .before .before .question2 .given .1) (s .pre .1 .1))) (c .before .row-of .ensures) .0
 
 -- src/live_answers.rt:122:33
 enum-known-question-3 : tie.Need-enum-known-question-3
@@ -132,9 +132,9 @@ slice-aggregate-intervals-answer-3 c = search needs
 -- src/live_answers.rt:123:13
 intervals-answer-requires : tie.Need-intervals-answer-requires
 intervals-answer-requires c κs = let s = c .before .before .before .before .before .before .before .before .before .before .before .before .before .before .before .before .before .before .before .before .before .before .before .before .before in
-    let r = s .pre .0 in
+    let r = s .pre in
     let l = c .before .before .before .before .before .before .before .before .before .before .live-sets .ensures .1 in
-    (r .well-formed, ((r .rpo-is, c .before .before .before .before .before .before .before .before .before .before .before .before .before .before .before .before .before .before .operand-sets .ensures), (l .exits-long, l .exit-rows, known-below locals _ (s .args .words .now) (below (s .args .words .now) (c .before .before .before .before .before .question3 .given .1) (s .pre .1)))))
+    (r .0, ((r .1 .0 .1, c .before .before .before .before .before .before .before .before .before .before .before .before .before .before .before .before .before .before .operand-sets .ensures), (l .exits-long, l .exit-rows, known-below locals _ (s .args .words .now) (below (s .args .words .now) (c .before .before .before .before .before .question3 .given .1) (s .pre .1 .1)))))
 
 -- src/live_answers.rt:125:47
 enum-told : tie.Need-enum-told
@@ -165,7 +165,7 @@ same-length-2 c = search needs
 returns-2 : tie.Need-returns-2
 returns-2 c = let s = c .before .before .before .before .before .before .before .before .before .before .before .before .before .before .before .before .before .before .before .before .before .before .before .before .before .before .before .before in
     let a = s .args in
-    c .before .before .set-answer .ensures ∙ ap (λ (l : List ℕ). answered (bind l bytesOf) (a .out .now)) (row-answer (s .pre .0 .well-formed) (c .before .before .before .before .before .before .before .before .before .before .before .before .before .live-sets .ensures .1) (known-below blocks _ (s .args .words .now) (below (s .args .words .now) (c .before .before .before .before .before .before .before .before .question2 .given .1) (s .pre .1))) (c .before .before .before .before .row-of .ensures) .1) ∙ live-as (a .words .now) (a .out .now) (c .before .before .before .before .before .before .before .before .question2 .given .1)
+    c .before .before .set-answer .ensures ∙ ap (λ (l : List ℕ). answered (bind l bytesOf) (a .out .now)) (row-answer (s .pre .0) (c .before .before .before .before .before .before .before .before .before .before .before .before .before .live-sets .ensures .1) (known-below blocks _ (s .args .words .now) (below (s .args .words .now) (c .before .before .before .before .before .before .before .before .question2 .given .1) (s .pre .1 .1))) (c .before .before .before .before .row-of .ensures) .1) ∙ live-as (a .words .now) (a .out .now) (c .before .before .before .before .before .before .before .before .question2 .given .1)
 
 -- src/live_answers.rt:92:1
 same-length-3 : tie.Need-same-length-3

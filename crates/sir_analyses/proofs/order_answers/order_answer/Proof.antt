@@ -47,7 +47,7 @@ same-length c = search needs
 -- src/order_answers.rt:63:1
 returns : tie.Need-returns
 returns c = let a = c .before .before .before .before .before .before .before .before .before .before .before .args in
-    c .before .before .visit-answer .ensures ∙ ap (λ (l : List ℕ). answered (bind l bytesOf) (a .out .now)) (c .before .before .before .before .before .before .before .before .before .before .before .pre .1 .0) ∙ ap (λ (q : OrderQuestion). answered (inWords (answerWords (Question.OfOrder q)) (a .words .now)) (a .out .now)) (sym (c .before .before .before .before .enum-told .given .1))
+    c .before .before .visit-answer .ensures ∙ ap (λ (l : List ℕ). answered (bind l bytesOf) (a .out .now)) (c .before .before .before .before .before .before .before .before .before .before .before .pre .1 .1 .0) ∙ ap (λ (q : OrderQuestion). answered (inWords (answerWords (Question.OfOrder q)) (a .words .now)) (a .out .now)) (sym (c .before .before .before .before .enum-told .given .1))
 
 -- src/order_answers.rt:63:1
 same-length-2 : tie.Need-same-length-2
