@@ -16,7 +16,6 @@ use plank_core::rows::row_contains;
 use plank_core::rows::row_of;
 use sir_analyses::allocation_answers::tables_answer;
 use sir_analyses::allocation_liveness::discover_allocations;
-use sir_analyses::allocation_liveness::find_allocations;
 use sir_analyses::block_sets::end_sets;
 use sir_analyses::block_sets::operand_sets;
 use sir_analyses::loading::load;
@@ -340,10 +339,10 @@ fn report_tables(
 }
 
 // The report of an accepted image's words: its analyses, each run once, then the lines.
-fn report_words(words: &[u32], seen: &[u64], rpo: &[u32]) -> u32
+fn report_words(words: &[u32], seen: &[u64], rpo: &[u32], keys: &[u32]) -> u32
     requires { ⌜ WellFormed (now words) ⌝ }
     requires { ⌜ SeenBlocks (now words) (now seen) × (now rpo ≡ blocksRpo (now words)) × (length (now rpo) ≤ 256) × (length (orderAnswer (now words)) ≤ 384) ⌝ }
-    requires { ⌜ (rule12 (now words) ≡ false) × (length (allocKeys (now words)) ≤ 512) ⌝ }
+    requires { ⌜ (rule12 (now words) ≡ false) × (now keys ≡ allocKeys (now words)) × (length (now keys) ≤ 512) ⌝ }
     ensures { λ r. ⌜ r ≡ cond (someTooLong (now (words .entry))) 14 0 ⌝ }
 {
     let mut reads = [0u64; 8192];
@@ -362,14 +361,12 @@ fn report_words(words: &[u32], seen: &[u64], rpo: &[u32]) -> u32
         &mut defs,
         &mut exits,
     );
-    let mut keys = [0u32; 512];
-    let n = find_allocations(words, rpo, &mut keys);
     let mut links = [0u64; 4096];
     let mut harms = [0u64; 8];
     pointer_links(words, rpo, &mut links, &mut harms);
     let mut owner = [0u32; 512];
     let mut marks = [0u64; 8];
-    discover_allocations(words, &keys[..n], &links, &harms, &mut owner, &mut marks);
+    discover_allocations(words, keys, &links, &harms, &mut owner, &mut marks);
     report_tables(
         words,
         seen,
@@ -379,7 +376,7 @@ fn report_words(words: &[u32], seen: &[u64], rpo: &[u32]) -> u32
         &uses,
         &defs,
         &exits,
-        &keys[..n],
+        keys,
         &owner,
         &marks,
         done,
@@ -394,7 +391,10 @@ pub fn report(image: &[u8]) -> u32
     let mut seen = [0u64; 16];
     let mut post = [0u32; 320];
     let mut rpo = [0u32; 256];
-    let sizes = load(image, &mut words, &mut seen, &mut post, &mut rpo);
+    let mut keys = [0u32; 512];
+    let sizes = load(
+        image, &mut words, &mut seen, &mut post, &mut rpo, &mut keys,
+    );
     let number = sizes.number;
     if number != 0 {
         say_refused(number, &mut [0u8; 32]);
@@ -402,5 +402,6 @@ pub fn report(image: &[u8]) -> u32
     }
     let n = sizes.words;
     let blocks = sizes.blocks;
-    report_words(&words[..n], &seen, &rpo[..blocks])
+    let allocations = sizes.allocations;
+    report_words(&words[..n], &seen, &rpo[..blocks], &keys[..allocations])
 }
