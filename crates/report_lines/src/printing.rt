@@ -392,9 +392,7 @@ pub fn report(image: &[u8]) -> u32
     let mut post = [0u32; 320];
     let mut rpo = [0u32; 256];
     let mut keys = [0u32; 512];
-    let sizes = load(
-        image, &mut words, &mut seen, &mut post, &mut rpo, &mut keys,
-    );
+    let sizes = load(image, &mut words, &mut seen, &mut post, &mut rpo, &mut keys);
     let number = sizes.number;
     if number != 0 {
         say_refused(number, &mut [0u8; 32]);
