@@ -4,7 +4,7 @@ ghost use Prim.Native.Nat.{_<_, _≤_};
 ghost use Rattle.sir_data.specs.Codes.{arityOk, isCall, isStaticAlloc, isDynamicAlloc, isAlloc, derives, escaping};
 
 // How many inputs the code takes, where that is fixed.
-const INPUTS: [usize; 93] = [
+const INPUTS: [u8; 93] = [
     2, // Keccak256
     1, // Balance
     1, // CallDataLoad
@@ -101,7 +101,7 @@ const INPUTS: [usize; 93] = [
 ];
 
 // How many outputs the code gives, where that is fixed.
-const OUTPUTS: [usize; 93] = [
+const OUTPUTS: [u8; 93] = [
     1, // Keccak256
     1, // Balance
     1, // CallDataLoad
@@ -488,6 +488,13 @@ const ALLOCATES: [u8; 93] = [
     0, // RuntimeLength
 ];
 
+// A table's entry as a count.
+fn wide(x: u8) -> usize
+    ensures { λ r. ⌜ r ≡ x ⌝ }
+{
+    x as usize
+}
+
 // Are these operand counts right for the code? A call with results takes any to any, one without any to 0.
 pub fn operand_counts_right(code: u32, inputs: usize, outputs: usize) -> bool
     requires { ⌜ code ≤ 92 ⌝ }
@@ -500,7 +507,7 @@ pub fn operand_counts_right(code: u32, inputs: usize, outputs: usize) -> bool
         return outputs == 0;
     }
     let c = code as usize;
-    inputs == INPUTS[c] && outputs == OUTPUTS[c]
+    inputs == wide(INPUTS[c]) && outputs == wide(OUTPUTS[c])
 }
 
 // Is this bit of the code's mask set?
