@@ -1,8 +1,8 @@
 -- The text by the bytes of an answer is the text by its intervals.
-use mathlib.Core.Path.{_≡_, refl, sym, ap, _∙_}
+use mathlib.Core.Path.{_≡_, refl, sym, ap, _∙_, subst}
 use mathlib.Core.Bool.{Bool, true, false, cond}
 use mathlib.Core.List.{List, [], _∷_, _++_, append-assoc}
-use Prim.Native.Nat.{ℕ, zero, suc, _+_, _-_, _*_, _/_, _%_, _<_}
+use Prim.Native.Nat.{ℕ, zero, suc, _+_, _-_, _*_, _/_, _%_, _≤_, _<_}
 use native.Mathlib.Omega.{arith}
 use lib.ListN.{length, getD, length-append}
 use lib.Seq.{getD-append-add}
@@ -14,6 +14,7 @@ use Rattle.sir_analyses.specs.Liveness.{Interval, intervals}
 use Rattle.sir_analyses.specs.Allocation.{allocs, allocAt, base, marked, merged}
 use Rattle.sir_analyses.specs.Answers.{intervalWords, intervalsAnswer, allocationAnswer}
 use Rattle.sir_analyses.specs.Kinds.{kindOf, kindWords}
+use Rattle.sir_analyses.specs.declared.allocation_words.AllocKind.{AllocKind}
 use Rattle.sir_analyses.specs.laws.Writing.{length-bytes}
 use Rattle.report_lines.specs.Lines.{ascii, named, intervalText, interval, localText, allocationText}
 use Rattle.report_lines.specs.Putting.{Words, intervalAt, intervalsAt, EndsSome, localLine, mark, allocationHead, allocationLine}
@@ -86,6 +87,11 @@ pub length-words : (is : List Interval) → length (intervalWords is) ≡ 3 * le
 length-words [] = refl
 length-words (i ∷ is) = let h = length-words is in omega arith
 
+-- a kind is three words
+three-words : (k : AllocKind) → kindWords k ≡ getD (kindWords k) 0 0 ∷ getD (kindWords k) 1 0 ∷ getD (kindWords k) 2 0 ∷ []
+three-words (AllocKind.Static size id) = refl
+three-words (AllocKind.Dynamic local) = refl
+
 module _ (w : List ℕ) (small : Words w) (seq : Words (blocksRpo w)) where
   -- ---- the line of a local
 
@@ -106,14 +112,28 @@ module _ (w : List ℕ) (small : Words w) (seq : Words (blocksRpo w)) where
   -- ---- the line of an allocation
 
   module _ (a : ℕ) (l : a < length (allocs w)) where
+    abbrev kind : List ℕ
+    kind = kindWords (kindOf w (allocAt w a .op))
+
     abbrev front : List ℕ
-    front = allocAt w a .block ∷ allocAt w a .op ∷ base w (allocAt w a) ∷ (kindWords (kindOf w (allocAt w a .op)) ++ (oneIf (marked w a) ∷ length (merged w a) ∷ []))
+    front =
+        allocAt w a .block ∷ allocAt w a .op ∷ base w (allocAt w a) ∷ getD kind 0 0 ∷ getD kind 1 0 ∷ getD kind 2 0
+        ∷ oneIf (marked w a) ∷ length (merged w a) ∷ []
 
-    allocation-count : (length (bind (allocationAnswer w a) bytesOf) - 32) / 12 ≡ length (merged w a)
-    allocation-count = omega (arith, length-bytes (allocationAnswer w a), length-words (merged w a))
+    -- the answer, with the words of its kind one by one
+    abbrev answer : List ℕ
+    answer = front ++ intervalWords (merged w a)
 
-    pub allocation-ends : EndsSome (bind (allocationAnswer w a) bytesOf) 8 ((length (bind (allocationAnswer w a) bytesOf) - 32) / 12)
-    allocation-ends k h = ends-from (merged w a) k front refl (merged-good w small seq a) (omega (arith, allocation-count))
+    spelled : answer ≡ allocationAnswer w a
+    spelled =
+        ap (λ (ks : List ℕ). allocAt w a .block ∷ allocAt w a .op ∷ base w (allocAt w a) ∷ (ks ++ (oneIf (marked w a) ∷ length (merged w a) ∷ intervalWords (merged w a))))
+        (sym (three-words (kindOf w (allocAt w a .op))))
+
+    allocation-count : (length (bind answer bytesOf) - 32) / 12 ≡ length (merged w a)
+    allocation-count = omega (arith, length-bytes answer, length-words (merged w a))
+
+    answer-ends : EndsSome (bind answer bytesOf) 8 ((length (bind answer bytesOf) - 32) / 12)
+    answer-ends k h = ends-from (merged w a) k front refl (merged-good w small seq a) (omega (arith, allocation-count))
 
     mark-as : (t : Bool) → mark (oneIf t) ≡ cond t (ascii " escaped") (ascii " kept")
     mark-as true = refl
@@ -123,20 +143,29 @@ module _ (w : List ℕ) (small : Words w) (seq : Words (blocksRpo w)) where
     one-small true = omega arith
     one-small false = omega arith
 
-    pub allocation-as : allocationLine a (bind (allocationAnswer w a) bytesOf) ≡ allocationText w a
+    answer-as : allocationLine a (bind answer bytesOf) ≡ allocationText w a
     unfolding allocationText allocationHead
-    allocation-as =
+    answer-as =
         let x = alloc-small w small seq a l in
-        let b : wordAt (bind (allocationAnswer w a) bytesOf) 0 ≡ allocAt w a .block = word-bytes (allocationAnswer w a) 0 (omega arith) (x .0) in
-        let o : wordAt (bind (allocationAnswer w a) bytesOf) 1 ≡ allocAt w a .op = word-bytes (allocationAnswer w a) 1 (omega arith) (x .1) in
-        let v : wordAt (bind (allocationAnswer w a) bytesOf) 2 ≡ base w (allocAt w a) = word-bytes (allocationAnswer w a) 2 (omega arith) (base-small w small seq (allocAt w a)) in
-        let m : wordAt (bind (allocationAnswer w a) bytesOf) 6 ≡ oneIf (marked w a) = word-bytes (allocationAnswer w a) 6 (omega arith) (one-small (marked w a)) in
-        let h : allocationHead a (bind (allocationAnswer w a) bytesOf) ≡
+        let b : wordAt (bind answer bytesOf) 0 ≡ allocAt w a .block = word-bytes answer 0 (omega arith) (x .0) in
+        let o : wordAt (bind answer bytesOf) 1 ≡ allocAt w a .op = word-bytes answer 1 (omega arith) (x .1) in
+        let v : wordAt (bind answer bytesOf) 2 ≡ base w (allocAt w a) = word-bytes answer 2 (omega arith) (base-small w small seq (allocAt w a)) in
+        let m : wordAt (bind answer bytesOf) 6 ≡ oneIf (marked w a) = word-bytes answer 6 (omega arith) (one-small (marked w a)) in
+        let h : allocationHead a (bind answer bytesOf) ≡
         named (ascii "a") a ++ named (ascii " b") (allocAt w a .block) ++ named (ascii " op") (allocAt w a .op) ++ named (ascii " v") (base w (allocAt w a))
         ++ cond (marked w a) (ascii " escaped") (ascii " kept") = rw (b, o, v, m) (rw (mark-as (marked w a)) refl) in
-        ap (λ (n : ℕ). allocationHead a (bind (allocationAnswer w a) bytesOf) ++ intervalsAt (bind (allocationAnswer w a) bytesOf) 8 n ++ ascii "\n") allocation-count
-        ∙ ap (λ (t : List ℕ). allocationHead a (bind (allocationAnswer w a) bytesOf) ++ t ++ ascii "\n") (texts-from 8 (merged w a) 0 front refl (omega arith) (merged-good w small seq a))
+        ap (λ (n : ℕ). allocationHead a (bind answer bytesOf) ++ intervalsAt (bind answer bytesOf) 8 n ++ ascii "\n") allocation-count
+        ∙ ap (λ (t : List ℕ). allocationHead a (bind answer bytesOf) ++ t ++ ascii "\n") (texts-from 8 (merged w a) 0 front refl (omega arith) (merged-good w small seq a))
         ∙ ap (λ (t : List ℕ). t ++ bind (merged w a) intervalText ++ ascii "\n") h
+
+    pub allocation-least : 8 ≤ length (allocationAnswer w a)
+    allocation-least = omega (arith, ap length spelled)
+
+    pub allocation-ends : EndsSome (bind (allocationAnswer w a) bytesOf) 8 ((length (bind (allocationAnswer w a) bytesOf) - 32) / 12)
+    allocation-ends = subst (λ (xs : List ℕ). EndsSome (bind xs bytesOf) 8 ((length (bind xs bytesOf) - 32) / 12)) spelled answer-ends
+
+    pub allocation-as : allocationLine a (bind (allocationAnswer w a) bytesOf) ≡ allocationText w a
+    allocation-as = ap (λ (xs : List ℕ). allocationLine a (bind xs bytesOf)) (sym spelled) ∙ answer-as
 
 -- what is lent is the answer
 pub local-ends-as : {xs ys : List ℕ} → xs ≡ ys → EndsSome ys 0 (length ys / 12) → EndsSome xs 0 (length xs / 12)

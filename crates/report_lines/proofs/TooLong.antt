@@ -42,7 +42,7 @@ pub stands : (xs : List ℕ) {out out′ : List ℕ} {r : ℕ} → length out �
 stands xs {out} {out′} {r} l e p =
     let w : Puts (length out) 0 xs out out′ r = rw (sym l) at p in
     let f : 4 * length xs ≤ length out = omega (arith, short xs e) in
-    ap (take (4 * r)) (w .left ∙ puts-within 65536 xs out f f)
+    ap (take (4 * r)) (w .left ∙ puts-within (length out) xs out f f)
     ∙ take-at (bind xs bytesOf) (drop (4 * length xs) out) (4 * r) (omega (arith, length-bytes xs, p .next))
 
 -- the same of an answer that was asked for: 14 tells that it is too long

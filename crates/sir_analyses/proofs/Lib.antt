@@ -27,6 +27,7 @@ pub mod SourceTables
 pub mod SourceMerging
 pub mod SourceScans
 pub mod SourceLive
+pub mod SourceOrders
 pub mod Bases
 pub mod Positions
 pub mod Marks

@@ -7,10 +7,10 @@ use native.Mathlib.Omega.{arith}
 use mathlib.Core.List.{List, [], _∷_, _++_, map, reverse, List·Memᴰ, List·Memᴰ·head, List·Memᴰ·tail, List·Memᴰ·eq-of-singleton, List·Memᴰ·append-cases}
 use lib.Dec.{eqb}
 use borrow.Author.Tests.{eqb-true, eq-eqb}
-use Rattle.plank_core.specs.Lists.{bind, keep, mem, oneIf}
+use Rattle.plank_core.specs.Lists.{bind, keep, mem, oneIf, times}
 use Rattle.sir_analyses.specs.Order.{Visit}
 use Rattle.sir_analyses.specs.Claims.{Item, function, block}
-use Rattle.plank_core.specs.laws.Lists.{bool-or, times, times-append, times-reverse}
+use Rattle.plank_core.specs.laws.Lists.{bool-or, times-append, times-reverse}
 use Rattle.sir_analyses.proofs.OrderLaws.{seen, enter, finish, owner, kids, visit, visits, visit-zero, visit-new, visit-old, Grows, enter-grows, grows, all-grow}
 
 -- ---- the blocks of each function in turn: each pair's block, if its function stands once among the functions

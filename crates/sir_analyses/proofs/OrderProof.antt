@@ -8,11 +8,11 @@ use native.Mathlib.Omega.{arith}
 use mathlib.Core.List.{List, [], _∷_, map, List·Memᴰ, List·Memᴰ·head, List·Memᴰ·tail, List·Memᴰ·not-nil, List·Memᴰ·cases-cons, List·Memᴰ·eq-of-singleton, Memᴰ·append-left, Memᴰ·append-right, Memᴰ·map, Memᴰ·of-map, Memᴰ·cast}
 use lib.Dec.{eqb}
 use borrow.Author.Tests.{eqb-true, eq-eqb}
-use Rattle.plank_core.specs.Lists.{bind, keep, mem, distinct, upto, oneIf, _∈_}
+use Rattle.plank_core.specs.Lists.{bind, keep, mem, distinct, upto, oneIf, _∈_, times}
 use Rattle.sir_data.specs.Records.{functions, blocks, initFunction, mainPlusOne, optional, entryBlock, ops, successors, callees}
 use Rattle.sir_analyses.specs.Order.{Visit, start, visited, functionsRpo, blocksRpo, isVisited, predecessors}
 use Rattle.sir_analyses.specs.Claims.{Item, function, block, Visited, init, main, entry, successor, callee, OrderRule}
-use Rattle.plank_core.specs.laws.Lists.{or-cases, bool-or, none, refuted, no-members, map-each, bind-mem, bind-out, keep-mem, keep-out, upto-mem, oneIf-most, oneIf-some, times, times-reverse, mem-times, times-mem, times-distinct, split}
+use Rattle.plank_core.specs.laws.Lists.{or-cases, bool-or, none, refuted, no-members, map-each, bind-mem, bind-out, keep-mem, keep-out, upto-mem, oneIf-most, oneIf-some, times-reverse, mem-times, times-mem, times-distinct, split}
 use Rattle.sir_data.specs.WellFormed.{InRange, WellFormed}
 use Rattle.sir_analyses.proofs.OrderLaws.{seen, enter, finish, owner, kids, visit, visits, visits-functions, visit-zero, visit-new, visit-old, left, Grows, grows, all-grow, Ok, kids-each, kids-ok, enter-left, left-none, left-most, order-function, order-block}
 use Rattle.sir_analyses.proofs.OrderOnce.{spread, done, tally, all-tally, Owned, May, all-owned}

@@ -10,8 +10,8 @@ use lib.ListN.{length, getD, set, take, replicate, length-set, List·getD-eq-def
 use lib.Seq.{length-take-le, take-suc, take-suc-set, getD-take, take-all}
 use lib.Dec.{eqb}
 use borrow.Author.Tests.{eqb-true, not-true}
-use Rattle.plank_core.specs.Lists.{upto, keep, mem, distinct, oneIf, _∈_}
-use Rattle.plank_core.specs.laws.Lists.{and-true-left, and-true-right, both-true, or-true-left, or-true-right, or-cases, none, times, times-mem, split, upto-mem, mem-upto, keep-mem, keep-out, mem-in, in-mem, mem-not, mem-snoc, mem-place, getD-mem, getD-elem, getD-any, distinct-places}
+use Rattle.plank_core.specs.Lists.{upto, keep, mem, distinct, oneIf, _∈_, times}
+use Rattle.plank_core.specs.laws.Lists.{and-true-left, and-true-right, both-true, or-true-left, or-true-right, or-cases, none, times-mem, split, upto-mem, mem-upto, keep-mem, keep-out, mem-in, in-mem, mem-not, mem-snoc, mem-place, getD-mem, getD-elem, getD-any, distinct-places}
 use Rattle.plank_core.specs.laws.Loops.{upto-more, keep-append, once-most}
 use Rattle.plank_core.specs.DenseIndexSet.{contains, removed, rowOf, rowUnion, rowDifference}
 use Rattle.plank_core.specs.laws.DenseIndexSet.{contains-cleared, contains-row, contains-removed, length-removed, length-union, length-difference, set-union, set-difference}

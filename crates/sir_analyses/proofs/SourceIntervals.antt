@@ -10,7 +10,7 @@ use lib.Dec.{eqb}
 use borrow.Author.Tests.{eqb-true, eqb-false, eq-eqb, ne-eqb}
 use Rattle.plank_core.specs.Lists.{foldl, bind, keep, mem, upto, _∈_}
 use Rattle.plank_core.specs.laws.Lists.{mem-upto, bind-out, keep-out}
-use Rattle.sir_data.specs.Records.{operations, locals, ops, outs}
+use Rattle.sir_data.specs.Records.{locals, ops, ins, outs}
 use Rattle.sir_data.specs.WellFormed.{WellFormed}
 use Rattle.sir_analyses.specs.Order.{blocksRpo}
 use Rattle.sir_analyses.specs.Liveness.{has, members, endReads, exitSet, Interval, blockEnd, Scan, endOpen, closing, scanOp, blockIntervals, intervals}
@@ -18,58 +18,85 @@ use Rattle.sir_analyses.specs.Allocation.{allocs, allocAt, rule12, reach
 use Rattle.sir_analyses.specs.Propagation.{State}
 use Rattle.sir_analyses.specs.SourceUses.{push}
 use Rattle.sir_analyses.specs.SourceLiveness.{sourceLocalIntervals}
-use Rattle.sir_analyses.specs.Source.{sourceState, sourceMarked}
-use Rattle.sir_analyses.specs.SourceIntervals.{mergeIntervals, pushIntervals, pushedIntervals, sourceIntervals}
-use Rattle.sir_analyses.specs.Scanning.{closedBy}
+use Rattle.sir_analyses.specs.Source.{sourceState}
+use Rattle.sir_analyses.specs.SourceIntervals.{mergeIntervals, pushIntervals, sourceIntervals}
+use Rattle.sir_analyses.specs.Scanning.{openBefore, closedBy}
 use Rattle.sir_analyses.proofs.SetAnswers.{keep-same}
-use Rattle.sir_analyses.proofs.Scanning.{scan-closed}
+use Rattle.sir_analyses.proofs.Scanning.{scan-open, scan-closed}
 use Rattle.sir_analyses.proofs.UseWords.{bind-each}
 use Rattle.sir_analyses.proofs.Accepted.{listed-op}
 use Rattle.sir_analyses.proofs.Marks.{reach-length}
 use Rattle.sir_analyses.proofs.SourceTables.{listOf, Appends, appends-push, appends-all, appends-empty, bind-kept, bind-none}
 use Rattle.sir_analyses.proofs.SourceLive.{source-exits}
 use Rattle.sir_analyses.proofs.SourceScans.{source-local-intervals}
-use Rattle.sir_analyses.proofs.SourceMerging.{Starts, merge-same}
+use Rattle.sir_analyses.proofs.SourceMerging.{AllNumbered, merge-same}
 use Rattle.sir_analyses.proofs.SourceMarks.{source-ends, source-marks}
 use Rattle.sir_analyses.proofs.Propagation.{ended-reach}
 
--- ---- where an interval starts
+-- ---- the numbers of starts and ends
 
-closing-from : {i : Interval} (b from to : ℕ) → List·Memᴰ i (closing b from to) → i .from ≡ from
-closing-from {i} b from to m = go (eqb to 0) m
+closing-numbers : {i : Interval} (b from to : ℕ) → List·Memᴰ i (closing b from to) → (i .from ≡ from) × (i .to ≡ to)
+closing-numbers {i} b from to m = go (eqb to 0) m
   where
-    go : (t : Bool) → List·Memᴰ i (cond t [] (record { block = b; from = from; to = to } ∷ [])) → i .from ≡ from
+    go : (t : Bool) → List·Memᴰ i (cond t [] (record { block = b; from = from; to = to } ∷ [])) → (i .from ≡ from) × (i .to ≡ to)
     go true k = absurd (List·Memᴰ·not-nil k)
-    go false (List·Memᴰ·head e) = ap (λ (j : Interval). j .from) e
+    go false (List·Memᴰ·head e) = (ap (λ (j : Interval). j .from) e, ap (λ (j : Interval). j .to) e)
     go false (List·Memᴰ·tail k) = absurd (List·Memᴰ·not-nil k)
 
-scan-starts : (w : List ℕ) (b v n : ℕ) (os : List ℕ) (c : Scan) → ((o : ℕ) → o ∈ os → o < n) → ((i : Interval) → List·Memᴰ i (c .closed) → i .from ≤ n)
-    → (i : Interval) → List·Memᴰ i (foldr (scanOp w b v) c os .closed) → i .from ≤ n
-scan-starts w b v n [] c h k i m = k i m
-scan-starts w b v n (o ∷ os) c h k i m =
+-- a scan whose open end and intervals are numbered
+record ScanNumbered (c : Scan) : Type 0 where
+  open-is : c .open′ ≤ blockEnd
+  closed-are : AllNumbered (c .closed)
+
+open-below : (given read : Bool) (here till : ℕ) → here ≤ blockEnd → till ≤ blockEnd → openBefore given read here till ≤ blockEnd
+open-below true true here till h t = h
+open-below true false here till h t = omega arith
+open-below false true here till h t = go (eqb till 0)
+  where
+    go : (z : Bool) → cond z here till ≤ blockEnd
+    go true = h
+    go false = t
+open-below false false here till h t = t
+
+closed-below : (given : Bool) (till : ℕ) → till ≤ blockEnd → closedBy given till ≤ blockEnd
+closed-below true till t = t
+closed-below false till t = omega arith
+
+appended : (b from to : ℕ) (is : List Interval) → from ≤ blockEnd → to ≤ blockEnd → AllNumbered is → AllNumbered (is ++ closing b from to)
+appended b from to is f t h i m =
+    ⊎-elim (h i) (λ (j : List·Memᴰ i (closing b from to)). let e = closing-numbers b from to j in omega arith) (List·Memᴰ·append-cases is m)
+
+scan-numbered : (w : List ℕ) (b v : ℕ) (os : List ℕ) (c : Scan) → ((o : ℕ) → o ∈ os → o + 1 ≤ blockEnd) → ScanNumbered c → ScanNumbered (foldr (scanOp w b v) c os)
+scan-numbered w b v [] c h k = k
+scan-numbered w b v (o ∷ os) c h k =
     let d = foldr (scanOp w b v) c os in
     let l = h o (List·Memᴰ·head refl) in
-    ⊎-elim
-    (λ (j : List·Memᴰ i (d .closed)). scan-starts w b v n os c (λ p q. h p (List·Memᴰ·tail q)) k i j)
-    (λ (j : List·Memᴰ i (closing b (o + 1) (closedBy (mem v (outs w o)) (d .open′)))). let e = closing-from b (o + 1) (closedBy (mem v (outs w o)) (d .open′)) j in omega arith)
-    (List·Memᴰ·append-cases (d .closed) (rw (scan-closed w b v o d) at m))
+    let r = scan-numbered w b v os c (λ p q. h p (List·Memᴰ·tail q)) k in
+    record {
+      open-is = rw (scan-open w b v o d) (open-below (mem v (outs w o)) (mem v (ins w o)) (o + 1) (d .open′) l (r .open-is));
+      closed-are =
+          rw (scan-closed w b v o d)
+          (appended b (o + 1) (closedBy (mem v (outs w o)) (d .open′)) (d .closed) l (closed-below (mem v (outs w o)) (d .open′) (r .open-is)) (r .closed-are));
+    }
 
 module _ (w : List ℕ) (good : WellFormed w) where
-  block-starts : (b v : ℕ) → b ∈ blocksRpo w → (i : Interval) → List·Memᴰ i (blockIntervals w (exitSet w b) v b) → i .from ≤ operations w
-  block-starts b v mb i m =
+  block-numbered : (b v : ℕ) → b ∈ blocksRpo w → AllNumbered (blockIntervals w (exitSet w b) v b)
+  block-numbered b v mb =
       let c : Scan = record { open′ = endOpen (has (exitSet w b) v || mem v (endReads w b)); closed = [] } in
       let d = foldr (scanOp w b v) c (ops w b) in
-      ⊎-elim
-      (λ (j : List·Memᴰ i (d .closed)). scan-starts w b v (operations w) (ops w b) c (λ o n. listed-op w good mb n) (λ k n. absurd (List·Memᴰ·not-nil n)) i j)
-      (λ (j : List·Memᴰ i (closing b 0 (d .open′))). let e = closing-from b 0 (d .open′) j in omega arith)
-      (List·Memᴰ·append-cases (d .closed) m)
+      let few = good .sized .operations-most in
+      let r = scan-numbered w b v (ops w b) c (λ o n. let l = listed-op w good mb n in omega arith) (record { open-is = ends (has (exitSet w b) v || mem v (endReads w b)); closed-are = λ k n. absurd (List·Memᴰ·not-nil n) }) in
+      appended b 0 (d .open′) (d .closed) (omega arith) (r .open-is) (r .closed-are)
+    where
+      ends : (t : Bool) → endOpen t ≤ blockEnd
+      ends true = omega arith
+      ends false = omega arith
 
-  all-starts : (vs : List ℕ) → Starts (bind vs (intervals w))
-  all-starts vs i m =
+  all-numbered : (vs : List ℕ) → AllNumbered (bind vs (intervals w))
+  all-numbered vs i m =
       let x = bind-out (intervals w) vs m in
       let y = bind-out (λ b. blockIntervals w (exitSet w b) (x .0) b) (blocksRpo w) (x .2) in
-      let few = good .sized .operations-most in
-      omega (arith, block-starts (y .0) (x .0) (y .1) i (y .2))
+      block-numbered (y .0) (x .0) (y .1) i (y .2)
 
 -- ---- what is pushed to allocation a
 
@@ -174,7 +201,7 @@ module _ (w : List ℕ) (good : WellFormed w) (twelve : rule12 w ≡ false) wher
           ap mergeIntervals
           (bind-each (sourceLocalIntervals w) (intervals w) (ownedBy a) (λ v m. local-intervals v (mem-upto v (locals w) (keep-out (λ u. eqb (getD (sourceState w .owner) u 0) (suc a)) (upto (locals w)) m .0)))
           ∙ ap (λ (xs : List ℕ). bind xs (intervals w)) e)
-          ∙ merge-same (bind vs (intervals w)) (all-starts w good vs)
+          ∙ merge-same (bind vs (intervals w)) (all-numbered w good vs)
 
       go : (m : Bool) → (m ≡ false → ownedBy a ≡ members (reach w (allocAt w a)))
           → cond m (cond m [] theirs) (mergeIntervals (cond m [] theirs)) ≡ cond m [] (merge (sort (bind (members (reach w (allocAt w a))) (intervals w))))

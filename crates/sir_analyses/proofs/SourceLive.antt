@@ -1,20 +1,21 @@
 -- The source's `compute_liveness` ends by itself, with the exit sets of the passes and the entry sets of the equations.
 use mathlib.Core.Path.{_≡_, refl, sym, ap, _∙_, subst, fun-ext}
 use mathlib.Core.Logic.{⊎-elim, _⊎_, inl, inr}
-use mathlib.Core.Bool.{Bool, true, false, not, _&&_, _||_, cond, Bool·beq, or-false}
+use mathlib.Core.Bool.{Bool, true, false, not, _||_, cond, or-false}
 use Prim.Native.Nat.{ℕ, zero, suc, _+_, _*_, _≤_, _<_}
 use native.Mathlib.Omega.{arith}
-use mathlib.Core.List.{List, [], _∷_, map, reverse, List·Memᴰ, List·Memᴰ·head, List·Memᴰ·tail, List·Memᴰ·not-nil, List·Memᴰ·cases-cons}
-use lib.ListN.{length, getD, set, length-set, length-replicate, List·getD-eq-default}
+use mathlib.Core.List.{List, [], _∷_, _++_, map, reverse, reverse-append, reverse-cons, List·Memᴰ, List·Memᴰ·head, List·Memᴰ·tail, List·Memᴰ·not-nil, List·Memᴰ·cases-cons}
+use lib.ListN.{length, getD, set, length-set, List·getD-eq-default}
 use lib.Seq.{getD-set-same, set-getD, set-set}
 use lib.Dec.{eqb}
 use borrow.Author.Tests.{eqb-true, eq-eqb}
-use Rattle.plank_core.specs.Lists.{foldl, mem, _∈_}
+use Rattle.plank_core.specs.Lists.{foldl, bind, mem, _∈_}
 use Rattle.plank_core.specs.laws.Lists.{or-true-left, or-cases, bool-or, none, refuted, no-members, reverse-mem, reverse-out, getD-any, mem-in, in-mem}
+use Rattle.plank_core.specs.laws.Loops.{bind-snoc}
 use Rattle.sir_data.specs.Records.{blocks, locals, inputs, outputs}
 use Rattle.sir_data.specs.WellFormed.{WellFormed}
-use Rattle.sir_analyses.specs.Order.{blocksRpo, isVisited, predecessors}
-use Rattle.sir_analyses.specs.Liveness.{Set, has, addAll, members, entryFrom, indexOf, renamed, rowOf, back, pass, sameSet, sameRows, settle, settled, noExits, exitSet, entrySet}
+use Rattle.sir_analyses.specs.Order.{functionsRpo, functionBlocks, blocksRpo, isVisited, predecessors}
+use Rattle.sir_analyses.specs.Liveness.{Set, has, addAll, members, entryFrom, indexOf, renamed, rowOf, back, pass, sameSet, sameRows, settle, noExits, exitSet, entrySet}
 use Rattle.sir_analyses.specs.SourceUses.{sourcePredecessors}
 use Rattle.sir_analyses.specs.SourceLiveness.{Live, insertExit, propagated, propagateLive, liveBlock, livePass, liveLoop, sourceLive}
 use Rattle.sir_analyses.proofs.OrderProof.{blocks-seen, blocks-below}
@@ -55,7 +56,23 @@ fold-as : {A C : Type 0} (F G : C → A → C) (xs : List A) → ((c : C) (x : A
 fold-as F G [] h c = refl
 fold-as F G (x ∷ xs) h c = ap (λ d. foldl F d xs) (h c x (List·Memᴰ·head refl)) ∙ fold-as F G xs (λ d y m. h d y (List·Memᴰ·tail m)) (G c x)
 
+reverse-bind : {A B : Type 0} (g : A → List B) (xs : List A) → reverse (bind xs g) ≡ bind (reverse xs) (λ x. reverse (g x))
+reverse-bind g [] = refl
+reverse-bind {A} {B} g (x ∷ xs) =
+    reverse-append (g x) (bind xs g) ∙ ap (λ (l : List B). l ++ reverse (g x)) (reverse-bind g xs)
+    ∙ sym (bind-snoc (λ x. reverse (g x)) (reverse xs) x) ∙ ap (λ (l : List A). bind l (λ x. reverse (g x))) (sym (reverse-cons x xs))
+
 -- ---- inserting
+
+-- what some locals give the exit of p
+pub inserts-exits : (p : ℕ) (g : ℕ → ℕ) (vs : List ℕ) (s : Live) → p < length (s .exits)
+    → foldl (λ u v. insertExit p u (g v)) s vs .exits ≡ set (s .exits) p (addAll (rowOf (s .exits) p) (map g vs))
+inserts-exits p g [] s l = sym (set-getD (s .exits) p [])
+inserts-exits p g (v ∷ vs) s l =
+    let x = s .exits in
+    let r = set (rowOf x p) (g v) true in
+    inserts-exits p g vs (insertExit p s (g v)) (subst (λ (n : ℕ). p < n) (sym (length-set x p r)) l)
+    ∙ set-set x p r (addAll (rowOf (set x p r) p) (map g vs)) ∙ ap (λ (y : Set). set x p (addAll y (map g vs))) (getD-set-same x p r [] l)
 
 -- `changed` tells whether the exits have more members than e
 abbrev Told : List Set → Live → Type 0
@@ -127,15 +144,6 @@ module _ (B L : ℕ) where
       sent-then e s t (foldl (λ u v. insertExit p u (g v)) t vs)
       (record { from = k; entries-kept = refl; stays = λ c. or-true-left (s .changed) (not (has (rowOf (s .exits) p) (g v))) c })
       (inserts-sent e p g vs t l (λ u m. h u (List·Memᴰ·tail m)) k)
-
-  inserts-exits : (p : ℕ) (g : ℕ → ℕ) (vs : List ℕ) (s : Live) → p < length (s .exits)
-      → foldl (λ u v. insertExit p u (g v)) s vs .exits ≡ set (s .exits) p (addAll (rowOf (s .exits) p) (map g vs))
-  inserts-exits p g [] s l = sym (set-getD (s .exits) p [])
-  inserts-exits p g (v ∷ vs) s l =
-      let x = s .exits in
-      let r = set (rowOf x p) (g v) true in
-      inserts-exits p g vs (insertExit p s (g v)) (subst (λ (n : ℕ). p < n) (sym (length-set x p r)) l)
-      ∙ set-set x p r (addAll (rowOf (set x p r) p) (map g vs)) ∙ ap (λ (y : Set). set x p (addAll y (map g vs))) (getD-set-same x p r [] l)
 
   -- to all predecessors
   module _ (e : List Set) (g : ℕ → ℕ → ℕ) (vs : List ℕ) where
@@ -285,11 +293,17 @@ module _ (w : List ℕ) (good : WellFormed w) where
                 ∙ row-other (s .entries) b a entry (λ q. n (List·Memᴰ·head q));
           }
 
+  -- a pass begins with nothing changed
+  abbrev begun : Live → Live
+  begun s = record { entries = s .entries; exits = s .exits; changed = false }
+
   pass-done : (s : Live) → length (s .entries) ≡ blocks w → Shape (blocks w) (locals w) (s .exits)
-      → Done (s .exits) (reverse (blocksRpo w)) (record { entries = s .entries; exits = s .exits; changed = false }) (livePass w s)
+      → Done (s .exits) (reverse (blocksRpo w)) (begun s) (livePass w s)
   pass-done s tall h =
-      blocks-done (s .exits) (reverse (blocksRpo w)) (record { entries = s .entries; exits = s .exits; changed = false }) (λ b m. reverse-out (blocksRpo w) m) tall
-      (record { shape = h; told = inl (refl, refl) })
+      subst (λ (bs : List ℕ). Done (s .exits) (reverse (blocksRpo w)) (begun s) (foldl (liveBlock w) (begun s) bs))
+      (reverse-bind (functionBlocks w) (functionsRpo w))
+      (blocks-done (s .exits) (reverse (blocksRpo w)) (begun s) (λ b m. reverse-out (blocksRpo w) m) tall
+      (record { shape = h; told = inl (refl, refl) }))
 
   -- how the `while` ends, from the exits that the passes have come to
   record Settles (n k : ℕ) (e : List Set) (t : Live) : Type 0 where
@@ -319,7 +333,7 @@ module _ (w : List ℕ) (good : WellFormed w) where
       e : List Set
       e = s .exits
 
-      go : Done e (reverse (blocksRpo w)) (record { entries = s .entries; exits = e; changed = false }) next
+      go : Done e (reverse (blocksRpo w)) (begun s) next
           → (next .changed ≡ true → length (next .entries) ≡ blocks w → Shape (blocks w) (locals w) (next .exits) → suc k ≤ total (next .exits) → blocks w * locals w < n + suc k
           → ((b : ℕ) → ¬ (b ∈ blocksRpo w) → rowOf (next .entries) b ≡ rowOf (noExits w) b) → Settles n (suc k) (next .exits) (liveLoop n w next))
           → Settles (suc n) k e (liveLoop n w next)

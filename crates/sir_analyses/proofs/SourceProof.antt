@@ -9,9 +9,11 @@ use lib.ListN.{length, getD}
 use lib.Dec.{eqb}
 use Rattle.sir_data.specs.WellFormed.{WellFormed}
 use Rattle.sir_analyses.specs.Allocation.{allocs, rule12}
+use Rattle.sir_analyses.specs.SourceLiveness.{propagated}
 use Rattle.sir_analyses.specs.Claims.{SourceRule}
 use Rattle.sir_analyses.proofs.SourceTables.{source-predecessors, source-uses}
 use Rattle.sir_analyses.proofs.SourceLive.{live-ends, source-exits, source-entries}
+use Rattle.sir_analyses.proofs.SourceOrders.{any-inserted, any-ended, any-drained}
 use Rattle.sir_analyses.proofs.SourceDiscovery.{source-allocations, source-bases, assertion-fails}
 use Rattle.sir_analyses.proofs.SourceMarks.{source-after, source-marks}
 use Rattle.sir_analyses.proofs.SourceOwners.{source-owners}
@@ -33,4 +35,7 @@ source-rule w good twelve = record {
   owners-same = source-owners w good;
   owned = λ a v h free. reach-owned w good twelve a v h free ∙ ap (λ (o : List ℕ). eqb (getD o v 0) (suc a)) (source-owners w good);
   intervals-same = source-merged w good twelve;
+  any-order-inserted = λ p b. any-inserted p (propagated w p b);
+  any-order-ended = any-ended;
+  any-order-drained = any-drained;
 }

@@ -2,7 +2,7 @@
 use mathlib.Core.Path.{_≡_, refl, sym, ap, _∙_, subst}
 use mathlib.Core.Logic.{_≢_}
 use mathlib.Core.Bool.{Bool, true, false, _&&_, _||_, cond}
-use Prim.Native.Nat.{ℕ, zero, suc, _≤_, _<_}
+use Prim.Native.Nat.{ℕ, suc, _<_}
 use native.Mathlib.Omega.{arith}
 use mathlib.Core.List.{List, [], _∷_, _++_, foldr, reverse, reverseAux, append-nil, append-assoc}
 use lib.ListN.{length, getD, set, replicate, length-set, length-replicate, getD-replicate}
@@ -18,7 +18,6 @@ use Rattle.sir_analyses.specs.Liveness.{Set, has, members, endReads, row
 use Rattle.sir_analyses.specs.SourceUses.{push}
 use Rattle.sir_analyses.specs.SourceLiveness.{Ends, endAtBlockEnd, removeEnd, endAtOperation, intervalsAtOp, intervalsAtBlock, sourceLive, sourceLocalIntervals}
 use Rattle.sir_analyses.proofs.SetLaws.{members-in, members-out}
-use Rattle.sir_analyses.proofs.FlowLaws.{row-split}
 use Rattle.sir_analyses.proofs.SourceTables.{listOf, push-list, push-tall}
 
 -- a loop backwards
@@ -30,14 +29,14 @@ pub foldl-reverse : {A B : Type 0} (f : B → A → B) (b : B) (xs : List A) →
 foldl-reverse f b xs = foldl-back f b xs []
 
 -- the scan of v alone has come to c, behind the intervals `before`
-record Follows (v : ℕ) (before : List Interval) (c : Scan) (s : Ends) : Type 0 where
-  wide : v < length (s .ends)
-  tall : v < length (s .found)
-  end : getD (s .ends) v 0 ≡ c .open′
-  list : listOf (s .found) v ≡ before ++ c .closed
+pub record Follows (v : ℕ) (before : List Interval) (c : Scan) (s : Ends) : Type 0 where
+  pub wide : v < length (s .ends)
+  pub tall : v < length (s .found)
+  pub end : getD (s .ends) v 0 ≡ c .open′
+  pub list : listOf (s .found) v ≡ before ++ c .closed
 
 module _ (v : ℕ) (before : List Interval) where
-  abbrev Here : Scan → Ends → Type 0
+  abbrev pub Here : Scan → Ends → Type 0
   Here = Follows v before
 
   -- ---- one end changes
@@ -113,7 +112,7 @@ module _ (v : ℕ) (before : List Interval) where
     close-twice : (c : Scan) → close b from (close b from c) ≡ close b from c
     close-twice c = ap (λ (l : List Interval). record { open′ = 0; closed = l }) (append-nil (c .closed ++ closing b from (c .open′)))
 
-    removes : (xs : List ℕ) (c : Scan) (s : Ends) → Here c s → Here (cond (mem v xs) (close b from c) c) (foldl (removeEnd b from) s xs)
+    pub removes : (xs : List ℕ) (c : Scan) (s : Ends) → Here c s → Here (cond (mem v xs) (close b from c) c) (foldl (removeEnd b from) s xs)
     removes [] c s h = h
     removes (x ∷ xs) c s h = go (eqb v x) refl (removes xs)
       where
@@ -177,7 +176,7 @@ module _ (v : ℕ) (before : List Interval) where
         let t = foldr (λ o t. intervalsAtOp w b t o) s os in
         opens o (ins w o) (cond (mem v (outs w o)) (close b (suc o) d) d) (foldl (removeEnd b (suc o)) t (outs w o)) (removes b (suc o) (outs w o) d t (scan-ops os c s h))
 
-ends-at : (v : ℕ) (xs ends : List ℕ) → v < length ends → (getD (endAtBlockEnd ends xs) v 0 ≡ cond (mem v xs) blockEnd (getD ends v 0)) × (length (endAtBlockEnd ends xs) ≡ length ends)
+pub ends-at : (v : ℕ) (xs ends : List ℕ) → v < length ends → (getD (endAtBlockEnd ends xs) v 0 ≡ cond (mem v xs) blockEnd (getD ends v 0)) × (length (endAtBlockEnd ends xs) ≡ length ends)
 ends-at v [] ends l = (refl, refl)
 ends-at v (x ∷ xs) ends l =
     let k : v < length (set ends x blockEnd) = subst (λ (n : ℕ). v < n) (sym (length-set ends x blockEnd)) l in

@@ -2,7 +2,7 @@
 use mathlib.Core.Path.{_≡_, refl, sym, ap, _∙_, subst}
 use mathlib.Core.Logic.{⊎-elim}
 use mathlib.Core.Bool.{Bool, true, false, cond}
-use Prim.Native.Nat.{ℕ, zero, suc, _≤_, _<_}
+use Prim.Native.Nat.{ℕ, suc, _≤_, _<_}
 use native.Mathlib.Omega.{arith}
 use mathlib.Core.List.{List, [], _∷_, _++_, map, append-nil, append-assoc, List·Memᴰ, List·Memᴰ·head, List·Memᴰ·tail}
 use lib.ListN.{length, getD, replicate, length-set, length-replicate, getD-replicate, List·getD-eq-default}
@@ -15,7 +15,7 @@ use Rattle.sir_data.specs.Records.{blocks, locals, outputs, ops, successors, co
 use Rattle.sir_data.specs.WellFormed.{WellFormed}
 use Rattle.sir_analyses.specs.Order.{blocksRpo, isVisited, edgesFrom, predecessors}
 use Rattle.sir_analyses.specs.Liveness.{Use, positions, usesIn, uses}
-use Rattle.sir_analyses.specs.SourceUses.{push, pushToSuccessors, predecessorTable, sourcePredecessors, useInputs, useCondition, useOutputs, useBlock, useTable, sourceUses}
+use Rattle.sir_analyses.specs.SourceUses.{push, pushToSuccessors, sourcePredecessors, useInputs, useCondition, useOutputs, useBlock, useTable, sourceUses}
 use Rattle.sir_analyses.proofs.OrderProof.{blocks-below}
 use Rattle.sir_analyses.proofs.Accepted.{listed-op}
 

@@ -10,14 +10,13 @@ use Prim.Native.Nat.{ℕ, zero, suc, _+_, _≤_, _<_}
 use mathlib.Core.List.{List, [], _∷_, map, List·Memᴰ}
 use lib.ListN.{length, getD}
 use lib.Dec.{eqb, leb}
-use Rattle.plank_core.specs.Lists.{foldl, bind, all, distinct, upto, sum, _∈_, mem}
-use Rattle.plank_core.specs.laws.Lists.{times}
+use Rattle.plank_core.specs.Lists.{foldl, bind, all, distinct, upto, sum, _∈_, mem, times}
 use Rattle.sir_data.specs.Records.{functions, blocks, locals, initFunction, mainPlusOne, entryBlock, ops, successors, callees}
 use Rattle.sir_analyses.specs.Order.{Visit, seeFunction, seeBlock, finishFunction, finishBlock, visitFunction, visitBlock, functionsRpo, blocksRpo, predecessors}
 use Rattle.sir_analyses.specs.Liveness.{Use, uses, Set, has, members, useSet, defSet, entryFrom, renamed, exitFrom, rowOf, noExits, pass, entrySet, exitSet, rounds, intervals}
 use Rattle.sir_analyses.specs.Allocation.{allocs, allocAt, base, carried, escapes, isReturned, reach, marked, bases, owners, merged}
 use Rattle.sir_analyses.specs.SourceUses.{sourcePredecessors, sourceUses}
-use Rattle.sir_analyses.specs.SourceLiveness.{sourceLive, sourceLocalIntervals}
+use Rattle.sir_analyses.specs.SourceLiveness.{Live, insertExit, propagated, sourceLive, Ends, endAtBlockEnd, removeEnd, sourceLocalIntervals}
 use Rattle.sir_analyses.specs.Source.{discovered, sourceAfter, sourceState, sourceMarked}
 use Rattle.sir_analyses.specs.SourceIntervals.{sourceIntervals}
 
@@ -30,6 +29,10 @@ pub data Item : Type 0 where
 abbrev pub ascending : List ℕ → Bool
 ascending [] = true
 ascending (x ∷ xs) = all (leb x) xs && ascending xs
+
+-- two lists have the same members
+abbrev pub SameMembers : List ℕ → List ℕ → Type 0
+SameMembers xs ys = (v : ℕ) → mem v xs ≡ mem v ys
 
 module _ (w : List ℕ) where
   -- ---- order
@@ -165,3 +168,9 @@ module _ (w : List ℕ) where
     -- the locals that it gives to an unmarked allocation are the reach, so that it merges their intervals
     pub owned : (a v : ℕ) → a < length (allocs w) → marked w a ≡ false → has (reach w (allocAt w a)) v ≡ eqb (getD (owners w) v 0) (suc a)
     pub intervals-same : (a : ℕ) → a < length (allocs w) → sourceIntervals w a ≡ merged w a
+    -- where it takes the members of a hash set or map, in lines 178, 197 and 229 of local_liveness.rs, their order does not matter
+    pub any-order-inserted : (p b : ℕ) (s : Live) (xs ys : List ℕ) → p < length (s .exits) → SameMembers xs ys
+        → foldl (λ u v. insertExit p u (propagated w p b v)) s xs ≡ foldl (λ u v. insertExit p u (propagated w p b v)) s ys
+    pub any-order-ended : (ends xs ys : List ℕ) → SameMembers xs ys → endAtBlockEnd ends xs ≡ endAtBlockEnd ends ys
+    pub any-order-drained : (b : ℕ) (s : Ends) (xs ys : List ℕ) → length (s .ends) ≡ length (s .found) → SameMembers xs ys
+        → foldl (removeEnd b 0) s xs ≡ foldl (removeEnd b 0) s ys

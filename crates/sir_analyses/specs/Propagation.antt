@@ -1,5 +1,5 @@
 -- The machine that follows pointers from each allocation's base with a work list, a local at once: all that it carries, then one mark.
--- Source, and so the exported promises, use `State`, `linkLocal`, `mark` and `start`, and follow use by use instead; the rest is
+-- Source, and so the exported promises, use `State`, `linkLocal` and `mark`, and follow use by use instead; the rest is
 -- used by inner contracts; no exported promise speaks of it.
 use mathlib.Core.Path.{_≡_}
 use mathlib.Core.Bool.{Bool, false, cond}

@@ -1,13 +1,14 @@
 -- Live sets and intervals of locals as the source makes them: `compute_liveness` and `compute_intervals` of local_liveness.rs. The numbers
--- are its lines. A `HashSet` is a set with a place for each local; where the source takes its members in any order, they go by id.
+-- are its lines. A `HashSet` is a set with a place for each local, and a `HashMap` a list with an entry for each; where the source takes
+-- the members of one in any order, they go by id here, and `SourceRule` says that their order does not matter.
 use mathlib.Core.Bool.{Bool, true, false, not, _||_, cond}
 use Prim.Native.Nat.{ℕ, zero, suc, _+_, _*_}
 use mathlib.Core.List.{List, [], _∷_, reverse}
 use lib.ListN.{getD, set, replicate}
 use lib.Dec.{eqb}
-use Rattle.plank_core.specs.Lists.{foldl, mem, upto}
+use Rattle.plank_core.specs.Lists.{foldl, bind, mem, upto}
 use Rattle.sir_data.specs.Records.{blocks, locals, inputs, outputs, ops, ins, outs}
-use Rattle.sir_analyses.specs.Order.{blocksRpo}
+use Rattle.sir_analyses.specs.Order.{functionsRpo, functionBlocks, blocksRpo}
 use Rattle.sir_analyses.specs.Liveness.{Set, has, members, endReads, entryFrom, indexOf, rowOf, noExits, Interval, blockEnd}
 use Rattle.sir_analyses.specs.SourceUses.{push, sourcePredecessors}
 
@@ -42,9 +43,13 @@ abbrev pub liveBlock : List ℕ → Live → ℕ → Live
 liveBlock w s b =
     propagateLive w b (record { entries = set (s .entries) b (entryFrom w b (rowOf (s .exits) b)); exits = s .exits; changed = s .changed })
 
--- 119 to 134, the body of the `while`: the blocks of `blocks_postorder`
+-- `blocks_postorder` of reverse_post_order.rs (72 to 77 there): functions last first, and the blocks of each last first
+abbrev pub blocksPostorder : List ℕ → List ℕ
+blocksPostorder w = bind (reverse (functionsRpo w)) (λ f. reverse (functionBlocks w f))
+
+-- 119 to 134, the body of the `while`
 abbrev pub livePass : List ℕ → Live → Live
-livePass w s = foldl (liveBlock w) (record { entries = s .entries; exits = s .exits; changed = false }) (reverse (blocksRpo w))
+livePass w s = foldl (liveBlock w) (record { entries = s .entries; exits = s .exits; changed = false }) (blocksPostorder w)
 
 -- 118 to 135, the `while`; n bounds how often its body is run
 abbrev pub liveLoop : ℕ → List ℕ → Live → Live

@@ -39,7 +39,11 @@ pub extern "C" fn sir_predecessors(image: &[u8], block: u32, out: &mut [u8]) -> 
     ensures { λ r. ⌜ (refusal (now (image .entry)) ≡ 0 → Promise (payload (now (image .entry)))) ⌝ }
 {
     let b = BlockId(block);
-    ask(image, Question::OfOrder(OrderQuestion::Predecessors(b)), out)
+    ask(
+        image,
+        Question::OfOrder(OrderQuestion::Predecessors(b)),
+        out,
+    )
 }
 
 // The uses of a local, three words each: block, kind, then operation, 0, or position.
@@ -98,7 +102,11 @@ pub extern "C" fn sir_allocation(image: &[u8], allocation: u32, out: &mut [u8]) 
     ensures { λ r. ⌜ (refusal (now (image .entry)) ≡ 0 → Promise (payload (now (image .entry)))) ⌝ }
 {
     let a = AllocId(allocation);
-    ask(image, Question::OfPointers(PointerQuestion::Allocation(a)), out)
+    ask(
+        image,
+        Question::OfPointers(PointerQuestion::Allocation(a)),
+        out,
+    )
 }
 
 // The owner of a local: allocation + 1, or 0.

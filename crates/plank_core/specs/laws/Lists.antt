@@ -9,7 +9,7 @@ use mathlib.Core.List.{List, [], _∷_, _++_, map, reverse, reverseAux, reverse-
 use lib.ListN.{length, getD, drop, getElem?}
 use lib.Dec.{eqb, T}
 use borrow.Author.Tests.{eqb-true, eqb-false, eq-eqb, not-true}
-use Rattle.plank_core.specs.Lists.{count, range, upto, foldl, bind, all, any, keep, mem, distinct, oneIf, _∈_}
+use Rattle.plank_core.specs.Lists.{count, range, upto, foldl, bind, all, any, keep, mem, distinct, oneIf, times, _∈_}
 
 -- ---- tests
 
@@ -228,10 +228,6 @@ drop-mem x [] (suc i) m = m
 drop-mem x (y ∷ ys) (suc i) m = List·Memᴰ·tail (drop-mem x ys i m)
 
 -- ---- how often a number is in a list
-
-abbrev pub times : ℕ → List ℕ → ℕ
-times x [] = 0
-times x (y ∷ ys) = oneIf (eqb x y) + times x ys
 
 pub times-append : (x : ℕ) (ys zs : List ℕ) → times x (ys ++ zs) ≡ times x ys + times x zs
 times-append x [] zs = omega arith

@@ -9,8 +9,7 @@ use lib.Dec.{eqb}
 use borrow.Author.Tests.{eqb-true, eqb-false, ne-eqb}
 use lib.ListN.{length, getD, take, drop, set, drop-of-length-le, length-drop, length-map}
 use lib.Seq.{drop-cons, set-at, take-all, take-at, drop-at, drop-drop}
-use Rattle.plank_core.specs.Lists.{count, range, upto, all, any, keep, sum, bind, oneIf}
-use Rattle.plank_core.specs.laws.Lists.{times}
+use Rattle.plank_core.specs.Lists.{count, range, upto, all, any, keep, sum, bind, oneIf, times}
 
 -- ---- the numbers of a loop
 

@@ -1,6 +1,6 @@
 -- Tests of the rules in the forms that code takes, and the first rule that applies.
 use mathlib.Core.Path.{_≡_, refl, sym, _∙_}
-use mathlib.Core.Bool.{Bool, true, false, _||_, cond, and-true}
+use mathlib.Core.Bool.{Bool, true, false, _&&_, _||_, cond, and-true}
 use mathlib.Core.List.{List, [], _∷_, _++_}
 use Prim.Native.Nat.{ℕ, zero, suc, _≤_, _<_}
 use native.Mathlib.Omega.{arith}
@@ -70,12 +70,21 @@ abbrev pub applies : ℕ → List (ℕ × Bool) → Bool
 applies k [] = false
 applies k (r ∷ rs) = cond (eqb (r .0) k) (r .1) (applies k rs)
 
+-- are the numbers up to that rule above 0?
+abbrev pub reaches : ℕ → List (ℕ × Bool) → Bool
+reaches k [] = true
+reaches k (r ∷ rs) = ltb 0 (r .0) && (eqb (r .0) k || reaches k rs)
+
 -- where no rule applies, the one with number k does not
-pub kept : (k : ℕ) (rs : List (ℕ × Bool)) → Numbered rs → first rs ≡ 0 → applies k rs ≡ false
+pub kept : (k : ℕ) (rs : List (ℕ × Bool)) → reaches k rs ≡ true → first rs ≡ 0 → applies k rs ≡ false
 kept k [] n h = refl
-kept k (r ∷ rs) n h = go (r .1) h (eqb (r .0) k) (kept k rs (rest-numbered r rs n))
+kept k (r ∷ rs) n h =
+    go (r .1) h (eqb (r .0) k) (and-true-right (ltb 0 (r .0)) (eqb (r .0) k || reaches k rs) n) (kept k rs)
   where
-    go : (t : Bool) → cond t (r .0) (first rs) ≡ 0 → (u : Bool) → (first rs ≡ 0 → applies k rs ≡ false) → cond u t (applies k rs) ≡ false
-    go true e u rest = absurd (omega (arith, first-numbered r rs n))
-    go false e true rest = refl
-    go false e false rest = rest e
+    above : 0 < r .0
+    above = ltb-true 0 (r .0) (and-true-left (ltb 0 (r .0)) (eqb (r .0) k || reaches k rs) n)
+
+    go : (t : Bool) → cond t (r .0) (first rs) ≡ 0 → (u : Bool) → (u || reaches k rs) ≡ true → (reaches k rs ≡ true → first rs ≡ 0 → applies k rs ≡ false) → cond u t (applies k rs) ≡ false
+    go true e u q rest = absurd (omega (arith, above))
+    go false e true q rest = refl
+    go false e false q rest = rest q e

@@ -14,7 +14,7 @@ use Rattle.sir_data.specs.Records.{functions, blocks, operations, operan
 use Rattle.sir_data.specs.Codes.{arityOk, isCall, isStaticAlloc}
 use Rattle.sir_data.specs.Rules.{rule5, rule6, rule7, rule8, rule9, rule10, rule11, first, headRules, fieldRules, operandRules, rulesOf, recordRules, zeroFrom, blockFieldsOk, opFieldsOk, rangeOk, optionalBelow, controlIdsOk, blockIdsOk, opIdsOk}
 use Rattle.sir_data.specs.WellFormed.{Sized, InRange, WellFormed}
-use Rattle.sir_data.specs.laws.Rules.{first-left, first-right, applies, kept}
+use Rattle.sir_data.specs.laws.Rules.{first-left, first-right, kept}
 
 -- ---- a rule's parts
 
@@ -227,10 +227,6 @@ module _ (w : List ℕ) (fields : first (fieldRules w) ≡ 0) where
 
 -- all the facts, wherever no rule applies and the words are there
 module _ (w : List ℕ) (fit : Bool) (there : wordCount w ≤ length w) (accepted : first (rulesOf fit w) ≡ 0) where
-  -- rule k of the sequence does not apply
-  not-broken : (k : ℕ) → applies k (rulesOf fit w) ≡ false
-  not-broken k = kept k (rulesOf fit w) refl accepted
-
   abbrev behind : List (ℕ × Bool)
   behind = (6, fit) ∷ fieldRules w ++ operandRules w
 
@@ -240,10 +236,10 @@ module _ (w : List ℕ) (fit : Bool) (there : wordCount w ≤ length w) (accepte
       record {
         sized = sized w (first-left (headRules w) behind accepted) there;
         in-range = in-range w (first-left (fieldRules w) (operandRules w) (first-right (headRules w ++ ((6, fit) ∷ [])) (fieldRules w ++ operandRules w) refl accepted));
-        arity-ok = λ o l. all-upto (λ p. arityOk (code w p) (length (ins w p)) (length (outs w p))) (operations w) (not-false _ (not-broken 9)) o l;
+        arity-ok = λ o l. all-upto (λ p. arityOk (code w p) (length (ins w p)) (length (outs w p))) (operations w) (not-false _ (kept 9 (rulesOf fit w) refl accepted)) o l;
         passed = λ b s l m. eqb-true _ _ (all-mem (λ t. eqb (length (outputs w b)) (length (inputs w t))) (successors w b)
-            (all-upto (λ c. all (λ t. eqb (length (outputs w c)) (length (inputs w t))) (successors w c)) (blocks w) (not-false _ (not-broken 10)) b l) s m);
-        inputs-once = λ b l. all-upto (λ c. distinct (inputs w c)) (blocks w) (not-false _ (not-broken 11)) b l;
+            (all-upto (λ c. all (λ t. eqb (length (outputs w c)) (length (inputs w t))) (successors w c)) (blocks w) (not-false _ (kept 10 (rulesOf fit w) refl accepted)) b l) s m);
+        inputs-once = λ b l. all-upto (λ c. distinct (inputs w c)) (blocks w) (not-false _ (kept 11 (rulesOf fit w) refl accepted)) b l;
       }
 
 pub well-formed : (w : List ℕ) → first (recordRules w) ≡ 0 → WellFormed w

@@ -1,14 +1,15 @@
 -- `allocation_text` meets its contract.
 use mathlib.Core.Path.{sym, ap, _∙_}
-use Prim.Native.Nat.{_≤_}
+use Prim.Native.Nat.{_≤_, _<_}
 use native.Mathlib.Omega.{arith}
 use lib.ListN.{length}
 use lib.Seq.{length-take-le}
+use Rattle.sir_analyses.specs.Allocation.{allocs}
 use Rattle.sir_analyses.specs.Answers.{allocationAnswer}
 use Rattle.report_lines.specs.Putting.{allocationLine}
 use Rattle.report_lines.proofs.Putting.{put-as}
 use Rattle.report_lines.proofs.TooLong.{short, answer-stands, keys-long, take-most, take-least}
-use Rattle.report_lines.proofs.AnswerText.{allocation-ends, allocation-as, allocation-ends-as}
+use Rattle.report_lines.proofs.AnswerText.{allocation-least, allocation-ends, allocation-as, allocation-ends-as}
 use borrow.Author.Needs.{needs}
 use Rattle.report_lines.proofs.printing.allocation_text.Statement.{statement}
 use Rattle.report_lines.proofs.printing.allocation_text.Tie as tie
@@ -41,7 +42,8 @@ allocation-line-requires c κs =
     let xs = allocationAnswer (s .args .words .now) (s .args .a .0) in
     let k = answer-stands xs (s .args .out .now) (p .1 .0) (b4 .tables-answer .ensures) (p .0) in
     let h : b4 .tables-answer .result .length ≤ 65536 = omega (arith, k .0, short xs (p .0)) in
-    ((take-least (b4 .tables-answer .result .length) 32 _ (omega (arith, h, b4 .tables-answer .kept, p .1 .0)) (omega (arith, k .0)), take-most _ 65536 _ (omega (arith, h, b4 .tables-answer .kept, p .1 .0)) h, p .1 .1), allocation-ends-as (k .1) (allocation-ends (s .args .words .now) (λ i. omega (arith, b16 .shared-slice-known .given i)) (p .1 .2) (s .args .a .0) (omega (arith, s .pre .1 .1 .1 .0 .2, keys-long (s .args .words .now), ap length (s .pre .1 .1 .1 .0 .0)))))
+    let l : s .args .a .0 < length (allocs (s .args .words .now)) = omega (arith, s .pre .1 .1 .1 .0 .2, keys-long (s .args .words .now), ap length (s .pre .1 .1 .1 .0 .0)) in
+    ((take-least (b4 .tables-answer .result .length) 32 _ (omega (arith, h, b4 .tables-answer .kept, p .1 .0)) (omega (arith, k .0, allocation-least (s .args .words .now) (λ i. omega (arith, b16 .shared-slice-known .given i)) (p .1 .2) (s .args .a .0) l)), take-most _ 65536 _ (omega (arith, h, b4 .tables-answer .kept, p .1 .0)) h, p .1 .1), allocation-ends-as (k .1) (allocation-ends (s .args .words .now) (λ i. omega (arith, b16 .shared-slice-known .given i)) (p .1 .2) (s .args .a .0) l))
 
 same-length : tie.Need-same-length
 same-length c = search needs
