@@ -145,6 +145,13 @@ report =
 abbrev calls : List ℕ
 calls = imageWords 1 (0 ∷ 1 ∷ []) (block [] (call 1 ∷ []) [] ends ∷ block [] (call 0 ∷ []) [] ends ∷ [])
 
+-- block 0 of function 0 calls function 1, which is block 2, and goes on to block 1, which calls function 2, which is block 3
+abbrev callsAndGoes : List ℕ
+callsAndGoes =
+    imageWords 1 (0 ∷ 2 ∷ 3 ∷ [])
+    (block [] (call 1 ∷ []) [] (continues 1) ∷ block [] (call 2 ∷ []) [] ends
+    ∷ block [] (stop ∷ []) [] ends ∷ block [] (stop ∷ []) [] ends ∷ [])
+
 -- a branch on v0 to b and c, of blocks 1 and 2
 abbrev branching : ℕ → ℕ → List ℕ
 branching b c = imageWords 1 (0 ∷ []) (block [] (setConst 0 ∷ []) [] (branches 0 b c) ∷ block [] (stop ∷ []) [] ends ∷ block [] (stop ∷ []) [] ends ∷ [])
@@ -188,7 +195,7 @@ looping =
 
 -- all of them
 abbrev images : List (List ℕ)
-images = report ∷ calls ∷ branching 1 1 ∷ branching 1 2 ∷ storesItself ∷ storesThere ∷ added ∷ tested ∷ unused ∷ increments ∷ looping ∷ []
+images = report ∷ calls ∷ callsAndGoes ∷ branching 1 1 ∷ branching 1 2 ∷ storesItself ∷ storesThere ∷ added ∷ tested ∷ unused ∷ increments ∷ looping ∷ []
 
 -- ---- the table
 
@@ -204,30 +211,79 @@ pageOne = replicate 4 0 ++ (1 ∷ replicate 507 0)
 abbrev outcomeWords : Outcome → List ℕ
 outcomeWords o = o .number ∷ o .len ∷ o .result
 
+-- a row of the table: what is computed, and what it must be
+abbrev Row : Type 0
+Row = List ℕ × List ℕ
+
+-- ---- rows with names: for each of these .ci/edits has a wrong definition, under which it is proved that the row does not hold
+
+-- 1..3 and 4..5 stay two
+abbrev neighbours : Row
+neighbours = (intervalWords (merge (sort (interval 0 1 3 ∷ interval 0 4 5 ∷ []))), 0 ∷ 1 ∷ 3 ∷ 0 ∷ 4 ∷ 5 ∷ [])
+
+-- `MemoryStore` v1, v1 of a pointer: marked
+abbrev stored-itself : Row
+stored-itself = (allocationAnswer storesItself 0, 0 ∷ 0 ∷ 1 ∷ 0 ∷ 32 ∷ 0 ∷ 1 ∷ 0 ∷ [])
+
+-- pointers v1 and v2 added: the sum is owned by the later
+abbrev later-owner : Row
+later-owner = (ownerAnswer added 3, 2 ∷ [])
+
+-- removing outputs after adding inputs, which loses `v = v + 1`
+abbrev read-and-given : Row
+read-and-given = (entryAnswer increments 0, 0 ∷ [])
+
+-- stopping after one pass of a loop: v1 comes to the exit of block 1 in the second
+abbrev second-pass : Row
+second-pass = (exitAnswer looping 1, 1 ∷ [])
+
+-- by the source's own steps: predecessors round a loop
+abbrev source-predecessors : Row
+source-predecessors = (sourcePredecessors looping 1, 0 ∷ 2 ∷ [])
+
+-- by the source's own steps: a use by an operation, then one as an output
+abbrev source-uses : Row
+source-uses = (bind (sourceUses looping 1) (λ u. u .block ∷ u .kind ∷ u .place ∷ []), 1 ∷ 0 ∷ 1 ∷ 1 ∷ 2 ∷ 0 ∷ [])
+
+-- by the source's own steps: where v1 is live at exit
+abbrev source-exits : Row
+source-exits = (map (λ e. oneIf (has e 1)) (sourceLive looping .exits), 0 ∷ 1 ∷ 0 ∷ 0 ∷ [])
+
+-- by the source's own steps: intervals merged in place
+abbrev source-merging : Row
+source-merging = (intervalWords (mergeIntervals (interval 1 0 2 ∷ interval 0 3 5 ∷ interval 0 7 8 ∷ interval 0 1 3 ∷ interval 0 8 blockEnd ∷ [])), 0 ∷ 1 ∷ 5 ∷ 0 ∷ 7 ∷ blockEnd ∷ 1 ∷ 0 ∷ 2 ∷ [])
+
+-- a block's calls are visited before its successors: functions 0, 2, 1
+abbrev calls-first : Row
+calls-first = (orderAnswer callsAndGoes, 0 ∷ 2 ∷ 0 ∷ 1 ∷ 2 ∷ 1 ∷ 3 ∷ 1 ∷ 1 ∷ 2 ∷ [])
+
+-- ---- all rows
+
 -- each row: what is computed, and what it must be. So says document 01, but for the rows on predecessors, v3, uses, owner of v2 and
 -- outcomes of `report`, those on `looping`, and those by the source's own steps, which are our own
-abbrev table : List (List ℕ × List ℕ)
+abbrev table : List Row
 table =
     -- rules 4 to 12 refuse none of the images
-    (map (λ w. first (recordRules w ++ ((12, rule12 w) ∷ []))) images, replicate 11 0)
+    (map (λ w. first (recordRules w ++ ((12, rule12 w) ∷ []))) images, replicate 12 0)
     -- function 0 calls 1 and 1 calls 0: order 0, 1
     ∷ (orderAnswer calls, 0 ∷ 1 ∷ 0 ∷ 1 ∷ 1 ∷ 1 ∷ [])
+    ∷ calls-first
     -- branch with both targets equal: that predecessor twice
     ∷ (predecessorsAnswer (branching 1 1) 1, 0 ∷ 0 ∷ [])
     -- intervals 1..3 and 3..5: 1..5
     ∷ (intervalWords (merge (sort (interval 0 1 3 ∷ interval 0 3 5 ∷ []))), 0 ∷ 1 ∷ 5 ∷ [])
     -- 1..3 and 4..5 stay two
-    ∷ (intervalWords (merge (sort (interval 0 1 3 ∷ interval 0 4 5 ∷ []))), 0 ∷ 1 ∷ 3 ∷ 0 ∷ 4 ∷ 5 ∷ [])
+    ∷ neighbours
     -- same numbers in two blocks stay two
     ∷ (intervalWords (merge (sort (interval 1 1 3 ∷ interval 0 1 3 ∷ []))), 0 ∷ 1 ∷ 3 ∷ 1 ∷ 1 ∷ 3 ∷ [])
     -- `MemoryStore` v1, v1 of a pointer: marked
-    ∷ (allocationAnswer storesItself 0, 0 ∷ 0 ∷ 1 ∷ 0 ∷ 32 ∷ 0 ∷ 1 ∷ 0 ∷ [])
+    ∷ stored-itself
     -- as address only: unmarked
     ∷ (allocationAnswer storesThere 0, 0 ∷ 1 ∷ 1 ∷ 0 ∷ 32 ∷ 0 ∷ 0 ∷ 1 ∷ 0 ∷ 2 ∷ 3 ∷ [])
     -- pointers v1 and v2 added: both marked, the sum owned by the later
     ∷ (allocationAnswer added 0, 0 ∷ 0 ∷ 1 ∷ 0 ∷ 32 ∷ 0 ∷ 1 ∷ 0 ∷ [])
     ∷ (allocationAnswer added 1, 0 ∷ 1 ∷ 2 ∷ 0 ∷ 32 ∷ 0 ∷ 1 ∷ 0 ∷ [])
-    ∷ (ownerAnswer added 3, 2 ∷ [])
+    ∷ later-owner
     -- and so by the source's own steps
     ∷ (sourceState added .owner, 0 ∷ 1 ∷ 2 ∷ 2 ∷ [])
     ∷ (map (λ a. oneIf (sourceMarked added a)) (0 ∷ 1 ∷ []), 1 ∷ 1 ∷ [])
@@ -267,20 +323,20 @@ table =
     -- misreadings: taking non-zero first
     ∷ (orderAnswer (branching 1 2), 0 ∷ 3 ∷ 0 ∷ 1 ∷ 2 ∷ [])
     -- removing outputs after adding inputs, which loses `v = v + 1`
-    ∷ (entryAnswer increments 0, 0 ∷ [])
+    ∷ read-and-given
     -- stopping after one pass of a loop
     ∷ (roundsAnswer looping, 3 ∷ [])
-    ∷ (exitAnswer looping 1, 1 ∷ [])
+    ∷ second-pass
     -- and so by the source's own steps: its tables, its `while`, its scan of a block for all locals, its merging in place
-    ∷ (sourcePredecessors looping 1, 0 ∷ 2 ∷ [])
+    ∷ source-predecessors
     ∷ (sourcePredecessors (branching 1 1) 1, 0 ∷ 0 ∷ [])
-    ∷ (bind (sourceUses looping 1) (λ u. u .block ∷ u .kind ∷ u .place ∷ []), 1 ∷ 0 ∷ 1 ∷ 1 ∷ 2 ∷ 0 ∷ [])
-    ∷ (map (λ e. oneIf (has e 1)) (sourceLive looping .exits), 0 ∷ 1 ∷ 0 ∷ 0 ∷ [])
+    ∷ source-uses
+    ∷ source-exits
     ∷ (map (λ e. oneIf (has e 1)) (sourceLive looping .entries), 0 ∷ 1 ∷ 0 ∷ 0 ∷ [])
     ∷ (oneIf (sourceLive looping .changed) ∷ [], 0 ∷ [])
     ∷ (intervalWords (sourceLocalIntervals looping 1), 1 ∷ 0 ∷ blockEnd ∷ [])
     ∷ (intervalWords (sourceLocalIntervals looping 2), 1 ∷ 2 ∷ blockEnd ∷ [])
-    ∷ (intervalWords (mergeIntervals (interval 1 0 2 ∷ interval 0 3 5 ∷ interval 0 7 8 ∷ interval 0 1 3 ∷ interval 0 8 blockEnd ∷ [])), 0 ∷ 1 ∷ 5 ∷ 0 ∷ 7 ∷ blockEnd ∷ 1 ∷ 0 ∷ 2 ∷ [])
+    ∷ source-merging
     ∷ (intervalWords (sourceIntervals looping 0), 0 ∷ 1 ∷ blockEnd ∷ 1 ∷ 0 ∷ blockEnd ∷ 2 ∷ 0 ∷ blockEnd ∷ [])
     ∷ (allocationAnswer looping 0, 0 ∷ 0 ∷ 0 ∷ 0 ∷ 32 ∷ 0 ∷ 0 ∷ 3 ∷ 0 ∷ 1 ∷ blockEnd ∷ 1 ∷ 0 ∷ blockEnd ∷ 2 ∷ 0 ∷ blockEnd ∷ [])
     ∷ []
