@@ -1,4 +1,4 @@
-// Prints, for each image that its arguments name, the name and the number of the lowest rule of 1 to 11 that it breaks,
+// Prints, for each image that its arguments name, the name and the number of the first rule of 1 to 11 that it breaks,
 // or 0.
 use libc::STDOUT_FILENO;
 

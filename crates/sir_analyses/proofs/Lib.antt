@@ -4,6 +4,7 @@ pub mod Writing
 pub mod Keys
 pub mod Loads
 pub mod Calls
+pub mod Asked
 pub mod Edges
 pub mod UseWords
 pub mod OrderOnce

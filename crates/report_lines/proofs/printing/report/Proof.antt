@@ -1,3 +1,4 @@
+-- `report` meets its contract.
 use mathlib.Core.Path.{sym, ap, _∙_}
 use native.Mathlib.Omega.{arith}
 use lib.ListN.{length}
@@ -9,90 +10,67 @@ use Rattle.sir_analyses.specs.Calls.{refusal}
 use borrow.Author.Needs.{needs}
 use Rattle.report_lines.proofs.printing.report.Statement.{statement}
 use Rattle.report_lines.proofs.printing.report.Tie as tie
-use Rattle.report_lines.proofs.printing.report.Reads as reads
-use Rattle.report_lines.proofs.printing.report.Lts as lts
-use Rattle.report_lines.proofs.printing.report_words.Reads as report-words-reads
-use Rattle.report_lines.proofs.printing.say_refused.Reads as say-refused-reads
-use Rattle.sir_analyses.proofs.loading.load.Reads as load-reads
 
--- src/printing.rt:396:16
 slice-aggregate-load : tie.Need-slice-aggregate-load
 slice-aggregate-load c = search needs
 
--- src/printing.rt:396:28
 slice-aggregate-load-2 : tie.Need-slice-aggregate-load-2
 slice-aggregate-load-2 c = search needs
 
--- src/printing.rt:396:39
 slice-aggregate-load-3 : tie.Need-slice-aggregate-load-3
 slice-aggregate-load-3 c = search needs
 
--- src/printing.rt:396:50
 slice-aggregate-load-4 : tie.Need-slice-aggregate-load-4
 slice-aggregate-load-4 c = search needs
 
--- src/printing.rt:396:60
 slice-aggregate-load-5 : tie.Need-slice-aggregate-load-5
 slice-aggregate-load-5 c = search needs
 
--- src/printing.rt:395:9
 load-requires : tie.Need-load-requires
 load-requires c κs = search needs
 
--- src/printing.rt:400:29
 slice-aggregate-say-refused : tie.Need-slice-aggregate-say-refused
 slice-aggregate-say-refused c = search needs
 
--- src/printing.rt:400:9
 say-refused-requires : tie.Need-say-refused-requires
 say-refused-requires c κs = search needs
 
--- src/printing.rt:401:9
 returns : tie.Need-returns
 unfolding reported
 returns c = rw (ne-eqb (refusal (c .before .before .before .before .before .before .before .before .before .before .before .before .before .before .before .before .args .image .now)) 0 (λ z. c .before .before .before .if1 .taken (c .before .before .before .before .before .before .before .before .before .load .ensures .number-is ∙ z))) (c .before .before .before .before .before .before .before .before .before .load .ensures .number-is)
 
--- src/printing.rt:406:18
 array-share-prefix-words : tie.Need-array-share-prefix-words
 array-share-prefix-words c = let p = c .before .before .before .before .before .before .load .ensures .accepted (sym (c .before .before .before .before .before .before .load .ensures .number-is) ∙ c .if1 .left) in
     p .words-fit
 
--- src/printing.rt:406:18
 slice-aggregate-report-words : tie.Need-slice-aggregate-report-words
 slice-aggregate-report-words c = let p = c .before .before .before .before .before .before .before .load .ensures .accepted (sym (c .before .before .before .before .before .before .before .load .ensures .number-is) ∙ c .before .if1 .left) in
     sym (length-take-le _ _ (p .words-fit))
 
--- src/printing.rt:406:31
 slice-aggregate-report-words-2 : tie.Need-slice-aggregate-report-words-2
 slice-aggregate-report-words-2 c = search needs
 
--- src/printing.rt:406:38
 array-share-prefix-rpo : tie.Need-array-share-prefix-rpo
 array-share-prefix-rpo c = let p = c .before .before .before .before .before .before .before .before .load .ensures .accepted (sym (c .before .before .before .before .before .before .before .before .load .ensures .number-is) ∙ c .before .before .if1 .left) in
     p .rpo-fit
 
--- src/printing.rt:406:38
 slice-aggregate-report-words-3 : tie.Need-slice-aggregate-report-words-3
 slice-aggregate-report-words-3 c = let p = c .before .before .before .before .before .before .before .before .before .load .ensures .accepted (sym (c .before .before .before .before .before .before .before .before .before .load .ensures .number-is) ∙ c .before .before .before .if1 .left) in
     sym (length-take-le _ _ (p .rpo-fit))
 
--- src/printing.rt:406:54
 array-share-prefix-keys : tie.Need-array-share-prefix-keys
 array-share-prefix-keys c = let p = c .before .before .before .before .before .before .before .before .before .load .ensures .accepted (sym (c .before .before .before .before .before .before .before .before .before .load .ensures .number-is) ∙ c .before .before .before .if1 .left) in
     p .keys-fit
 
--- src/printing.rt:406:54
 slice-aggregate-report-words-4 : tie.Need-slice-aggregate-report-words-4
 slice-aggregate-report-words-4 c = let p = c .before .before .before .before .before .before .before .before .before .before .load .ensures .accepted (sym (c .before .before .before .before .before .before .before .before .before .before .load .ensures .number-is) ∙ c .before .before .before .before .if1 .left) in
     sym (length-take-le _ _ (p .keys-fit))
 
--- src/printing.rt:406:5
 report-words-requires : tie.Need-report-words-requires
 report-words-requires c κs = let p = c .before .before .before .before .before .before .before .before .before .before .load .ensures .accepted (sym (c .before .before .before .before .before .before .before .before .before .before .load .ensures .number-is) ∙ c .before .before .before .before .if1 .left) in
     let r = p .ready in
     (r .well-formed, ((r .seen-are, r .rpo-is, take-most _ 256 _ (p .rpo-fit) (omega (arith, p .rpo-fit)), omega (arith, ap length (p .order-is), p .order-fits)), (r .bases-differ, r .keys-are, r .keys-few)))
 
--- src/printing.rt:387:1
 returns-2 : tie.Need-returns-2
 unfolding reported
 returns-2 c = let z = sym (c .before .before .before .before .before .before .before .before .before .before .before .load .ensures .number-is) ∙ c .before .before .before .before .before .if1 .left in

@@ -1,64 +1,47 @@
+-- `allocation_answer` meets its contract.
 use mathlib.Core.Path.{refl}
 use native.Mathlib.Omega.{arith}
 use Rattle.sir_analyses.proofs.AllocationWords.{mark-told, owned-unmarked}
 use borrow.Author.Needs.{needs}
 use Rattle.sir_analyses.proofs.allocation_answers.allocation_answer.Statement.{statement}
 use Rattle.sir_analyses.proofs.allocation_answers.allocation_answer.Tie as tie
-use Rattle.sir_analyses.proofs.allocation_answers.allocation_answer.Reads as reads
-use Rattle.sir_analyses.proofs.allocation_answers.allocation_answer.Lts as lts
-use Rattle.plank_core.proofs.rows.row_contains.Reads as row-contains-reads
-use Rattle.sir_analyses.proofs.allocation_answers.marked_answer.Reads as marked-answer-reads
-use Rattle.sir_analyses.proofs.allocation_answers.owned_locals.Reads as owned-locals-reads
-use Rattle.sir_analyses.proofs.allocation_answers.unmarked_answer.Reads as unmarked-answer-reads
-use Rattle.sir_analyses.proofs.allocation_words.site_of.Reads as site-of-reads
 
--- src/allocation_answers.rt:171:9
 site-of-requires : tie.Need-site-of-requires
 site-of-requires c κs = search needs
 
--- src/allocation_answers.rt:172:8
 row-contains-requires : tie.Need-row-contains-requires
 row-contains-requires c κs = search needs
 
--- src/allocation_answers.rt:173:9
 marked-answer-requires : tie.Need-marked-answer-requires
 marked-answer-requires c κs = let s = c .before .before .before .before .before .before .before .before .before .before .before in
     (s .pre .0 .well-formed, (s .args .a .0, (c .before .before .before .site-of .ensures (s .args .words .now) (s .pre .0 .well-formed) (s .pre .0 .keys-are))))
 
--- src/allocation_answers.rt:173:9
 same-length : tie.Need-same-length
 same-length c = search needs
 
--- src/allocation_answers.rt:173:9
 returns : tie.Need-returns
 returns c = let s = c .before .before .before .before .before .before .before .before .before .before .before .before .before .before in
     let x = (c .before .before .before .before .before .before .site-of .ensures (s .args .words .now) (s .pre .0 .well-formed) (s .pre .0 .keys-are)) in
     c .before .before .marked-answer .ensures (s .args .a .0) x (mark-told (s .pre .1 .1 .2) (x .known) (c .before .before .before .before .before .row-contains .ensures) (c .before .before .before .before .if1 .taken))
 
--- src/allocation_answers.rt:176:35
 slice-aggregate-owned-locals : tie.Need-slice-aggregate-owned-locals
 slice-aggregate-owned-locals c = search needs
 
--- src/allocation_answers.rt:176:5
 owned-locals-requires : tie.Need-owned-locals-requires
 owned-locals-requires c κs = let s = c .before .before .before .before .before .before .before .before .before .before .before in
     (s .pre .0 .well-formed, (s .pre .1 .1 .0, omega (arith, s .pre .0 .keys-few, s .pre .1 .0), refl))
 
--- src/allocation_answers.rt:177:45
 slice-aggregate-unmarked-answer : tie.Need-slice-aggregate-unmarked-answer
 slice-aggregate-unmarked-answer c = search needs
 
--- src/allocation_answers.rt:177:5
 unmarked-answer-requires : tie.Need-unmarked-answer-requires
 unmarked-answer-requires c κs = let s = c .before .before .before .before .before .before .before .before .before .before .before .before .before .before .before in
     let x = (c .before .before .before .before .before .before .before .site-of .ensures (s .args .words .now) (s .pre .0 .well-formed) (s .pre .0 .keys-are)) in
     (s .pre .0 .well-formed, ((s .pre .0 .seen-are, s .pre .0 .rpo-is), (s .args .a .0, owned-unmarked (s .pre .0 .well-formed) (s .pre .1 .1 .2) (x .known) (mark-told (s .pre .1 .1 .2) (x .known) (c .before .before .before .before .before .before .row-contains .ensures) (c .before .before .before .before .before .if1 .left)) x (c .before .before .before .owned-locals .ensures))))
 
--- src/allocation_answers.rt:156:1
 same-length-2 : tie.Need-same-length-2
 same-length-2 c = search needs
 
--- src/allocation_answers.rt:156:1
 returns-2 : tie.Need-returns-2
 returns-2 c = let s = c .before .before .before .before .before .before .before .before .before .before .before .before .before .before .before .before .before .before in
     let x = (c .before .before .before .before .before .before .before .before .before .before .site-of .ensures (s .args .words .now) (s .pre .0 .well-formed) (s .pre .0 .keys-are)) in

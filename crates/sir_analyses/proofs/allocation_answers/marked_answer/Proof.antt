@@ -1,3 +1,4 @@
+-- `marked_answer` meets its contract.
 use mathlib.Core.Path.{refl}
 use Rattle.sir_analyses.specs.Answers.{allocationAnswer}
 use Rattle.sir_analyses.proofs.Writing.{puts-as}
@@ -6,25 +7,17 @@ use Rattle.sir_analyses.proofs.Calls.{finished, finish-as, finish-fits}
 use borrow.Author.Needs.{needs}
 use Rattle.sir_analyses.proofs.allocation_answers.marked_answer.Statement.{statement}
 use Rattle.sir_analyses.proofs.allocation_answers.marked_answer.Tie as tie
-use Rattle.sir_analyses.proofs.allocation_answers.marked_answer.Reads as reads
-use Rattle.sir_analyses.proofs.allocation_answers.marked_answer.Lts as lts
-use Rattle.sir_analyses.proofs.allocation_words.put_head.Reads as put-head-reads
-use Rattle.sir_analyses.proofs.answers.finish.Reads as finish-reads
 
--- src/allocation_answers.rt:65:9
 finish-requires : tie.Need-finish-requires
 finish-requires c κs = search needs
 
--- src/allocation_answers.rt:66:5
 put-head-requires : tie.Need-put-head-requires
 put-head-requires c κs = let s = c .before .before .before .before in
     (s .pre .0, (site-known (s .args .words .now) (s .pre .0) (s .pre .1 .1), finish-fits (c .before .finish .ensures)))
 
--- src/allocation_answers.rt:60:1
 same-length : tie.Need-same-length
 same-length c = search needs
 
--- src/allocation_answers.rt:60:1
 returns : tie.Need-returns
 returns c = let s = c .before .before .before .before .before .before .before in
     let w = s .args .words .now in

@@ -1,3 +1,4 @@
+-- `record_answer` meets its contract.
 use native.Mathlib.Omega.{arith}
 use Rattle.sir_analyses.specs.Answers.{allocationAnswer}
 use Rattle.sir_analyses.proofs.AllocationWords.{site-known, answer-long, swept-count, swept-answer}
@@ -5,48 +6,35 @@ use Rattle.sir_analyses.proofs.Calls.{finished, finish-as, finish-fits}
 use borrow.Author.Needs.{needs}
 use Rattle.sir_analyses.proofs.allocation_answers.record_answer.Statement.{statement}
 use Rattle.sir_analyses.proofs.allocation_answers.record_answer.Tie as tie
-use Rattle.sir_analyses.proofs.allocation_answers.record_answer.Reads as reads
-use Rattle.sir_analyses.proofs.allocation_answers.record_answer.Lts as lts
-use Rattle.sir_analyses.proofs.allocation_words.put_head.Reads as put-head-reads
-use Rattle.sir_analyses.proofs.answers.finish.Reads as finish-reads
-use Rattle.sir_analyses.proofs.merged_intervals.populate_intervals_from_local_liveness.Reads as populate-intervals-from-local-liveness-reads
 
--- src/allocation_answers.rt:88:9
 populate-intervals-from-local-liveness-requires :
     tie.Need-populate-intervals-from-local-liveness-requires
 populate-intervals-from-local-liveness-requires c κs = let s = c .before .before .before .before .before .before .before .before .before in
     (s .pre .0, (s .pre .1 .0, (s .pre .1 .1 .0, (s .pre .1 .1 .1 .1 .long, omega arith, omega arith))))
 
--- src/allocation_answers.rt:100:9
 finish-requires : tie.Need-finish-requires
 finish-requires c κs = search needs
 
--- src/allocation_answers.rt:102:32
 sub-put-head : tie.Need-sub-put-head
 sub-put-head c = let s = c .before .before .before .before .before .before .before .before .before .before .before .before .before in
     let x = s .pre .1 .1 .1 .1 in
     omega (arith, swept-count (s .pre .0) x (c .before .before .before .populate-intervals-from-local-liveness .ensures .1) .0, answer-long (s .pre .0) x)
 
--- src/allocation_answers.rt:102:30
 cast-put-head : tie.Need-cast-put-head
 cast-put-head c = search needs
 
--- src/allocation_answers.rt:102:5
 put-head-requires : tie.Need-put-head-requires
 put-head-requires c κs = let s = c .before .before .before .before .before .before .before .before .before .before .before .before .before .before in
     (s .pre .0, (site-known (s .args .words .now) (s .pre .0) (s .pre .1 .1 .1 .1 .site), finish-fits (c .before .finish .ensures)))
 
--- src/allocation_answers.rt:103:5
 populate-intervals-from-local-liveness-requires-2 :
     tie.Need-populate-intervals-from-local-liveness-requires-2
 populate-intervals-from-local-liveness-requires-2 c κs = let s = c .before .before .before .before .before .before .before .before .before .before .before .before .before .before .before .before .before .before in
     (s .pre .0, (s .pre .1 .0, (s .pre .1 .1 .0, (s .pre .1 .1 .1 .1 .long, omega (arith, c .before .before .before .put-head .kept, finish-fits (c .before .before .before .before .before .finish .ensures)), omega arith))))
 
--- src/allocation_answers.rt:71:1
 same-length : tie.Need-same-length
 same-length c = search needs
 
--- src/allocation_answers.rt:71:1
 returns : tie.Need-returns
 returns c = let s = c .before .before .before .before .before .before .before .before .before .before .before .before .before .before .before .before .before .before .before .before .before in
     let w = s .args .words .now in

@@ -1,64 +1,47 @@
+-- `tables_answer` meets its contract.
 use mathlib.Core.Path.{refl}
 use native.Mathlib.Omega.{arith}
 use Rattle.sir_analyses.proofs.AllocationWords.{mark-told, owned-unmarked}
 use borrow.Author.Needs.{needs}
 use Rattle.sir_analyses.proofs.allocation_answers.tables_answer.Statement.{statement}
 use Rattle.sir_analyses.proofs.allocation_answers.tables_answer.Tie as tie
-use Rattle.sir_analyses.proofs.allocation_answers.tables_answer.Reads as reads
-use Rattle.sir_analyses.proofs.allocation_answers.tables_answer.Lts as lts
-use Rattle.plank_core.proofs.rows.row_contains.Reads as row-contains-reads
-use Rattle.sir_analyses.proofs.allocation_answers.marked_answer.Reads as marked-answer-reads
-use Rattle.sir_analyses.proofs.allocation_answers.owned_locals.Reads as owned-locals-reads
-use Rattle.sir_analyses.proofs.allocation_answers.record_answer.Reads as record-answer-reads
-use Rattle.sir_analyses.proofs.allocation_words.site_of.Reads as site-of-reads
 
--- src/allocation_answers.rt:201:9
 site-of-requires : tie.Need-site-of-requires
 site-of-requires c κs = search needs
 
--- src/allocation_answers.rt:202:8
 row-contains-requires : tie.Need-row-contains-requires
 row-contains-requires c κs = search needs
 
--- src/allocation_answers.rt:203:9
 marked-answer-requires : tie.Need-marked-answer-requires
 marked-answer-requires c κs = let s = c .before .before .before .before .before .before .before .before .before .before .before .before .before .before in
     (s .pre .0, (s .args .a .0, (c .before .before .before .site-of .ensures (s .args .words .now) (s .pre .0) (s .pre .1 .1 .1 .0 .0))))
 
--- src/allocation_answers.rt:203:9
 same-length : tie.Need-same-length
 same-length c = search needs
 
--- src/allocation_answers.rt:203:9
 returns : tie.Need-returns
 returns c = let s = c .before .before .before .before .before .before .before .before .before .before .before .before .before .before .before .before .before in
     let x = (c .before .before .before .before .before .before .site-of .ensures (s .args .words .now) (s .pre .0) (s .pre .1 .1 .1 .0 .0)) in
     c .before .before .marked-answer .ensures (s .args .a .0) x (mark-told (s .pre .1 .1 .1 .1 .2) (x .known) (c .before .before .before .before .before .row-contains .ensures) (c .before .before .before .before .if1 .taken))
 
--- src/allocation_answers.rt:206:35
 slice-aggregate-owned-locals : tie.Need-slice-aggregate-owned-locals
 slice-aggregate-owned-locals c = search needs
 
--- src/allocation_answers.rt:206:5
 owned-locals-requires : tie.Need-owned-locals-requires
 owned-locals-requires c κs = let s = c .before .before .before .before .before .before .before .before .before .before .before .before .before .before in
     (s .pre .0, (s .pre .1 .1 .1 .1 .0, omega (arith, s .pre .1 .1 .1 .0 .1, s .pre .1 .1 .1 .0 .2), refl))
 
--- src/allocation_answers.rt:207:66
 slice-aggregate-record-answer : tie.Need-slice-aggregate-record-answer
 slice-aggregate-record-answer c = search needs
 
--- src/allocation_answers.rt:207:5
 record-answer-requires : tie.Need-record-answer-requires
 record-answer-requires c κs = let s = c .before .before .before .before .before .before .before .before .before .before .before .before .before .before .before .before .before .before in
     let x = (c .before .before .before .before .before .before .before .site-of .ensures (s .args .words .now) (s .pre .0) (s .pre .1 .1 .1 .0 .0)) in
     (s .pre .0, (s .pre .1 .0, (s .pre .1 .1 .0, (s .args .a .0, owned-unmarked (s .pre .0) (s .pre .1 .1 .1 .1 .2) (x .known) (mark-told (s .pre .1 .1 .1 .1 .2) (x .known) (c .before .before .before .before .before .before .row-contains .ensures) (c .before .before .before .before .before .if1 .left)) x (c .before .before .before .owned-locals .ensures)))))
 
--- src/allocation_answers.rt:181:1
 same-length-2 : tie.Need-same-length-2
 same-length-2 c = search needs
 
--- src/allocation_answers.rt:181:1
 returns-2 : tie.Need-returns-2
 returns-2 c = let s = c .before .before .before .before .before .before .before .before .before .before .before .before .before .before .before .before .before .before .before .before .before in
     let x = (c .before .before .before .before .before .before .before .before .before .before .site-of .ensures (s .args .words .now) (s .pre .0) (s .pre .1 .1 .1 .0 .0)) in

@@ -1,3 +1,4 @@
+-- `block_allocations` meets its contract.
 use mathlib.Core.Path.{_≡_, sym, ap, _∙_}
 use mathlib.Core.Bool.{true, false}
 use Prim.Native.Nat.{_+_, _-_, _*_, _≤_, _<_}
@@ -11,11 +12,6 @@ use Rattle.sir_analyses.proofs.Keys.{Listing, listing-none, listing-as,
 use Rattle.sir_analyses.proofs.Discovery.{keysOf, key-next, key-skip, key-end, block-keys}
 use Rattle.sir_analyses.proofs.allocation_liveness.block_allocations.Statement.{statement}
 use Rattle.sir_analyses.proofs.allocation_liveness.block_allocations.Tie as tie
-use Rattle.sir_analyses.proofs.allocation_liveness.block_allocations.Reads as reads
-use Rattle.sir_analyses.proofs.allocation_liveness.block_allocations.Lts as lts
-use Rattle.sir_data.proofs.codes.is_alloc.Reads as is-alloc-reads
-use Rattle.sir_data.proofs.records.block_operations.Reads as block-operations-reads
-use Rattle.sir_data.proofs.records.op_word.Reads as op-word-reads
 
 abbrev Inv-loop : tie.InvT-loop
 Inv-loop words b keys₀ at last m₀ o₀ keys m o = (m ≤ length keys) × Listing (blockKeys words (b .0)) at keys₀ (keysOf words (b .0) (range o last)) keys m
@@ -23,20 +19,16 @@ Inv-loop words b keys₀ at last m₀ o₀ keys m o = (m ≤ length keys) × Lis
 abbrev μ-loop : tie.MeasureT-loop
 μ-loop words b keys₀ at last m₀ o₀ keys m o = last - o
 
--- src/allocation_liveness.rt:36:9
 block-operations-requires : tie.Need-block-operations-requires Inv-loop μ-loop
 block-operations-requires c κs = let S = c .before .before in (S .pre .0 .sized, S .pre .1 .0)
 
--- src/allocation_liveness.rt:40:5
 loop-holds : tie.Need-loop-holds Inv-loop μ-loop
 loop-holds c = let S = c .before .before .before in
     (S .pre .1 .1, listing-as (block-keys (S .args .words .now) (S .args .b .0) _ _ (c .block-operations .ensures .0) (c .block-operations .ensures .1)) listing-none)
 
--- src/allocation_liveness.rt:42:9
 add-o : tie.Need-add-o Inv-loop μ-loop
 add-o c = omega arith
 
--- src/allocation_liveness.rt:43:21
 op-word-requires : tie.Need-op-word-requires Inv-loop μ-loop
 op-word-requires c κs = let S = c .before .before .before .before .before in
     let L = c .before .loop in
@@ -44,7 +36,6 @@ op-word-requires c κs = let S = c .before .before .before .before .before in
     let h : L .o < operations w = omega (arith, S .pre .0 .in-range .ops-range (S .args .b .0) (S .pre .1 .0), c .before .before .block-operations .ensures, c .loop-test .taken) in
     (S .pre .0 .sized, (h, omega arith))
 
--- src/allocation_liveness.rt:43:12
 is-alloc-requires : tie.Need-is-alloc-requires Inv-loop μ-loop
 is-alloc-requires c κs = let S = c .before .before .before .before .before .before in
     let L = c .before .before .loop in
@@ -52,15 +43,12 @@ is-alloc-requires c κs = let S = c .before .before .before .before .before .bef
     let h : L .o < operations w = omega (arith, S .pre .0 .in-range .ops-range (S .args .b .0) (S .pre .1 .0), c .before .before .before .block-operations .ensures, c .before .loop-test .taken) in
     omega (arith, S .pre .0 .in-range .code-most (L .o) h, c .op-word .ensures)
 
--- src/allocation_liveness.rt:45:24
 add-result : tie.Need-add-result Inv-loop μ-loop
 add-result c = omega (arith, c .before .before .before .before .before .loop .inv .0)
 
--- src/allocation_liveness.rt:45:17
 same-length : tie.Need-same-length Inv-loop μ-loop
 same-length c = c .before .before .before .before .before .loop .inv .1 .long
 
--- src/allocation_liveness.rt:45:17
 returns : tie.Need-returns Inv-loop μ-loop
 returns c = let S = c .before .before .before .before .before .before .before .before .before in
     let L = c .before .before .before .before .before .loop in
@@ -69,12 +57,10 @@ returns c = let S = c .before .before .before .before .before .before .before .b
     let e = key-next w (S .args .b .0) (L .o) (c .before .before .before .before .before .before .block-operations .result .end) (c .before .before .before .before .loop-test .taken) t in
     capped-stop (omega (arith, c .if2 .taken)) (omega (arith, c .if2 .taken)) (listing-as e (L .inv .1))
 
--- src/allocation_liveness.rt:47:23
 mul-keys : tie.Need-mul-keys Inv-loop μ-loop
 mul-keys c = let S = c .before .before .before .before .before .before .before .before .before .before in
     omega (arith, S .pre .0 .sized .blocks-most, S .pre .1 .0)
 
--- src/allocation_liveness.rt:47:23
 add-keys : tie.Need-add-keys Inv-loop μ-loop
 add-keys c = let S = c .before .before .before .before .before .before .before .before .before .before in
     let L = c .before .before .before .before .before .before .loop in
@@ -82,23 +68,18 @@ add-keys c = let S = c .before .before .before .before .before .before .before .
     let h : L .o < operations w = omega (arith, S .pre .0 .in-range .ops-range (S .args .b .0) (S .pre .1 .0), c .before .before .before .before .before .before .before .block-operations .ensures, c .before .before .before .before .before .loop-test .taken) in
     omega (arith, S .pre .0 .sized .blocks-most, S .pre .0 .sized .operations-most, S .pre .1 .0)
 
--- src/allocation_liveness.rt:47:13
 mul-keys-2 : tie.Need-mul-keys-2 Inv-loop μ-loop
 mul-keys-2 c = omega arith
 
--- src/allocation_liveness.rt:47:13
 slice-write-keys : tie.Need-slice-write-keys Inv-loop μ-loop
 slice-write-keys c = omega (arith, c .before .before .before .before .before .before .loop .inv .0, c .before .if2 .left)
 
--- src/allocation_liveness.rt:48:13
 add-m : tie.Need-add-m Inv-loop μ-loop
 add-m c = omega (arith, c .before .before .before .before .before .before .loop .inv .0, c .before .if2 .left)
 
--- src/allocation_liveness.rt:40:5
 loop-less : tie.Need-loop-less Inv-loop μ-loop
 loop-less c = omega arith
 
--- src/allocation_liveness.rt:40:5
 loop-again : tie.Need-loop-again Inv-loop μ-loop
 loop-again c = let S = c .before .before .before .before .before .before .before .before .before .before in
     let L = c .before .before .before .before .before .before .loop in
@@ -108,11 +89,9 @@ loop-again c = let S = c .before .before .before .before .before .before .before
     let r : L .m < length (L .keys) = omega (arith, L .inv .0, c .before .if2 .left) in
     (omega (arith, length-set (L .keys) (L .m) (1024 * S .args .b .0 + L .o)), listing-put r (listing-as e (L .inv .1)))
 
--- src/allocation_liveness.rt:40:5
 loop-less-2 : tie.Need-loop-less-2 Inv-loop μ-loop
 loop-less-2 c = omega arith
 
--- src/allocation_liveness.rt:40:5
 loop-again-2 : tie.Need-loop-again-2 Inv-loop μ-loop
 loop-again-2 c = let S = c .before .before .before .before .before .before .before .before in
     let L = c .before .before .before .before .loop in
@@ -120,11 +99,9 @@ loop-again-2 c = let S = c .before .before .before .before .before .before .befo
     let t : isAlloc (code w (L .o)) ≡ false = ap isAlloc (sym (c .before .before .op-word .ensures)) ∙ sym (c .before .is-alloc .ensures) ∙ c .if1 .left in
     (L .inv .0, listing-as (key-skip w (S .args .b .0) (L .o) (c .before .before .before .before .before .block-operations .result .end) (c .before .before .before .loop-test .taken) t) (L .inv .1))
 
--- src/allocation_liveness.rt:31:1
 same-length-2 : tie.Need-same-length-2 Inv-loop μ-loop
 same-length-2 c = c .before .loop .inv .1 .long
 
--- src/allocation_liveness.rt:31:1
 returns-2 : tie.Need-returns-2 Inv-loop μ-loop
 returns-2 c = let S = c .before .before .before .before .before in
     let L = c .before .loop in

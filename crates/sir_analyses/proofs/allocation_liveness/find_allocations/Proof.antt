@@ -1,3 +1,4 @@
+-- `find_allocations` meets its contract.
 use mathlib.Core.Path.{_∙_}
 use Prim.Native.Nat.{_+_, _-_, _≤_}
 use native.Mathlib.Omega.{arith}
@@ -10,9 +11,6 @@ use Rattle.sir_analyses.proofs.UseWords.{block-next, block-end}
 use Rattle.sir_analyses.proofs.Discovery.{keys-start}
 use Rattle.sir_analyses.proofs.allocation_liveness.find_allocations.Statement.{statement}
 use Rattle.sir_analyses.proofs.allocation_liveness.find_allocations.Tie as tie
-use Rattle.sir_analyses.proofs.allocation_liveness.find_allocations.Reads as reads
-use Rattle.sir_analyses.proofs.allocation_liveness.find_allocations.Lts as lts
-use Rattle.sir_analyses.proofs.allocation_liveness.block_allocations.Reads as block-allocations-reads
 
 abbrev Inv-loop : tie.InvT-loop
 Inv-loop words rpo keys₀ m₀ i₀ keys m i = (i ≤ length rpo) × (m ≤ length keys) × Listing (allocKeys words) 0 keys₀ (bind (drop i rpo) (blockKeys words)) keys m
@@ -20,20 +18,16 @@ Inv-loop words rpo keys₀ m₀ i₀ keys m i = (i ≤ length rpo) × (m ≤ len
 abbrev μ-loop : tie.MeasureT-loop
 μ-loop words rpo keys₀ m₀ i₀ keys m i = length rpo - i
 
--- src/allocation_liveness.rt:62:5
 loop-holds : tie.Need-loop-holds Inv-loop μ-loop
 loop-holds c = let S = c .before .before .before in
     (omega arith, omega arith, listing-as (keys-start (S .args .words .now) (S .args .rpo .now) (S .pre .1)) listing-none)
 
--- src/allocation_liveness.rt:63:46
 mul-t6 : tie.Need-mul-t6 Inv-loop μ-loop
 mul-t6 c = omega arith
 
--- src/allocation_liveness.rt:63:46
 shared-slice-read-t9 : tie.Need-shared-slice-read-t9 Inv-loop μ-loop
 shared-slice-read-t9 c = omega arith
 
--- src/allocation_liveness.rt:63:9
 block-allocations-requires : tie.Need-block-allocations-requires Inv-loop μ-loop
 block-allocations-requires c κs = let S = c .before .before .before .before .before .before .before in
     let L = c .before .before .before .loop in
@@ -42,11 +36,9 @@ block-allocations-requires c κs = let S = c .before .before .before .before .be
     let b = getD rpo (L .i) 0 in
     (S .pre .0, (rpo-below w (S .pre .0) (S .pre .1) b (getD-mem rpo (L .i) 0 (c .before .before .loop-test .taken)), omega (arith, L .inv .1)))
 
--- src/allocation_liveness.rt:65:13
 same-length : tie.Need-same-length Inv-loop μ-loop
 same-length c = c .before .before .before .block-allocations .ensures .long ∙ c .before .before .before .before .before .before .before .loop .inv .2 .long
 
--- src/allocation_liveness.rt:65:13
 returns : tie.Need-returns Inv-loop μ-loop
 returns c = let S = c .before .before .before .before .before .before .before .before .before .before .before in
     let L = c .before .before .before .before .before .before .before .loop in
@@ -55,15 +47,12 @@ returns c = let S = c .before .before .before .before .before .before .before .b
     let e = block-next (blockKeys w) rpo (L .i) (c .before .before .before .before .before .before .loop-test .taken) in
     capped-over (blockKeys w (getD rpo (L .i) 0)) (bind (drop (L .i + 1) rpo) (blockKeys w)) (omega (arith, c .if1 .taken)) (listing-as e (L .inv .2)) (c .before .before .before .block-allocations .ensures)
 
--- src/allocation_liveness.rt:67:9
 add-i : tie.Need-add-i Inv-loop μ-loop
 add-i c = omega arith
 
--- src/allocation_liveness.rt:62:5
 loop-less : tie.Need-loop-less Inv-loop μ-loop
 loop-less c = omega arith
 
--- src/allocation_liveness.rt:62:5
 loop-again : tie.Need-loop-again Inv-loop μ-loop
 loop-again c = let S = c .before .before .before .before .before .before .before .before .before .before .before in
     let L = c .before .before .before .before .before .before .before .loop in
@@ -72,11 +61,9 @@ loop-again c = let S = c .before .before .before .before .before .before .before
     let e = block-next (blockKeys w) rpo (L .i) (c .before .before .before .before .before .before .loop-test .taken) in
     (omega arith, omega (arith, c .if1 .left), listing-more (listing-as e (L .inv .2)) (capped-fits (omega (arith, c .if1 .left)) (c .before .before .before .block-allocations .ensures)))
 
--- src/allocation_liveness.rt:55:1
 same-length-2 : tie.Need-same-length-2 Inv-loop μ-loop
 same-length-2 c = c .before .loop .inv .2 .long
 
--- src/allocation_liveness.rt:55:1
 returns-2 : tie.Need-returns-2 Inv-loop μ-loop
 returns-2 c = let S = c .before .before .before .before .before in
     let L = c .before .loop in

@@ -1,3 +1,4 @@
+-- `rule_12` meets its contract.
 use mathlib.Core.Path.{refl, sym, _∙_}
 use Prim.Native.Nat.{_-_, _≤_}
 use native.Mathlib.Nat.{zero-add}
@@ -7,10 +8,6 @@ use borrow.Author.Tests.{not-true, not-false}
 use Rattle.sir_analyses.proofs.Discovery.{Deciding, bases-start, key-known, deciding-next, deciding-stop, deciding-all}
 use Rattle.sir_analyses.proofs.allocation_liveness.rule_12.Statement.{statement}
 use Rattle.sir_analyses.proofs.allocation_liveness.rule_12.Tie as tie
-use Rattle.sir_analyses.proofs.allocation_liveness.rule_12.Reads as reads
-use Rattle.sir_analyses.proofs.allocation_liveness.rule_12.Lts as lts
-use Rattle.plank_core.proofs.rows.row_add.Reads as row-add-reads
-use Rattle.sir_analyses.proofs.allocation_liveness.base_ptr.Reads as base-ptr-reads
 
 abbrev Inv-loop : tie.InvT-loop
 Inv-loop words keys bases₀ a₀ bases a = (a ≤ length keys) × Deciding words bases a
@@ -18,52 +15,42 @@ Inv-loop words keys bases₀ a₀ bases a = (a ≤ length keys) × Deciding word
 abbrev μ-loop : tie.MeasureT-loop
 μ-loop words keys bases₀ a₀ bases a = length keys - a
 
--- src/allocation_liveness.rt:90:5
 loop-holds : tie.Need-loop-holds Inv-loop μ-loop
 loop-holds c = let S = c .before .before in
     let w = S .args .words .now in
     (omega arith, record { long = refl; left = bases-start w (S .pre .0) })
 
--- src/allocation_liveness.rt:91:42
 mul-t6 : tie.Need-mul-t6 Inv-loop μ-loop
 mul-t6 c = omega arith
 
--- src/allocation_liveness.rt:91:42
 shared-slice-read-t9 : tie.Need-shared-slice-read-t9 Inv-loop μ-loop
 shared-slice-read-t9 c = omega arith
 
--- src/allocation_liveness.rt:91:13
 base-ptr-requires : tie.Need-base-ptr-requires Inv-loop μ-loop
 base-ptr-requires c κs = let S = c .before .before .before .before .before in
     let w = S .args .words .now in
     (S .pre .0, key-known w (S .pre .0) (S .pre .1) (c .before .loop-test .taken))
 
--- src/allocation_liveness.rt:92:9
 add-a : tie.Need-add-a Inv-loop μ-loop
 add-a c = omega arith
 
--- src/allocation_liveness.rt:93:21
 slice-aggregate-row-add : tie.Need-slice-aggregate-row-add Inv-loop μ-loop
 slice-aggregate-row-add c = omega (arith, c .before .before .before .before .loop .inv .1 .long)
 
--- src/allocation_liveness.rt:93:13
 row-add-requires : tie.Need-row-add-requires Inv-loop μ-loop
 row-add-requires c κs = let S = c .before .before .before .before .before .before .before in
     let w = S .args .words .now in
     (omega (arith, c .before .before .before .before .loop .inv .1 .long), omega (arith, c .before .base-ptr .ensures .1, S .pre .0 .sized .locals-most))
 
--- src/allocation_liveness.rt:94:13
 returns : tie.Need-returns Inv-loop μ-loop
 returns c = let S = c .before .before .before .before .before .before .before .before .before .before in
     let w = S .args .words .now in
     let n = rw zero-add at (c .before .before .row-add .ensures .0) in
     sym (deciding-stop w (S .pre .0) (S .pre .1) (c .before .before .before .before .before .before .loop-test .taken) (c .before .before .before .before .base-ptr .ensures .0) (c .before .before .before .before .before .before .before .loop .inv .1) (not-false _ (sym n ∙ not-true _ (c .if1 .taken))))
 
--- src/allocation_liveness.rt:90:5
 loop-less : tie.Need-loop-less Inv-loop μ-loop
 loop-less c = omega arith
 
--- src/allocation_liveness.rt:90:5
 loop-again : tie.Need-loop-again Inv-loop μ-loop
 loop-again c = let S = c .before .before .before .before .before .before .before .before .before .before in
     let w = S .args .words .now in
@@ -71,7 +58,6 @@ loop-again c = let S = c .before .before .before .before .before .before .before
     let put = rw zero-add at (c .before .before .row-add .ensures .1) in
     (omega arith, rw put (deciding-next w (S .pre .0) (S .pre .1) (c .before .before .before .before .before .before .loop-test .taken) (c .before .before .before .before .base-ptr .ensures .0) (c .before .before .before .before .before .before .before .loop .inv .1) (not-true _ (sym n ∙ not-false _ (c .if1 .left)))))
 
--- src/allocation_liveness.rt:83:1
 returns-2 : tie.Need-returns-2 Inv-loop μ-loop
 returns-2 c = let S = c .before .before .before .before in
     let w = S .args .words .now in

@@ -9,11 +9,6 @@ use Rattle.sir_analyses.proofs.Accepted.{one-in}
 use borrow.Author.Needs.{needs}
 use Rattle.sir_analyses.proofs.allocation_words.alloc_kind.Statement.{statement}
 use Rattle.sir_analyses.proofs.allocation_words.alloc_kind.Tie as tie
-use Rattle.sir_analyses.proofs.allocation_words.alloc_kind.Reads as reads
-use Rattle.sir_analyses.proofs.allocation_words.alloc_kind.Lts as lts
-use Rattle.sir_data.proofs.codes.is_dynamic_alloc.Reads as is-dynamic-alloc-reads
-use Rattle.sir_data.proofs.records.op_inputs.Reads as op-inputs-reads
-use Rattle.sir_data.proofs.records.op_word.Reads as op-word-reads
 
 op-word-requires : tie.Need-op-word-requires
 op-word-requires c κs = search needs

@@ -4,8 +4,6 @@ use Rattle.sir_analyses.specs.Kinds.{kindWords}
 use borrow.Author.Needs.{needs}
 use Rattle.sir_analyses.proofs.allocation_words.kind_words.Statement.{statement}
 use Rattle.sir_analyses.proofs.allocation_words.kind_words.Tie as tie
-use Rattle.sir_analyses.proofs.allocation_words.kind_words.Reads as reads
-use Rattle.sir_analyses.proofs.allocation_words.kind_words.Lts as lts
 
 enum-known-k : tie.Need-enum-known-k
 enum-known-k c = search needs

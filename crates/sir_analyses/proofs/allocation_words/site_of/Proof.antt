@@ -1,23 +1,18 @@
+-- `site_of` meets its contract.
 use Rattle.sir_analyses.proofs.AllocationWords.{key-site}
 use borrow.Author.Needs.{needs}
 use Rattle.sir_analyses.proofs.allocation_words.site_of.Statement.{statement}
 use Rattle.sir_analyses.proofs.allocation_words.site_of.Tie as tie
-use Rattle.sir_analyses.proofs.allocation_words.site_of.Reads as reads
-use Rattle.sir_analyses.proofs.allocation_words.site_of.Lts as lts
 
--- src/allocation_words.rt:74:20
 cast-key : tie.Need-cast-key
 cast-key c = search needs
 
--- src/allocation_words.rt:74:15
 mul-key : tie.Need-mul-key
 mul-key c = search needs
 
--- src/allocation_words.rt:74:15
 shared-slice-read-key : tie.Need-shared-slice-read-key
 shared-slice-read-key c = search needs
 
--- src/allocation_words.rt:70:1
 returns : tie.Need-returns
 returns c = let a = c .before .before in
     λ w good e. key-site w good (a .pre) e

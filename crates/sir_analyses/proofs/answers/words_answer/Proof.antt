@@ -1,26 +1,19 @@
+-- `words_answer` meets its contract.
 use native.Mathlib.Omega.{arith}
 use Rattle.sir_analyses.proofs.Calls.{finished, finish-fits}
 use borrow.Author.Needs.{needs}
 use Rattle.sir_analyses.proofs.answers.words_answer.Statement.{statement}
 use Rattle.sir_analyses.proofs.answers.words_answer.Tie as tie
-use Rattle.sir_analyses.proofs.answers.words_answer.Reads as reads
-use Rattle.sir_analyses.proofs.answers.words_answer.Lts as lts
-use Rattle.sir_analyses.proofs.answers.finish.Reads as finish-reads
-use Rattle.sir_analyses.proofs.answers.put_words.Reads as put-words-reads
 
--- src/answers.rt:90:9
 finish-requires : tie.Need-finish-requires
 finish-requires c κs = search needs
 
--- src/answers.rt:91:5
 put-words-requires : tie.Need-put-words-requires
 put-words-requires c κs = (finish-fits (c .before .finish .ensures), omega (arith, c .before .before .before .before .pre))
 
--- src/answers.rt:86:1
 same-length : tie.Need-same-length
 same-length c = search needs
 
--- src/answers.rt:86:1
 returns : tie.Need-returns
 returns c = let a = c .before .before .before .before .before .before .before .args in finished (a .words .now) (a .out .now) (c .before .before .before .before .finish .ensures) (c .before .before .put-words .ensures)
 

@@ -1,3 +1,4 @@
+-- `ask` meets its contract.
 use mathlib.Core.Path.{_≡_, sym, ap, _∙_}
 use mathlib.Core.List.{List}
 use Prim.Native.Nat.{ℕ}
@@ -9,100 +10,75 @@ use Rattle.sir_analyses.proofs.Proved.{promise}
 use borrow.Author.Needs.{needs}
 use Rattle.sir_analyses.proofs.ask.ask.Statement.{statement}
 use Rattle.sir_analyses.proofs.ask.ask.Tie as tie
-use Rattle.sir_analyses.proofs.ask.ask.Reads as reads
-use Rattle.sir_analyses.proofs.ask.ask.Lts as lts
-use Rattle.sir_analyses.proofs.answers.refuse.Reads as refuse-reads
-use Rattle.sir_analyses.proofs.ask.answer.Reads as answer-reads
-use Rattle.sir_analyses.proofs.loading.load.Reads as load-reads
 
--- src/ask.rt:58:16
 slice-aggregate-load : tie.Need-slice-aggregate-load
 slice-aggregate-load c = search needs
 
--- src/ask.rt:58:28
 slice-aggregate-load-2 : tie.Need-slice-aggregate-load-2
 slice-aggregate-load-2 c = search needs
 
--- src/ask.rt:58:39
 slice-aggregate-load-3 : tie.Need-slice-aggregate-load-3
 slice-aggregate-load-3 c = search needs
 
--- src/ask.rt:58:50
 slice-aggregate-load-4 : tie.Need-slice-aggregate-load-4
 slice-aggregate-load-4 c = search needs
 
--- src/ask.rt:58:60
 slice-aggregate-load-5 : tie.Need-slice-aggregate-load-5
 slice-aggregate-load-5 c = search needs
 
--- src/ask.rt:57:9
 load-requires : tie.Need-load-requires
 load-requires c κs = search needs
 
--- src/ask.rt:62:9
 refuse-requires : tie.Need-refuse-requires
 refuse-requires c κs = search needs
 
--- src/ask.rt:62:9
 returns : tie.Need-returns
 returns c = let a = c .before .before .before .before .before .before .before .before .before .before .before .before .before .before .before .args in
     let image = a .image .now in
     (image-refused (ownRules (a .question)) (inWords (answerWords (a .question))) image (a .out .now) (λ z. c .before .if1 .taken (c .before .before .before .before .before .before .before .load .ensures .number-is ∙ z)) (c .refuse .ensures .0 ∙ c .before .before .before .before .before .before .before .load .ensures .number-is) (c .refuse .ensures .1), promise image)
 
--- src/ask.rt:69:9
 array-share-prefix-words : tie.Need-array-share-prefix-words
 array-share-prefix-words c = let p = c .before .before .before .before .before .before .load .ensures .accepted (sym (c .before .before .before .before .before .before .load .ensures .number-is) ∙ c .if1 .left) in
     p .words-fit
 
--- src/ask.rt:69:9
 slice-aggregate-answer : tie.Need-slice-aggregate-answer
 slice-aggregate-answer c = let p = c .before .before .before .before .before .before .before .load .ensures .accepted (sym (c .before .before .before .before .before .before .before .load .ensures .number-is) ∙ c .before .if1 .left) in
     front-length _ _ (p .words-fit)
 
--- src/ask.rt:70:9
 slice-aggregate-answer-2 : tie.Need-slice-aggregate-answer-2
 slice-aggregate-answer-2 c = search needs
 
--- src/ask.rt:71:9
 array-share-prefix-post : tie.Need-array-share-prefix-post
 array-share-prefix-post c = let p = c .before .before .before .before .before .before .before .before .load .ensures .accepted (sym (c .before .before .before .before .before .before .before .before .load .ensures .number-is) ∙ c .before .before .if1 .left) in
     p .post-fit
 
--- src/ask.rt:71:9
 slice-aggregate-answer-3 : tie.Need-slice-aggregate-answer-3
 slice-aggregate-answer-3 c = let p = c .before .before .before .before .before .before .before .before .before .load .ensures .accepted (sym (c .before .before .before .before .before .before .before .before .before .load .ensures .number-is) ∙ c .before .before .before .if1 .left) in
     front-length _ _ (p .post-fit)
 
--- src/ask.rt:72:9
 array-share-prefix-rpo : tie.Need-array-share-prefix-rpo
 array-share-prefix-rpo c = let p = c .before .before .before .before .before .before .before .before .before .load .ensures .accepted (sym (c .before .before .before .before .before .before .before .before .before .load .ensures .number-is) ∙ c .before .before .before .if1 .left) in
     p .rpo-fit
 
--- src/ask.rt:72:9
 slice-aggregate-answer-4 : tie.Need-slice-aggregate-answer-4
 slice-aggregate-answer-4 c = let p = c .before .before .before .before .before .before .before .before .before .before .load .ensures .accepted (sym (c .before .before .before .before .before .before .before .before .before .before .load .ensures .number-is) ∙ c .before .before .before .before .if1 .left) in
     front-length _ _ (p .rpo-fit)
 
--- src/ask.rt:73:9
 array-share-prefix-found : tie.Need-array-share-prefix-found
 array-share-prefix-found c = let p = c .before .before .before .before .before .before .before .before .before .before .load .ensures .accepted (sym (c .before .before .before .before .before .before .before .before .before .before .load .ensures .number-is) ∙ c .before .before .before .before .if1 .left) in
     p .keys-fit
 
--- src/ask.rt:73:9
 slice-aggregate-answer-5 : tie.Need-slice-aggregate-answer-5
 slice-aggregate-answer-5 c = let p = c .before .before .before .before .before .before .before .before .before .before .before .load .ensures .accepted (sym (c .before .before .before .before .before .before .before .before .before .before .before .load .ensures .number-is) ∙ c .before .before .before .before .before .if1 .left) in
     front-length _ _ (p .keys-fit)
 
--- src/ask.rt:68:5
 answer-requires : tie.Need-answer-requires
 answer-requires c κs = let p = c .before .before .before .before .before .before .before .before .before .before .before .before .load .ensures .accepted (sym (c .before .before .before .before .before .before .before .before .before .before .before .before .load .ensures .number-is) ∙ c .before .before .before .before .before .before .if1 .left) in
     (p .ready, (p .order-is, p .order-fits))
 
--- src/ask.rt:48:1
 same-length : tie.Need-same-length
 same-length c = search needs
 
--- src/ask.rt:48:1
 returns-2 : tie.Need-returns-2
 returns-2 c = let a = c .before .before .before .before .before .before .before .before .before .before .before .before .before .before .before .before .before .before .before .before .before .before .before .args in
     let image = a .image .now in

@@ -1,50 +1,37 @@
+-- `intervals_answer` meets its contract.
 use native.Mathlib.Omega.{arith}
 use Rattle.sir_analyses.specs.Answers.{intervalsAnswer}
 use Rattle.sir_analyses.proofs.Calls.{count-write, finish-fits}
 use borrow.Author.Needs.{needs}
 use Rattle.sir_analyses.proofs.live_answers.intervals_answer.Statement.{statement}
 use Rattle.sir_analyses.proofs.live_answers.intervals_answer.Tie as tie
-use Rattle.sir_analyses.proofs.live_answers.intervals_answer.Reads as reads
-use Rattle.sir_analyses.proofs.live_answers.intervals_answer.Lts as lts
-use Rattle.sir_analyses.proofs.answers.finish.Reads as finish-reads
-use Rattle.sir_analyses.proofs.block_sets.end_sets.Reads as end-sets-reads
-use Rattle.sir_analyses.proofs.local_intervals.put_intervals.Reads as put-intervals-reads
 
--- src/live_answers.rt:83:21
 slice-aggregate-end-sets : tie.Need-slice-aggregate-end-sets
 slice-aggregate-end-sets c = search needs
 
--- src/live_answers.rt:83:5
 end-sets-requires : tie.Need-end-sets-requires
 end-sets-requires c κs = search needs
 
--- src/live_answers.rt:84:61
 slice-aggregate-put-intervals : tie.Need-slice-aggregate-put-intervals
 slice-aggregate-put-intervals c = search needs
 
--- src/live_answers.rt:84:9
 put-intervals-requires : tie.Need-put-intervals-requires
 put-intervals-requires c κs = let p = c .before .before .before .before .before .before .before .before .before .before .before .pre in
     (p .0, (p .1 .0, ((p .1 .1 .0, p .1 .1 .1, c .before .before .before .end-sets .ensures), (p .1 .1 .2, omega arith))))
 
--- src/live_answers.rt:85:9
 finish-requires : tie.Need-finish-requires
 finish-requires c κs = search needs
 
--- src/live_answers.rt:87:53
 slice-aggregate-put-intervals-2 : tie.Need-slice-aggregate-put-intervals-2
 slice-aggregate-put-intervals-2 c = search needs
 
--- src/live_answers.rt:87:5
 put-intervals-requires-2 : tie.Need-put-intervals-requires-2
 put-intervals-requires-2 c κs = let p = c .before .before .before .before .before .before .before .before .before .before .before .before .before .before .before .before .before .pre in
     (p .0, (p .1 .0, ((p .1 .1 .0, p .1 .1 .1, c .before .before .before .before .before .before .before .before .before .end-sets .ensures), (p .1 .1 .2, finish-fits (c .before .before .finish .ensures)))))
 
--- src/live_answers.rt:68:1
 same-length : tie.Need-same-length
 same-length c = search needs
 
--- src/live_answers.rt:68:1
 returns : tie.Need-returns
 returns c = let a = c .before .before .before .before .before .before .before .before .before .before .before .before .before .before .before .before .before .before .before .before .args in
     count-write (intervalsAnswer (a .words .now) (a .v .0)) (a .out .now) (c .before .before .before .before .before .before .before .before .put-intervals .ensures .1) (c .before .before .before .before .before .finish .ensures) (c .before .before .put-intervals2 .ensures .1)

@@ -1,189 +1,137 @@
-use mathlib.Core.Path.{_≡_, refl, sym, ap, _∙_, subst}
+-- `live_answer` meets its contract.
+use mathlib.Core.Path.{refl, ap, _∙_}
 use mathlib.Core.List.{List, [], _∷_}
 use Prim.Native.Nat.{ℕ}
 use native.Mathlib.Omega.{arith}
 use Rattle.plank_core.specs.Lists.{bind}
 use Rattle.sir_data.specs.Pages.{bytesOf}
 use Rattle.sir_data.specs.Records.{blocks, locals}
-use Rattle.sir_data.specs.Rules.{first}
-use Rattle.sir_analyses.specs.Calls.{answered, inWords}
-use Rattle.sir_analyses.specs.Questions.{ownRules, answerWords}
-use Rattle.sir_analyses.specs.declared.questions.LiveQuestion.{LiveQuestion}
+use Rattle.sir_analyses.specs.Calls.{answered}
 use Rattle.sir_analyses.specs.declared.questions.Question.{Question}
 use Rattle.sir_analyses.proofs.Calls.{known-below}
+use Rattle.sir_analyses.proofs.Asked.{own-as, answered-as}
 use Rattle.sir_analyses.proofs.SetAnswers.{row-answer}
 use borrow.Author.Needs.{needs}
 use Rattle.sir_analyses.proofs.live_answers.live_answer.Statement.{statement}
 use Rattle.sir_analyses.proofs.live_answers.live_answer.Tie as tie
-use Rattle.sir_analyses.proofs.live_answers.live_answer.Reads as reads
-use Rattle.sir_analyses.proofs.live_answers.live_answer.Lts as lts
-use Rattle.plank_core.proofs.rows.row_of.Reads as row-of-reads
-use Rattle.sir_analyses.proofs.answers.words_answer.Reads as words-answer-reads
-use Rattle.sir_analyses.proofs.block_sets.operand_sets.Reads as operand-sets-reads
-use Rattle.sir_analyses.proofs.live_answers.entry_answer.Reads as entry-answer-reads
-use Rattle.sir_analyses.proofs.live_answers.intervals_answer.Reads as intervals-answer-reads
-use Rattle.sir_analyses.proofs.live_answers.set_answer.Reads as set-answer-reads
-use Rattle.sir_analyses.proofs.local_liveness.live_sets.Reads as live-sets-reads
 
--- the question that was asked has this form: its own rules, and its answer
-below : (w : List ℕ) {question q : LiveQuestion} → question ≡ q → first (ownRules (Question.OfLiveness question) w) ≡ 0 → first (ownRules (Question.OfLiveness q) w) ≡ 0
-below w e z = subst (λ (q : LiveQuestion). first (ownRules (Question.OfLiveness q) w) ≡ 0) e z
-
-live-as : (w out : List ℕ) {question q : LiveQuestion} → question ≡ q → answered (inWords (answerWords (Question.OfLiveness q)) w) out ≡ answered (inWords (answerWords (Question.OfLiveness question)) w) out
-live-as w out e = ap (λ (q : LiveQuestion). answered (inWords (answerWords (Question.OfLiveness q)) w) out) (sym e)
-
--- src/live_answers.rt:105:25
 slice-aggregate-operand-sets : tie.Need-slice-aggregate-operand-sets
 slice-aggregate-operand-sets c = search needs
 
--- src/live_answers.rt:105:37
 slice-aggregate-operand-sets-2 : tie.Need-slice-aggregate-operand-sets-2
 slice-aggregate-operand-sets-2 c = search needs
 
--- src/live_answers.rt:105:5
 operand-sets-requires : tie.Need-operand-sets-requires
 operand-sets-requires c κs = search needs
 
--- src/live_answers.rt:113:9
 slice-aggregate-live-sets : tie.Need-slice-aggregate-live-sets
 slice-aggregate-live-sets c = search needs
 
--- src/live_answers.rt:114:9
 slice-aggregate-live-sets-2 : tie.Need-slice-aggregate-live-sets-2
 slice-aggregate-live-sets-2 c = search needs
 
--- src/live_answers.rt:115:9
 slice-aggregate-live-sets-3 : tie.Need-slice-aggregate-live-sets-3
 slice-aggregate-live-sets-3 c = search needs
 
--- src/live_answers.rt:116:9
 slice-aggregate-live-sets-4 : tie.Need-slice-aggregate-live-sets-4
 slice-aggregate-live-sets-4 c = search needs
 
--- src/live_answers.rt:117:9
 slice-aggregate-live-sets-5 : tie.Need-slice-aggregate-live-sets-5
 slice-aggregate-live-sets-5 c = search needs
 
--- src/live_answers.rt:109:9
 live-sets-requires : tie.Need-live-sets-requires
 live-sets-requires c κs = let r = c .before .before .before .before .before .before .before .before .before .before .before .before .before .before .pre in
     (r .0, (r .1 .0, (c .before .before .before .before .before .before .before .operand-sets .ensures, (refl, refl, refl))))
 
--- src/live_answers.rt:120:32
 enum-known-question : tie.Need-enum-known-question
 enum-known-question c = search needs
 
--- src/live_answers.rt:120:64
 slice-aggregate-entry-answer : tie.Need-slice-aggregate-entry-answer
 slice-aggregate-entry-answer c = search needs
 
--- src/live_answers.rt:120:71
 slice-aggregate-entry-answer-2 : tie.Need-slice-aggregate-entry-answer-2
 slice-aggregate-entry-answer-2 c = search needs
 
--- src/live_answers.rt:120:78
 slice-aggregate-entry-answer-3 : tie.Need-slice-aggregate-entry-answer-3
 slice-aggregate-entry-answer-3 c = search needs
 
--- src/live_answers.rt:120:38
 entry-answer-requires : tie.Need-entry-answer-requires
 entry-answer-requires c κs = let s = c .before .before .before .before .before .before .before .before .before .before .before .before .before .before .before .before .before .before .before .before .before .before .before .before .before in
     let r = s .pre in
-    (r .0, ((r .1 .0 .0, c .before .before .before .before .before .before .before .before .before .before .live-sets .ensures .1), known-below blocks _ (s .args .words .now) (below (s .args .words .now) (c .before .before .before .before .before .question .given .1) (s .pre .1 .1))))
+    (r .0, ((r .1 .0 .0, c .before .before .before .before .before .before .before .before .before .before .live-sets .ensures .1), known-below blocks _ (s .args .words .now) (own-as Question.OfLiveness (s .args .words .now) (c .before .before .before .before .before .question .given .1) (s .pre .1 .1))))
 
--- src/live_answers.rt:121:31
 enum-known-question-2 : tie.Need-enum-known-question-2
 enum-known-question-2 c = search needs
 
--- src/live_answers.rt:121:55
 slice-aggregate-row-of : tie.Need-slice-aggregate-row-of
 slice-aggregate-row-of c = search needs
 
--- src/live_answers.rt:121:63
 cast-row-of : tie.Need-cast-row-of
 cast-row-of c = search needs
 
--- src/live_answers.rt:121:48
 row-of-requires : tie.Need-row-of-requires
 row-of-requires c κs = let s = c .before .before .before .before .before .before .before .before .before .before .before .before .before .before .before .before .before .before .before .before .before .before .before in
-    omega (arith, known-below blocks _ (s .args .words .now) (below (s .args .words .now) (c .before .before .before .question2 .given .1) (s .pre .1 .1)), c .before .before .before .before .before .before .before .before .live-sets .ensures .1 .exits-long, s .pre .0 .sized .blocks-most)
+    omega (arith, known-below blocks _ (s .args .words .now) (own-as Question.OfLiveness (s .args .words .now) (c .before .before .before .question2 .given .1) (s .pre .1 .1)), c .before .before .before .before .before .before .before .before .live-sets .ensures .1 .exits-long, s .pre .0 .sized .blocks-most)
 
--- src/live_answers.rt:121:37
 set-answer-requires : tie.Need-set-answer-requires
 set-answer-requires c κs = let s = c .before .before .before .before .before .before .before .before .before .before .before .before .before .before .before .before .before .before .before .before .before .before .before .before .before in
-    row-answer (s .pre .0) (c .before .before .before .before .before .before .before .before .before .before .live-sets .ensures .1) (known-below blocks _ (s .args .words .now) (below (s .args .words .now) (c .before .before .before .before .before .question2 .given .1) (s .pre .1 .1))) (c .before .row-of .ensures) .0
+    row-answer (s .pre .0) (c .before .before .before .before .before .before .before .before .before .before .live-sets .ensures .1) (known-below blocks _ (s .args .words .now) (own-as Question.OfLiveness (s .args .words .now) (c .before .before .before .before .before .question2 .given .1) (s .pre .1 .1))) (c .before .row-of .ensures) .0
 
--- src/live_answers.rt:122:33
 enum-known-question-3 : tie.Need-enum-known-question-3
 enum-known-question-3 c = search needs
 
--- src/live_answers.rt:123:42
 slice-aggregate-intervals-answer : tie.Need-slice-aggregate-intervals-answer
 slice-aggregate-intervals-answer c = search needs
 
--- src/live_answers.rt:123:50
 slice-aggregate-intervals-answer-2 : tie.Need-slice-aggregate-intervals-answer-2
 slice-aggregate-intervals-answer-2 c = search needs
 
--- src/live_answers.rt:123:59
 slice-aggregate-intervals-answer-3 : tie.Need-slice-aggregate-intervals-answer-3
 slice-aggregate-intervals-answer-3 c = search needs
 
--- src/live_answers.rt:123:13
 intervals-answer-requires : tie.Need-intervals-answer-requires
 intervals-answer-requires c κs = let s = c .before .before .before .before .before .before .before .before .before .before .before .before .before .before .before .before .before .before .before .before .before .before .before .before .before in
     let r = s .pre in
     let l = c .before .before .before .before .before .before .before .before .before .before .live-sets .ensures .1 in
-    (r .0, ((r .1 .0 .1, c .before .before .before .before .before .before .before .before .before .before .before .before .before .before .before .before .before .before .operand-sets .ensures), (l .exits-long, l .exit-rows, known-below locals _ (s .args .words .now) (below (s .args .words .now) (c .before .before .before .before .before .question3 .given .1) (s .pre .1 .1)))))
+    (r .0, ((r .1 .0 .1, c .before .before .before .before .before .before .before .before .before .before .before .before .before .before .before .before .before .before .operand-sets .ensures), (l .exits-long, l .exit-rows, known-below locals _ (s .args .words .now) (own-as Question.OfLiveness (s .args .words .now) (c .before .before .before .before .before .question3 .given .1) (s .pre .1 .1)))))
 
--- src/live_answers.rt:125:47
 enum-told : tie.Need-enum-told
 enum-told c = search needs
 
--- src/live_answers.rt:125:46
 slice-aggregate-words-answer : tie.Need-slice-aggregate-words-answer
 slice-aggregate-words-answer c = search needs
 
--- src/live_answers.rt:125:33
 words-answer-requires : tie.Need-words-answer-requires
 words-answer-requires c κs = search needs
 
--- src/live_answers.rt:92:1
 same-length : tie.Need-same-length
 same-length c = search needs
 
--- src/live_answers.rt:92:1
 returns : tie.Need-returns
 returns c = let a = c .before .before .before .before .before .before .before .before .before .before .before .before .before .before .before .before .before .before .before .before .before .before .before .before .before .before .before .before .args in
-    c .before .before .entry-answer .ensures ∙ live-as (a .words .now) (a .out .now) (c .before .before .before .before .before .before .before .before .question .given .1)
+    c .before .before .entry-answer .ensures ∙ answered-as Question.OfLiveness (a .words .now) (c .before .before .before .before .before .before .before .before .question .given .1) (a .out .now)
 
--- src/live_answers.rt:92:1
 same-length-2 : tie.Need-same-length-2
 same-length-2 c = search needs
 
--- src/live_answers.rt:92:1
 returns-2 : tie.Need-returns-2
 returns-2 c = let s = c .before .before .before .before .before .before .before .before .before .before .before .before .before .before .before .before .before .before .before .before .before .before .before .before .before .before .before .before in
     let a = s .args in
-    c .before .before .set-answer .ensures ∙ ap (λ (l : List ℕ). answered (bind l bytesOf) (a .out .now)) (row-answer (s .pre .0) (c .before .before .before .before .before .before .before .before .before .before .before .before .before .live-sets .ensures .1) (known-below blocks _ (s .args .words .now) (below (s .args .words .now) (c .before .before .before .before .before .before .before .before .question2 .given .1) (s .pre .1 .1))) (c .before .before .before .before .row-of .ensures) .1) ∙ live-as (a .words .now) (a .out .now) (c .before .before .before .before .before .before .before .before .question2 .given .1)
+    c .before .before .set-answer .ensures ∙ ap (λ (l : List ℕ). answered (bind l bytesOf) (a .out .now)) (row-answer (s .pre .0) (c .before .before .before .before .before .before .before .before .before .before .before .before .before .live-sets .ensures .1) (known-below blocks _ (s .args .words .now) (own-as Question.OfLiveness (s .args .words .now) (c .before .before .before .before .before .before .before .before .question2 .given .1) (s .pre .1 .1))) (c .before .before .before .before .row-of .ensures) .1) ∙ answered-as Question.OfLiveness (a .words .now) (c .before .before .before .before .before .before .before .before .question2 .given .1) (a .out .now)
 
--- src/live_answers.rt:92:1
 same-length-3 : tie.Need-same-length-3
 same-length-3 c = search needs
 
--- src/live_answers.rt:92:1
 returns-3 : tie.Need-returns-3
 returns-3 c = let a = c .before .before .before .before .before .before .before .before .before .before .before .before .before .before .before .before .before .before .before .before .before .before .before .before .before .before .before .before .args in
-    c .before .before .intervals-answer .ensures ∙ live-as (a .words .now) (a .out .now) (c .before .before .before .before .before .before .before .before .question3 .given .1)
+    c .before .before .intervals-answer .ensures ∙ answered-as Question.OfLiveness (a .words .now) (c .before .before .before .before .before .before .before .before .question3 .given .1) (a .out .now)
 
--- src/live_answers.rt:92:1
 same-length-4 : tie.Need-same-length-4
 same-length-4 c = search needs
 
--- src/live_answers.rt:92:1
 returns-4 : tie.Need-returns-4
 returns-4 c = let a = c .before .before .before .before .before .before .before .before .before .before .before .before .before .before .before .before .before .before .before .before .before .before .before .before .before .args in
-    c .before .before .words-answer .ensures ∙ ap (λ (n : ℕ). answered (bind (n ∷ []) bytesOf) (a .out .now)) (c .before .before .before .before .before .before .before .before .before .before .live-sets .ensures .0) ∙ live-as (a .words .now) (a .out .now) (c .before .before .before .before .before .enum-told .given .1)
+    c .before .before .words-answer .ensures ∙ ap (λ (n : ℕ). answered (bind (n ∷ []) bytesOf) (a .out .now)) (c .before .before .before .before .before .before .before .before .before .before .live-sets .ensures .0) ∙ answered-as Question.OfLiveness (a .words .now) (c .before .before .before .before .before .enum-told .given .1) (a .out .now)
 
 pub live-answer-spec : {M : Type 1} → statement M
 live-answer-spec =

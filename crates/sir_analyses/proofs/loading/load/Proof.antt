@@ -1,3 +1,4 @@
+-- `load` meets its contract.
 use mathlib.Core.Path.{_≡_, sym, _∙_}
 use Prim.Native.Nat.{ℕ}
 use native.Mathlib.Omega.{arith}
@@ -6,179 +7,130 @@ use Rattle.sir_analyses.proofs.Loads.{refused-early, words-fit, front-i
 use borrow.Author.Needs.{needs}
 use Rattle.sir_analyses.proofs.loading.load.Statement.{statement}
 use Rattle.sir_analyses.proofs.loading.load.Tie as tie
-use Rattle.sir_analyses.proofs.loading.load.Reads as reads
-use Rattle.sir_analyses.proofs.loading.load.Lts as lts
-use Rattle.sir_analyses.proofs.allocation_liveness.find_allocations.Reads as find-allocations-reads
-use Rattle.sir_analyses.proofs.allocation_liveness.rule_12.Reads as rule-12-reads
-use Rattle.sir_analyses.proofs.loading.no_sizes.Reads as no-sizes-reads
-use Rattle.sir_analyses.proofs.reverse_post_order.blocks_rpo.Reads as blocks-rpo-reads
-use Rattle.sir_analyses.proofs.reverse_post_order.visit.Reads as visit-reads
-use Rattle.sir_data.proofs.image.read_image.Reads as read-image-reads
 
--- src/loading.rt:44:9
 read-image-requires : tie.Need-read-image-requires
 read-image-requires c κs = search needs
 
--- src/loading.rt:46:9
 no-sizes-requires : tie.Need-no-sizes-requires
 no-sizes-requires c κs = search needs
 
--- src/loading.rt:46:9
 same-length : tie.Need-same-length
 same-length c = search needs
 
--- src/loading.rt:46:9
 returns : tie.Need-returns
 returns c = let e = refused-early (c .before .before .before .before .read-image .ensures) (c .before .if1 .taken) in
     record { number-is = c .no-sizes .ensures ∙ e; accepted = λ z. absurd (c .before .if1 .taken (e ∙ z)) }
 
--- src/loading.rt:48:13
 mul-n : tie.Need-mul-n
 mul-n c = search needs
 
--- src/loading.rt:49:26
 slice-reshare-prefix-visit : tie.Need-slice-reshare-prefix-visit
 slice-reshare-prefix-visit c = words-fit (c .before .before .before .read-image .ensures) (c .if1 .left)
 
--- src/loading.rt:49:26
 slice-aggregate-visit : tie.Need-slice-aggregate-visit
 slice-aggregate-visit c = front-length _ _ (words-fit (c .before .before .before .before .read-image .ensures) (c .before .if1 .left))
 
--- src/loading.rt:49:9
 visit-requires : tie.Need-visit-requires
 visit-requires c κs = (front-good (c .before .before .before .before .before .before .read-image .ensures) (c .before .before .before .if1 .left), (c .before .before .before .before .before .before .before .before .before .before .before .before .before .before .pre .0 .1, c .before .before .before .before .before .before .before .before .before .before .before .before .before .before .pre .1 .0))
 
--- src/loading.rt:50:29
 slice-reshare-prefix-blocks-rpo : tie.Need-slice-reshare-prefix-blocks-rpo
 slice-reshare-prefix-blocks-rpo c = keys-fit (front-good (c .before .before .before .before .before .before .before .before .before .before .before .read-image .ensures) (c .before .before .before .before .before .before .before .before .if1 .left)) (c .before .before .before .before .visit .ensures)
 
--- src/loading.rt:50:29
 slice-aggregate-blocks-rpo : tie.Need-slice-aggregate-blocks-rpo
 slice-aggregate-blocks-rpo c = front-length _ _ (keys-fit (front-good (c .before .before .before .before .before .before .before .before .before .before .before .before .read-image .ensures) (c .before .before .before .before .before .before .before .before .before .if1 .left)) (c .before .before .before .before .before .visit .ensures))
 
--- src/loading.rt:50:9
 blocks-rpo-requires : tie.Need-blocks-rpo-requires
 blocks-rpo-requires c κs = omega (arith, blocks-fit (front-good (c .before .before .before .before .before .before .before .before .before .before .before .before .before .read-image .ensures) (c .before .before .before .before .before .before .before .before .before .before .if1 .left)) (c .before .before .before .before .before .before .visit .ensures), c .before .before .before .before .before .before .before .before .before .before .before .before .before .before .before .before .before .before .before .before .before .pre .1 .1)
 
--- src/loading.rt:51:40
 slice-reshare-prefix-find-allocations : tie.Need-slice-reshare-prefix-find-allocations
 slice-reshare-prefix-find-allocations c = words-fit (c .before .before .before .before .before .before .before .before .before .before .before .before .before .before .before .before .read-image .ensures) (c .before .before .before .before .before .before .before .before .before .before .before .before .before .if1 .left)
 
--- src/loading.rt:51:40
 slice-aggregate-find-allocations : tie.Need-slice-aggregate-find-allocations
 slice-aggregate-find-allocations c = front-length _ _ (words-fit (c .before .before .before .before .before .before .before .before .before .before .before .before .before .before .before .before .before .read-image .ensures) (c .before .before .before .before .before .before .before .before .before .before .before .before .before .before .if1 .left))
 
--- src/loading.rt:51:53
 slice-reshare-prefix-find-allocations-2 : tie.Need-slice-reshare-prefix-find-allocations-2
 slice-reshare-prefix-find-allocations-2 c = omega (arith, c .before .before .before .blocks-rpo .ensures .next, c .before .before .before .blocks-rpo .ensures .long, blocks-fit (front-good (c .before .before .before .before .before .before .before .before .before .before .before .before .before .before .before .before .before .read-image .ensures) (c .before .before .before .before .before .before .before .before .before .before .before .before .before .before .if1 .left)) (c .before .before .before .before .before .before .before .before .before .before .visit .ensures), c .before .before .before .before .before .before .before .before .before .before .before .before .before .before .before .before .before .before .before .before .before .before .before .before .before .pre .1 .1)
 
--- src/loading.rt:51:53
 slice-aggregate-find-allocations-2 : tie.Need-slice-aggregate-find-allocations-2
 slice-aggregate-find-allocations-2 c = front-length _ _ (omega (arith, c .before .before .before .before .blocks-rpo .ensures .next, c .before .before .before .before .blocks-rpo .ensures .long, blocks-fit (front-good (c .before .before .before .before .before .before .before .before .before .before .before .before .before .before .before .before .before .before .read-image .ensures) (c .before .before .before .before .before .before .before .before .before .before .before .before .before .before .before .if1 .left)) (c .before .before .before .before .before .before .before .before .before .before .before .visit .ensures), c .before .before .before .before .before .before .before .before .before .before .before .before .before .before .before .before .before .before .before .before .before .before .before .before .before .before .pre .1 .1))
 
--- src/loading.rt:51:9
 find-allocations-requires : tie.Need-find-allocations-requires
 find-allocations-requires c κs = let g = front-good (c .before .before .before .before .before .before .before .before .before .before .before .before .before .before .before .before .before .before .before .read-image .ensures) (c .before .before .before .before .before .before .before .before .before .before .before .before .before .before .before .before .if1 .left) in (g, rpo-is g (c .before .before .before .before .before .before .before .before .before .before .before .before .visit .ensures) (c .before .before .before .before .before .blocks-rpo .ensures))
 
--- src/loading.rt:53:9
 no-sizes-requires-2 : tie.Need-no-sizes-requires-2
 no-sizes-requires-2 c κs = search needs
 
--- src/loading.rt:53:9
 same-length-2 : tie.Need-same-length-2
 same-length-2 c = search needs
 
--- src/loading.rt:53:9
 same-length-3 : tie.Need-same-length-3
 same-length-3 c = search needs
 
--- src/loading.rt:53:9
 same-length-4 : tie.Need-same-length-4
 same-length-4 c = search needs
 
--- src/loading.rt:53:9
 same-length-5 : tie.Need-same-length-5
 same-length-5 c = search needs
 
--- src/loading.rt:53:9
 same-length-6 : tie.Need-same-length-6
 same-length-6 c = search needs
 
--- src/loading.rt:53:9
 returns-2 : tie.Need-returns-2
 returns-2 c = let e = refused-last (c .before .before .before .before .before .before .before .before .before .before .before .before .before .before .before .before .before .before .before .before .before .before .before .before .read-image .ensures) (c .before .before .before .before .before .before .before .before .before .before .before .before .before .before .before .before .before .before .before .before .before .if1 .left) (found-over (front-good (c .before .before .before .before .before .before .before .before .before .before .before .before .before .before .before .before .before .before .before .before .before .before .before .before .read-image .ensures) (c .before .before .before .before .before .before .before .before .before .before .before .before .before .before .before .before .before .before .before .before .before .if1 .left)) (c .before .before .before .before .before .before .before .before .before .before .before .before .before .before .before .before .before .before .before .before .before .before .before .before .before .before .before .before .before .before .before .before .pre .1 .2) (omega (arith, c .before .if2 .taken)) (c .before .before .before .before .find-allocations .ensures)) in
     record { number-is = c .no-sizes2 .ensures ∙ e; accepted = λ z. absurd (let q : _≡_ {A = ℕ} 12 0 = e ∙ z in omega arith) }
 
--- src/loading.rt:55:16
 slice-reshare-prefix-rule-12 : tie.Need-slice-reshare-prefix-rule-12
 slice-reshare-prefix-rule-12 c = words-fit (c .before .before .before .before .before .before .before .before .before .before .before .before .before .before .before .before .before .before .before .before .before .before .before .read-image .ensures) (c .before .before .before .before .before .before .before .before .before .before .before .before .before .before .before .before .before .before .before .before .if1 .left)
 
--- src/loading.rt:55:16
 slice-aggregate-rule-12 : tie.Need-slice-aggregate-rule-12
 slice-aggregate-rule-12 c = front-length _ _ (words-fit (c .before .before .before .before .before .before .before .before .before .before .before .before .before .before .before .before .before .before .before .before .before .before .before .before .read-image .ensures) (c .before .before .before .before .before .before .before .before .before .before .before .before .before .before .before .before .before .before .before .before .before .if1 .left))
 
--- src/loading.rt:55:29
 slice-reshare-prefix-rule-12-2 : tie.Need-slice-reshare-prefix-rule-12-2
 slice-reshare-prefix-rule-12-2 c = search needs
 
--- src/loading.rt:55:29
 slice-aggregate-rule-12-2 : tie.Need-slice-aggregate-rule-12-2
 slice-aggregate-rule-12-2 c = front-length _ _ (omega (arith, c .before .before .if2 .left))
 
--- src/loading.rt:55:8
 rule-12-requires : tie.Need-rule-12-requires
 rule-12-requires c κs = (front-good (c .before .before .before .before .before .before .before .before .before .before .before .before .before .before .before .before .before .before .before .before .before .before .before .before .before .read-image .ensures) (c .before .before .before .before .before .before .before .before .before .before .before .before .before .before .before .before .before .before .before .before .before .before .if1 .left), capped-fits (omega (arith, c .before .before .if2 .left)) (c .before .before .before .before .before .find-allocations .ensures) .list)
 
--- src/loading.rt:56:9
 no-sizes-requires-3 : tie.Need-no-sizes-requires-3
 no-sizes-requires-3 c κs = search needs
 
--- src/loading.rt:56:9
 same-length-7 : tie.Need-same-length-7
 same-length-7 c = search needs
 
--- src/loading.rt:56:9
 same-length-8 : tie.Need-same-length-8
 same-length-8 c = search needs
 
--- src/loading.rt:56:9
 same-length-9 : tie.Need-same-length-9
 same-length-9 c = search needs
 
--- src/loading.rt:56:9
 same-length-10 : tie.Need-same-length-10
 same-length-10 c = search needs
 
--- src/loading.rt:56:9
 same-length-11 : tie.Need-same-length-11
 same-length-11 c = search needs
 
--- src/loading.rt:56:9
 returns-3 : tie.Need-returns-3
 returns-3 c = let e = refused-last (c .before .before .before .before .before .before .before .before .before .before .before .before .before .before .before .before .before .before .before .before .before .before .before .before .before .before .before .before .read-image .ensures) (c .before .before .before .before .before .before .before .before .before .before .before .before .before .before .before .before .before .before .before .before .before .before .before .before .before .if1 .left) (sym (c .before .before .rule-12 .ensures) ∙ c .before .if3 .taken) in
     record { number-is = c .no-sizes3 .ensures ∙ e; accepted = λ z. absurd (let q : _≡_ {A = ℕ} 12 0 = e ∙ z in omega arith) }
 
--- src/loading.rt:32:1
 same-length-12 : tie.Need-same-length-12
 same-length-12 c = search needs
 
--- src/loading.rt:32:1
 same-length-13 : tie.Need-same-length-13
 same-length-13 c = search needs
 
--- src/loading.rt:32:1
 same-length-14 : tie.Need-same-length-14
 same-length-14 c = search needs
 
--- src/loading.rt:32:1
 same-length-15 : tie.Need-same-length-15
 same-length-15 c = search needs
 
--- src/loading.rt:32:1
 same-length-16 : tie.Need-same-length-16
 same-length-16 c = search needs
 
--- src/loading.rt:32:1
 returns-4 : tie.Need-returns-4
 returns-4 c = let r = c .before .before .before .before .before .before .before .before .before .before .before .before .before .before .before .before .before .before .before .before .before .before .before .before .before .before .before .read-image .ensures in
     let z = c .before .before .before .before .before .before .before .before .before .before .before .before .before .before .before .before .before .before .before .before .before .before .before .before .if1 .left in

@@ -1,71 +1,54 @@
-use mathlib.Core.Path.{sym, ap, _∙_}
+-- `order_answer` meets its contract.
+use mathlib.Core.Path.{ap, _∙_}
 use mathlib.Core.List.{List}
 use Prim.Native.Nat.{ℕ}
 use Rattle.plank_core.specs.Lists.{bind}
 use Rattle.sir_data.specs.Pages.{bytesOf}
-use Rattle.sir_analyses.specs.Calls.{answered, inWords}
-use Rattle.sir_analyses.specs.Questions.{answerWords}
-use Rattle.sir_analyses.specs.declared.questions.OrderQuestion.{OrderQuestion}
+use Rattle.sir_analyses.specs.Calls.{answered}
 use Rattle.sir_analyses.specs.declared.questions.Question.{Question}
+use Rattle.sir_analyses.proofs.Asked.{answered-as}
 use borrow.Author.Needs.{needs}
 use Rattle.sir_analyses.proofs.order_answers.order_answer.Statement.{statement}
 use Rattle.sir_analyses.proofs.order_answers.order_answer.Tie as tie
-use Rattle.sir_analyses.proofs.order_answers.order_answer.Reads as reads
-use Rattle.sir_analyses.proofs.order_answers.order_answer.Lts as lts
-use Rattle.sir_analyses.proofs.order_answers.predecessors_answer.Reads as predecessors-answer-reads
-use Rattle.sir_analyses.proofs.order_answers.uses_answer.Reads as uses-answer-reads
-use Rattle.sir_analyses.proofs.order_answers.visit_answer.Reads as visit-answer-reads
 
--- src/order_answers.rt:76:52
 enum-told : tie.Need-enum-told
 enum-told c = search needs
 
--- src/order_answers.rt:76:33
 visit-answer-requires : tie.Need-visit-answer-requires
 visit-answer-requires c κs = search needs
 
--- src/order_answers.rt:77:37
 enum-known-question : tie.Need-enum-known-question
 enum-known-question c = search needs
 
--- src/order_answers.rt:77:43
 predecessors-answer-requires : tie.Need-predecessors-answer-requires
 predecessors-answer-requires c κs = search needs
 
--- src/order_answers.rt:78:29
 enum-known-question-2 : tie.Need-enum-known-question-2
 enum-known-question-2 c = search needs
 
--- src/order_answers.rt:78:35
 uses-answer-requires : tie.Need-uses-answer-requires
 uses-answer-requires c κs = search needs
 
--- src/order_answers.rt:63:1
 same-length : tie.Need-same-length
 same-length c = search needs
 
--- src/order_answers.rt:63:1
 returns : tie.Need-returns
 returns c = let a = c .before .before .before .before .before .before .before .before .before .before .before .args in
-    c .before .before .visit-answer .ensures ∙ ap (λ (l : List ℕ). answered (bind l bytesOf) (a .out .now)) (c .before .before .before .before .before .before .before .before .before .before .before .pre .1 .1 .0) ∙ ap (λ (q : OrderQuestion). answered (inWords (answerWords (Question.OfOrder q)) (a .words .now)) (a .out .now)) (sym (c .before .before .before .before .enum-told .given .1))
+    c .before .before .visit-answer .ensures ∙ ap (λ (l : List ℕ). answered (bind l bytesOf) (a .out .now)) (c .before .before .before .before .before .before .before .before .before .before .before .pre .1 .1 .0) ∙ answered-as Question.OfOrder (a .words .now) (c .before .before .before .before .enum-told .given .1) (a .out .now)
 
--- src/order_answers.rt:63:1
 same-length-2 : tie.Need-same-length-2
 same-length-2 c = search needs
 
--- src/order_answers.rt:63:1
 returns-2 : tie.Need-returns-2
 returns-2 c = let a = c .before .before .before .before .before .before .before .before .before .before .before .before .args in
-    c .before .before .predecessors-answer .ensures ∙ ap (λ (q : OrderQuestion). answered (inWords (answerWords (Question.OfOrder q)) (a .words .now)) (a .out .now)) (sym (c .before .before .before .before .before .question .given .1))
+    c .before .before .predecessors-answer .ensures ∙ answered-as Question.OfOrder (a .words .now) (c .before .before .before .before .before .question .given .1) (a .out .now)
 
--- src/order_answers.rt:63:1
 same-length-3 : tie.Need-same-length-3
 same-length-3 c = search needs
 
--- src/order_answers.rt:63:1
 returns-3 : tie.Need-returns-3
 returns-3 c = let a = c .before .before .before .before .before .before .before .before .before .before .before .before .args in
-    c .before .before .uses-answer .ensures ∙ ap (λ (q : OrderQuestion). answered (inWords (answerWords (Question.OfOrder q)) (a .words .now)) (a .out .now)) (sym (c .before .before .before .before .before .question2 .given .1))
+    c .before .before .uses-answer .ensures ∙ answered-as Question.OfOrder (a .words .now) (c .before .before .before .before .before .question2 .given .1) (a .out .now)
 
 pub order-answer-spec : {M : Type 1} → statement M
 order-answer-spec =

@@ -1,3 +1,4 @@
+-- `predecessors_answer` meets its contract.
 use native.Mathlib.Omega.{arith}
 use Rattle.sir_analyses.specs.Order.{predecessors}
 use Rattle.sir_analyses.proofs.Edges.{predecessors-most}
@@ -5,31 +6,22 @@ use Rattle.sir_analyses.proofs.Calls.{count-write, finish-fits}
 use borrow.Author.Needs.{needs}
 use Rattle.sir_analyses.proofs.order_answers.predecessors_answer.Statement.{statement}
 use Rattle.sir_analyses.proofs.order_answers.predecessors_answer.Tie as tie
-use Rattle.sir_analyses.proofs.order_answers.predecessors_answer.Reads as reads
-use Rattle.sir_analyses.proofs.order_answers.predecessors_answer.Lts as lts
-use Rattle.sir_analyses.proofs.answers.finish.Reads as finish-reads
-use Rattle.sir_analyses.proofs.predecessors.put_predecessors.Reads as put-predecessors-reads
 
--- src/order_answers.rt:42:9
 put-predecessors-requires : tie.Need-put-predecessors-requires
 put-predecessors-requires c κs = let s = c .before .before .before .before in
     (s .pre .0, (s .pre .1, (omega arith, omega (arith, predecessors-most (s .args .words .now) (s .pre .0) (s .args .b .0)))))
 
--- src/order_answers.rt:43:9
 finish-requires : tie.Need-finish-requires
 finish-requires c κs = let s = c .before .before .before .before .before .before .before in
     omega (arith, c .before .before .put-predecessors .ensures .next, predecessors-most (s .args .words .now) (s .pre .0) (s .args .b .0))
 
--- src/order_answers.rt:44:5
 put-predecessors-requires-2 : tie.Need-put-predecessors-requires-2
 put-predecessors-requires-2 c κs = let s = c .before .before .before .before .before .before .before .before .before in
     (s .pre .0, (s .pre .1, (finish-fits (c .before .finish .ensures), omega (arith, predecessors-most (s .args .words .now) (s .pre .0) (s .args .b .0)))))
 
--- src/order_answers.rt:37:1
 same-length : tie.Need-same-length
 same-length c = search needs
 
--- src/order_answers.rt:37:1
 returns : tie.Need-returns
 returns c = let a = c .before .before .before .before .before .before .before .before .before .before .before .before .args in
     count-write (predecessors (a .words .now) (a .b .0)) (a .out .now) (c .before .before .before .before .before .before .before .put-predecessors .ensures) (c .before .before .before .before .finish .ensures) (c .before .before .put-predecessors2 .ensures)

@@ -1,3 +1,4 @@
+-- `visit_answer` meets its contract.
 use mathlib.Core.Path.{ap, _∙_}
 use mathlib.Core.List.{List}
 use Prim.Native.Nat.{ℕ}
@@ -10,37 +11,26 @@ use Rattle.sir_analyses.proofs.Loads.{front-length}
 use borrow.Author.Needs.{needs}
 use Rattle.sir_analyses.proofs.order_answers.visit_answer.Statement.{statement}
 use Rattle.sir_analyses.proofs.order_answers.visit_answer.Tie as tie
-use Rattle.sir_analyses.proofs.order_answers.visit_answer.Reads as reads
-use Rattle.sir_analyses.proofs.order_answers.visit_answer.Lts as lts
-use Rattle.sir_analyses.proofs.answers.words_answer.Reads as words-answer-reads
-use Rattle.sir_analyses.proofs.reverse_post_order.order_words.Reads as order-words-reads
 
--- src/order_answers.rt:32:31
 slice-aggregate-order-words : tie.Need-slice-aggregate-order-words
 slice-aggregate-order-words c = search needs
 
--- src/order_answers.rt:32:9
 order-words-requires : tie.Need-order-words-requires
 order-words-requires c κs = search needs
 
--- src/order_answers.rt:33:18
 array-share-prefix-order : tie.Need-array-share-prefix-order
 array-share-prefix-order c = search needs
 
--- src/order_answers.rt:33:18
 slice-aggregate-words-answer : tie.Need-slice-aggregate-words-answer
 slice-aggregate-words-answer c = let k = c .before .before .order-words .ensures in
     front-length _ _ (omega (arith, k .next, k .long, c .before .before .before .before .before .before .pre))
 
--- src/order_answers.rt:33:5
 words-answer-requires : tie.Need-words-answer-requires
 words-answer-requires c κs = omega (arith, ap length (c .before .before .before .order-words .ensures .list), c .before .before .before .before .before .before .before .pre)
 
--- src/order_answers.rt:27:1
 same-length : tie.Need-same-length
 same-length c = search needs
 
--- src/order_answers.rt:27:1
 returns : tie.Need-returns
 returns c = let a = c .before .before .before .before .before .before .before .before .before .before .args in
     c .before .before .words-answer .ensures ∙ ap (λ (l : List ℕ). answered (bind l bytesOf) (a .out .now)) (c .before .before .before .before .before .before .order-words .ensures .list)

@@ -1,16 +1,13 @@
+-- `id_refusal` meets its contract.
 use mathlib.Core.Path.{refl}
 use native.Mathlib.Omega.{arith}
 use borrow.Author.Tests.{lt-ltb, le-ltb}
 use Rattle.sir_analyses.proofs.questions.id_refusal.Statement.{statement}
 use Rattle.sir_analyses.proofs.questions.id_refusal.Tie as tie
-use Rattle.sir_analyses.proofs.questions.id_refusal.Reads as reads
-use Rattle.sir_analyses.proofs.questions.id_refusal.Lts as lts
 
--- src/questions.rt:46:9
 returns : tie.Need-returns
 returns c = rw (lt-ltb (c .before .args .id) (c .before .args .count) (omega arith)) refl
 
--- src/questions.rt:42:1
 returns-2 : tie.Need-returns-2
 returns-2 c = rw (le-ltb (c .before .args .id) (c .before .args .count) (omega arith)) refl
 

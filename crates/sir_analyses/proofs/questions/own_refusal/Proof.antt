@@ -1,3 +1,4 @@
+-- `own_refusal` meets its contract.
 use mathlib.Core.Path.{sym, ap, _∙_}
 use lib.ListN.{length}
 use Rattle.sir_data.specs.Rules.{first}
@@ -10,155 +11,115 @@ use Rattle.sir_analyses.proofs.Discovery.{keys-long}
 use borrow.Author.Needs.{needs}
 use Rattle.sir_analyses.proofs.questions.own_refusal.Statement.{statement}
 use Rattle.sir_analyses.proofs.questions.own_refusal.Tie as tie
-use Rattle.sir_analyses.proofs.questions.own_refusal.Reads as reads
-use Rattle.sir_analyses.proofs.questions.own_refusal.Lts as lts
-use Rattle.sir_analyses.proofs.questions.id_refusal.Reads as id-refusal-reads
-use Rattle.sir_data.proofs.records.block_count.Reads as block-count-reads
-use Rattle.sir_data.proofs.records.local_count.Reads as local-count-reads
 
--- src/questions.rt:58:27
 enum-known-question : tie.Need-enum-known-question
 enum-known-question c = search needs
 
--- src/questions.rt:59:37
 enum-told : tie.Need-enum-told
 enum-told c = search needs
 
--- src/questions.rt:60:41
 enum-known-q : tie.Need-enum-known-q
 enum-known-q c = search needs
 
--- src/questions.rt:60:63
 block-count-requires : tie.Need-block-count-requires
 block-count-requires c κs = search needs
 
--- src/questions.rt:60:47
 id-refusal-requires : tie.Need-id-refusal-requires
 id-refusal-requires c κs = search needs
 
--- src/questions.rt:61:33
 enum-known-q-2 : tie.Need-enum-known-q-2
 enum-known-q-2 c = search needs
 
--- src/questions.rt:61:55
 local-count-requires : tie.Need-local-count-requires
 local-count-requires c κs = search needs
 
--- src/questions.rt:61:39
 id-refusal-requires-2 : tie.Need-id-refusal-requires-2
 id-refusal-requires-2 c κs = search needs
 
--- src/questions.rt:63:30
 enum-known-question-2 : tie.Need-enum-known-question-2
 enum-known-question-2 c = search needs
 
--- src/questions.rt:64:36
 enum-known-q-3 : tie.Need-enum-known-q-3
 enum-known-q-3 c = search needs
 
--- src/questions.rt:64:58
 block-count-requires-2 : tie.Need-block-count-requires-2
 block-count-requires-2 c κs = search needs
 
--- src/questions.rt:64:42
 id-refusal-requires-3 : tie.Need-id-refusal-requires-3
 id-refusal-requires-3 c κs = search needs
 
--- src/questions.rt:65:35
 enum-known-q-4 : tie.Need-enum-known-q-4
 enum-known-q-4 c = search needs
 
--- src/questions.rt:65:57
 block-count-requires-3 : tie.Need-block-count-requires-3
 block-count-requires-3 c κs = search needs
 
--- src/questions.rt:65:41
 id-refusal-requires-4 : tie.Need-id-refusal-requires-4
 id-refusal-requires-4 c κs = search needs
 
--- src/questions.rt:66:37
 enum-known-q-5 : tie.Need-enum-known-q-5
 enum-known-q-5 c = search needs
 
--- src/questions.rt:66:59
 local-count-requires-2 : tie.Need-local-count-requires-2
 local-count-requires-2 c κs = search needs
 
--- src/questions.rt:66:43
 id-refusal-requires-5 : tie.Need-id-refusal-requires-5
 id-refusal-requires-5 c κs = search needs
 
--- src/questions.rt:67:37
 enum-told-2 : tie.Need-enum-told-2
 enum-told-2 c = search needs
 
--- src/questions.rt:69:30
 enum-known-question-3 : tie.Need-enum-known-question-3
 enum-known-question-3 c = search needs
 
--- src/questions.rt:70:41
 enum-known-q-6 : tie.Need-enum-known-q-6
 enum-known-q-6 c = search needs
 
--- src/questions.rt:70:63
 cast-id-refusal : tie.Need-cast-id-refusal
 cast-id-refusal c = search needs
 
--- src/questions.rt:70:47
 id-refusal-requires-6 : tie.Need-id-refusal-requires-6
 id-refusal-requires-6 c κs = search needs
 
--- src/questions.rt:71:36
 enum-known-q-7 : tie.Need-enum-known-q-7
 enum-known-q-7 c = search needs
 
--- src/questions.rt:71:58
 local-count-requires-3 : tie.Need-local-count-requires-3
 local-count-requires-3 c κs = search needs
 
--- src/questions.rt:71:42
 id-refusal-requires-7 : tie.Need-id-refusal-requires-7
 id-refusal-requires-7 c κs = search needs
 
--- src/questions.rt:52:1
 returns : tie.Need-returns
 returns c = search needs
 
--- src/questions.rt:52:1
 returns-2 : tie.Need-returns-2
 returns-2 c = let w = c .before .before .before .before .before .before .before .before .before .before .args .words .now in
     (rw (c .before .block-count .ensures) at (c .id-refusal .ensures)) ∙ ap (λ (q : OrderQuestion). first (ownRules (Question.OfOrder q) w)) (sym (c .before .before .before .q .given .1)) ∙ ap (λ (q : Question). first (ownRules q w)) (sym (c .before .before .before .before .before .before .question .given .1))
 
--- src/questions.rt:52:1
 returns-3 : tie.Need-returns-3
 returns-3 c = let w = c .before .before .before .before .before .before .before .before .before .before .args .words .now in
     (rw (c .before .local-count .ensures) at (c .id-refusal2 .ensures)) ∙ ap (λ (q : OrderQuestion). first (ownRules (Question.OfOrder q) w)) (sym (c .before .before .before .q2 .given .1)) ∙ ap (λ (q : Question). first (ownRules q w)) (sym (c .before .before .before .before .before .before .question .given .1))
 
--- src/questions.rt:52:1
 returns-4 : tie.Need-returns-4
 returns-4 c = let w = c .before .before .before .before .before .before .before .before .before .before .args .words .now in
     (rw (c .before .block-count2 .ensures) at (c .id-refusal3 .ensures)) ∙ ap (λ (q : LiveQuestion). first (ownRules (Question.OfLiveness q) w)) (sym (c .before .before .before .q3 .given .1)) ∙ ap (λ (q : Question). first (ownRules q w)) (sym (c .before .before .before .before .before .before .question2 .given .1))
 
--- src/questions.rt:52:1
 returns-5 : tie.Need-returns-5
 returns-5 c = let w = c .before .before .before .before .before .before .before .before .before .before .args .words .now in
     (rw (c .before .block-count3 .ensures) at (c .id-refusal4 .ensures)) ∙ ap (λ (q : LiveQuestion). first (ownRules (Question.OfLiveness q) w)) (sym (c .before .before .before .q4 .given .1)) ∙ ap (λ (q : Question). first (ownRules q w)) (sym (c .before .before .before .before .before .before .question2 .given .1))
 
--- src/questions.rt:52:1
 returns-6 : tie.Need-returns-6
 returns-6 c = let w = c .before .before .before .before .before .before .before .before .before .before .args .words .now in
     (rw (c .before .local-count2 .ensures) at (c .id-refusal5 .ensures)) ∙ ap (λ (q : LiveQuestion). first (ownRules (Question.OfLiveness q) w)) (sym (c .before .before .before .q5 .given .1)) ∙ ap (λ (q : Question). first (ownRules q w)) (sym (c .before .before .before .before .before .before .question2 .given .1))
 
--- src/questions.rt:52:1
 returns-7 : tie.Need-returns-7
 returns-7 c = search needs
 
--- src/questions.rt:52:1
 returns-8 : tie.Need-returns-8
 returns-8 c = let w = c .before .before .before .before .before .before .before .before .before .args .words .now in
     (rw (ap length (c .before .before .before .before .before .before .before .before .before .pre .1 .0) ∙ keys-long w) at (c .id-refusal6 .ensures)) ∙ ap (λ (q : PointerQuestion). first (ownRules (Question.OfPointers q) w)) (sym (c .before .before .q6 .given .1)) ∙ ap (λ (q : Question). first (ownRules q w)) (sym (c .before .before .before .before .before .question3 .given .1))
 
--- src/questions.rt:52:1
 returns-9 : tie.Need-returns-9
 returns-9 c = let w = c .before .before .before .before .before .before .before .before .before .before .args .words .now in
     (rw (c .before .local-count3 .ensures) at (c .id-refusal7 .ensures)) ∙ ap (λ (q : PointerQuestion). first (ownRules (Question.OfPointers q) w)) (sym (c .before .before .before .q7 .given .1)) ∙ ap (λ (q : Question). first (ownRules q w)) (sym (c .before .before .before .before .before .before .question3 .given .1))

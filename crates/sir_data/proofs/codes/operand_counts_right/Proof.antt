@@ -6,35 +6,25 @@ use Rattle.sir_data.specs.Codes.{arity}
 use borrow.Author.Needs.{needs}
 use Rattle.sir_data.proofs.codes.operand_counts_right.Statement.{statement}
 use Rattle.sir_data.proofs.codes.operand_counts_right.Tie as tie
-use Rattle.sir_data.proofs.codes.operand_counts_right.Reads as reads
-use Rattle.sir_data.proofs.codes.operand_counts_right.Lts as lts
-use Rattle.sir_data.proofs.codes.wide.Reads as wide-reads
 
--- src/codes.rt:504:9
 returns : tie.Need-returns
 returns c = rw (eq-eqb _ 25 (c .if1 .taken))
 
--- src/codes.rt:507:9
 returns-2 : tie.Need-returns-2
 returns-2 c = rw (ne-eqb _ 25 (c .before .if1 .left), eq-eqb _ 26 (c .if2 .taken))
 
--- src/codes.rt:510:20
 array-read-wide : tie.Need-array-read-wide
 array-read-wide c = search needs
 
--- src/codes.rt:510:15
 wide-requires : tie.Need-wide-requires
 wide-requires c κs = search needs
 
--- src/codes.rt:510:50
 array-read-wide-2 : tie.Need-array-read-wide-2
 array-read-wide-2 c = search needs
 
--- src/codes.rt:510:45
 wide-requires-2 : tie.Need-wide-requires-2
 wide-requires-2 c κs = search needs
 
--- src/codes.rt:499:1
 returns-3 : tie.Need-returns-3
 returns-3 c =
     let code = c .before .before .before .before .before .args .code in
@@ -42,7 +32,6 @@ returns-3 c =
     let outs = c .wide2 .ensures ∙ getD-map-upto (λ k. arity k .1) 93 code 0 (search needs) in
     rw (ne-eqb _ 25 (c .before .before .before .before .if1 .left), ne-eqb _ 26 (c .before .before .before .if2 .left), outs, eq-eqb _ _ (c .before .if3 .taken ∙ ins))
 
--- src/codes.rt:499:1
 returns-4 : tie.Need-returns-4
 returns-4 c =
     let code = c .before .before .before .before .args .code in
