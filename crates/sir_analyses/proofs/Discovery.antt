@@ -133,18 +133,10 @@ module _ (w : List ℕ) (good : WellFormed w) {keys : List ℕ} (e : keys ≡ al
   known : a < length (allocs w)
   known = omega (arith, ap length e, keys-long w)
 
-  pub key-known : (getD keys a 0 % 1024 < operations w) × (isAlloc (code w (getD keys a 0 % 1024)) ≡ true)
-  key-known =
-      let q : getD keys a 0 % 1024 ≡ allocAt w a .op = ap (λ (l : List ℕ). getD l a 0 % 1024) e ∙ key-op w good a known in
-      subst (λ (o : ℕ). (o < operations w) × (isAlloc (code w o) ≡ true)) (sym q) (alloc-op w good a known)
+  base-at : base w (allocAt w a) ≡ getD (allBases w) a 0
+  base-at = sym (getD-any (allBases w) a 0 (base w noAlloc) (omega (arith, known, length-map (allocs w) (base w))) ∙ List·getD-map (base w) (allocs w) a noAlloc)
 
-  -- the base of allocation a, read from its key
-  base-at : getD (outs w (getD keys a 0 % 1024)) 0 0 ≡ getD (allBases w) a 0
-  base-at =
-      ap (λ (l : List ℕ). getD (outs w (getD l a 0 % 1024)) 0 0) e
-      ∙ rw (key-op w good a known) (sym (getD-any (allBases w) a 0 (base w noAlloc) (omega (arith, known, length-map (allocs w) (base w))) ∙ List·getD-map (base w) (allocs w) a noAlloc))
-
-  module _ {v : ℕ} (q : v ≡ getD (outs w (getD keys a 0 % 1024)) 0 0) {bases : List ℕ} (k : Deciding w bases a) where
+  module _ {v : ℕ} (q : v ≡ base w (allocAt w a)) {bases : List ℕ} (k : Deciding w bases a) where
     is-base : v ≡ getD (allBases w) a 0
     is-base = q ∙ base-at
 

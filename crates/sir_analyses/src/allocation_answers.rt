@@ -1,8 +1,8 @@
 // The answers that need pointers: the record of an allocation, and the owner of a local.
+use crate::allocation_liveness::AllocSite;
 use crate::allocation_liveness::discover_allocations;
-use crate::allocation_words::AllocSite;
+use crate::allocation_liveness::site_of;
 use crate::allocation_words::put_head;
-use crate::allocation_words::site_of;
 use crate::answers::Answer;
 use crate::answers::finish;
 use crate::answers::words_answer;

@@ -13,7 +13,7 @@ use sir_data::records::op_outputs;
 use sir_data::records::op_word;
 ghost use mathlib.Core.Path.{_≡_};
 ghost use mathlib.Core.Bool.{true, false};
-ghost use mathlib.Core.List.{_∷_, []};
+ghost use mathlib.Core.List.{List, _∷_, []};
 ghost use Prim.Native.Nat.{ℕ, _+_, _*_, _<_, _≤_};
 ghost use lib.ListN.{length, getD, replicate};
 ghost use Rattle.plank_core.specs.DenseIndexSet.{contains};
@@ -21,10 +21,10 @@ ghost use Rattle.sir_data.specs.Records.{blocks, operations, locals, code, outs
 ghost use Rattle.sir_data.specs.Codes.{isAlloc};
 ghost use Rattle.sir_data.specs.WellFormed.{WellFormed};
 ghost use Rattle.sir_analyses.specs.Order.{blocksRpo};
-ghost use Rattle.sir_analyses.specs.Allocation.{rule12, allocs, bases};
+ghost use Rattle.sir_analyses.specs.Allocation.{rule12, allocs, allocAt, base, bases};
 ghost use Rattle.sir_analyses.specs.Pointers.{PointerRows};
 ghost use Rattle.sir_analyses.specs.Propagation.{linkLocal, follow};
-ghost use Rattle.sir_analyses.specs.Discovery.{allocKeys, blockKeys, Capped, Room, StepTaken, linksIn, Propagated, Discovered};
+ghost use Rattle.sir_analyses.specs.Discovery.{allocKeys, blockKeys, Capped, Site, Room, StepTaken, linksIn, Propagated, Discovered};
 
 // The allocations of a block behind the first `at` of `keys`, each as one number: 1024 times the block, plus the operation. Where
 // there is no room for one of them, a number past the end of `keys`.
@@ -69,6 +69,24 @@ pub fn find_allocations(words: &[u32], rpo: &[u32], keys: &mut [u32]) -> usize
     m
 }
 
+// Where an allocation stands.
+pub struct AllocSite {
+    pub block: BlockId,
+    pub op: OpIdx,
+}
+
+// The site of allocation a, from the keys of all allocations.
+pub fn site_of(keys: &[u32], a: AllocId) -> AllocSite
+    requires { ⌜ a .0 < length (now keys) ⌝ }
+    ensures { λ r. ⌜ ((w : List ℕ) → WellFormed w → now (keys .entry) ≡ allocKeys w → Site w (a .0) (r .block .0) (r .op .0)) ⌝ }
+{
+    let key = keys[a.0 as usize];
+    AllocSite {
+        block: BlockId(key / 1024),
+        op: OpIdx(key % 1024),
+    }
+}
+
 // The base local of an allocation operation.
 pub fn base_ptr(words: &[u32], o: OpIdx) -> LocalId
     requires { ⌜ WellFormed (now words) ⌝ }
@@ -79,16 +97,26 @@ pub fn base_ptr(words: &[u32], o: OpIdx) -> LocalId
     LocalId(outputs[0])
 }
 
+// The base local of allocation a.
+fn base_of(words: &[u32], keys: &[u32], a: AllocId) -> LocalId
+    requires { ⌜ WellFormed (now words) ⌝ }
+    requires { ⌜ (now keys ≡ allocKeys (now words)) × (a .0 < length (now keys)) ⌝ }
+    ensures { λ r. ⌜ (r .0 ≡ base (now (words .entry)) (allocAt (now (words .entry)) (a .0))) × (r .0 < locals (now (words .entry))) ⌝ }
+{
+    let site = site_of(keys, a);
+    base_ptr(words, site.op)
+}
+
 // Rule 12: two of these allocations have one base local.
 pub fn rule_12(words: &[u32], keys: &[u32]) -> bool
     requires { ⌜ WellFormed (now words) ⌝ }
-    requires { ⌜ now keys ≡ allocKeys (now words) ⌝ }
+    requires { ⌜ (now keys ≡ allocKeys (now words)) × (length (now keys) ≤ 512) ⌝ }
     ensures { λ r. ⌜ r ≡ rule12 (now (words .entry)) ⌝ }
 {
     let mut bases = [0u64; 8];
     let mut a: usize = 0;
     while a < keys.len() {
-        let base = base_ptr(words, OpIdx(keys[a] % 1024));
+        let base = base_of(words, keys, AllocId(a as u32));
         a += 1;
         if !row_add(&mut bases, 0, base.0) {
             return true;
@@ -105,7 +133,7 @@ fn own_bases(words: &[u32], keys: &[u32], owner: &mut [u32])
 {
     let mut a: usize = 0;
     while a < keys.len() {
-        let base = base_ptr(words, OpIdx(keys[a] % 1024));
+        let base = base_of(words, keys, AllocId(a as u32));
         a += 1;
         owner[base.0 as usize] = a as u32;
     }
@@ -211,7 +239,7 @@ pub fn discover_allocations(
     let mut work = [0u32; 513];
     let mut i: usize = 0;
     while i < keys.len() {
-        let base = base_ptr(words, OpIdx(keys[i] % 1024));
+        let base = base_of(words, keys, AllocId(i as u32));
         propagate_pointers_and_mark_escapes(
             links,
             harms,

@@ -1,8 +1,7 @@
 // The first eight words of an allocation's record.
+use crate::allocation_liveness::AllocSite;
 use crate::allocation_liveness::base_ptr;
 use crate::answers::put_words;
-use plank_core::index::AllocId;
-use plank_core::index::BlockId;
 use plank_core::index::LocalId;
 use plank_core::index::OpIdx;
 use sir_data::codes::is_dynamic_alloc;
@@ -10,13 +9,13 @@ use sir_data::records::op_inputs;
 use sir_data::records::op_word;
 ghost use mathlib.Core.Path.{_≡_};
 ghost use mathlib.Core.Bool.{true};
-ghost use mathlib.Core.List.{List, _∷_, []};
-ghost use Prim.Native.Nat.{ℕ, _≤_, _<_};
+ghost use mathlib.Core.List.{_∷_, []};
+ghost use Prim.Native.Nat.{_≤_, _<_};
 ghost use lib.ListN.{length};
 ghost use Rattle.sir_data.specs.Records.{operations, code};
 ghost use Rattle.sir_data.specs.Codes.{isAlloc};
 ghost use Rattle.sir_data.specs.WellFormed.{WellFormed};
-ghost use Rattle.sir_analyses.specs.Discovery.{allocKeys, Site, headWords};
+ghost use Rattle.sir_analyses.specs.Discovery.{headWords};
 ghost use Rattle.sir_analyses.specs.Kinds.{kindOf, kindWords};
 ghost use Rattle.sir_analyses.specs.Writing.{Puts};
 
@@ -57,24 +56,6 @@ fn kind_words(k: AllocKind) -> KindWords
             size: local.0,
             id: 0,
         },
-    }
-}
-
-// Where an allocation stands.
-pub struct AllocSite {
-    pub block: BlockId,
-    pub op: OpIdx,
-}
-
-// The site of allocation a, from the keys of all allocations.
-pub fn site_of(keys: &[u32], a: AllocId) -> AllocSite
-    requires { ⌜ a .0 < length (now keys) ⌝ }
-    ensures { λ r. ⌜ ((w : List ℕ) → WellFormed w → now (keys .entry) ≡ allocKeys w → Site w (a .0) (r .block .0) (r .op .0)) ⌝ }
-{
-    let key = keys[a.0 as usize];
-    AllocSite {
-        block: BlockId(key / 1024),
-        op: OpIdx(key % 1024),
     }
 }
 

@@ -1,4 +1,4 @@
--- `block_allocations` meets its contract.
+-- `block_allocations` meets its contract. The invariant: the keys of the operations left are to be written.
 use mathlib.Core.Path.{_≡_, sym, ap, _∙_}
 use mathlib.Core.Bool.{true, false}
 use Prim.Native.Nat.{_+_, _-_, _*_, _≤_, _<_}

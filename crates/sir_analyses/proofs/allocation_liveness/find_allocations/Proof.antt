@@ -1,4 +1,4 @@
--- `find_allocations` meets its contract.
+-- `find_allocations` meets its contract. The invariant: the keys of the blocks left are to be written.
 use mathlib.Core.Path.{_∙_}
 use Prim.Native.Nat.{_+_, _-_, _≤_}
 use native.Mathlib.Omega.{arith}

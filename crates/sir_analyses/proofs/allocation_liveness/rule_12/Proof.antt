@@ -1,11 +1,11 @@
--- `rule_12` meets its contract.
+-- `rule_12` meets its contract. The invariant: the bases of the allocations left decide.
 use mathlib.Core.Path.{refl, sym, _∙_}
 use Prim.Native.Nat.{_-_, _≤_}
 use native.Mathlib.Nat.{zero-add}
 use native.Mathlib.Omega.{arith}
 use lib.ListN.{length}
 use borrow.Author.Tests.{not-true, not-false}
-use Rattle.sir_analyses.proofs.Discovery.{Deciding, bases-start, key-known, deciding-next, deciding-stop, deciding-all}
+use Rattle.sir_analyses.proofs.Discovery.{Deciding, bases-start, deciding-next, deciding-stop, deciding-all}
 use Rattle.sir_analyses.proofs.allocation_liveness.rule_12.Statement.{statement}
 use Rattle.sir_analyses.proofs.allocation_liveness.rule_12.Tie as tie
 
@@ -20,48 +20,45 @@ loop-holds c = let S = c .before .before in
     let w = S .args .words .now in
     (omega arith, record { long = refl; left = bases-start w (S .pre .0) })
 
-mul-t6 : tie.Need-mul-t6 Inv-loop μ-loop
-mul-t6 c = omega arith
+cast-t8 : tie.Need-cast-t8 Inv-loop μ-loop
+cast-t8 c = omega (arith, c .before .before .before .before .pre .1 .1)
 
-shared-slice-read-t9 : tie.Need-shared-slice-read-t9 Inv-loop μ-loop
-shared-slice-read-t9 c = omega arith
-
-base-ptr-requires : tie.Need-base-ptr-requires Inv-loop μ-loop
-base-ptr-requires c κs = let S = c .before .before .before .before .before in
+base-of-requires : tie.Need-base-of-requires Inv-loop μ-loop
+base-of-requires c κs = let S = c .before .before .before .before in
     let w = S .args .words .now in
-    (S .pre .0, key-known w (S .pre .0) (S .pre .1) (c .before .loop-test .taken))
+    (S .pre .0, (S .pre .1 .0, c .loop-test .taken))
 
 add-a : tie.Need-add-a Inv-loop μ-loop
 add-a c = omega arith
 
 slice-aggregate-row-add : tie.Need-slice-aggregate-row-add Inv-loop μ-loop
-slice-aggregate-row-add c = omega (arith, c .before .before .before .before .loop .inv .1 .long)
+slice-aggregate-row-add c = omega (arith, c .before .before .before .loop .inv .1 .long)
 
 row-add-requires : tie.Need-row-add-requires Inv-loop μ-loop
-row-add-requires c κs = let S = c .before .before .before .before .before .before .before in
+row-add-requires c κs = let S = c .before .before .before .before .before .before in
     let w = S .args .words .now in
-    (omega (arith, c .before .before .before .before .loop .inv .1 .long), omega (arith, c .before .base-ptr .ensures .1, S .pre .0 .sized .locals-most))
+    (omega (arith, c .before .before .before .loop .inv .1 .long), omega (arith, c .before .base-of .ensures .1, S .pre .0 .sized .locals-most))
 
 returns : tie.Need-returns Inv-loop μ-loop
-returns c = let S = c .before .before .before .before .before .before .before .before .before .before in
+returns c = let S = c .before .before .before .before .before .before .before .before .before in
     let w = S .args .words .now in
     let n = rw zero-add at (c .before .before .row-add .ensures .0) in
-    sym (deciding-stop w (S .pre .0) (S .pre .1) (c .before .before .before .before .before .before .loop-test .taken) (c .before .before .before .before .base-ptr .ensures .0) (c .before .before .before .before .before .before .before .loop .inv .1) (not-false _ (sym n ∙ not-true _ (c .if1 .taken))))
+    sym (deciding-stop w (S .pre .0) (S .pre .1 .0) (c .before .before .before .before .before .loop-test .taken) (c .before .before .before .before .base-of .ensures .0) (c .before .before .before .before .before .before .loop .inv .1) (not-false _ (sym n ∙ not-true _ (c .if1 .taken))))
 
 loop-less : tie.Need-loop-less Inv-loop μ-loop
 loop-less c = omega arith
 
 loop-again : tie.Need-loop-again Inv-loop μ-loop
-loop-again c = let S = c .before .before .before .before .before .before .before .before .before .before in
+loop-again c = let S = c .before .before .before .before .before .before .before .before .before in
     let w = S .args .words .now in
     let n = rw zero-add at (c .before .before .row-add .ensures .0) in
     let put = rw zero-add at (c .before .before .row-add .ensures .1) in
-    (omega arith, rw put (deciding-next w (S .pre .0) (S .pre .1) (c .before .before .before .before .before .before .loop-test .taken) (c .before .before .before .before .base-ptr .ensures .0) (c .before .before .before .before .before .before .before .loop .inv .1) (not-true _ (sym n ∙ not-false _ (c .if1 .left)))))
+    (omega arith, rw put (deciding-next w (S .pre .0) (S .pre .1 .0) (c .before .before .before .before .before .loop-test .taken) (c .before .before .before .before .base-of .ensures .0) (c .before .before .before .before .before .before .loop .inv .1) (not-true _ (sym n ∙ not-false _ (c .if1 .left)))))
 
 returns-2 : tie.Need-returns-2 Inv-loop μ-loop
 returns-2 c = let S = c .before .before .before .before in
     let w = S .args .words .now in
-    sym (deciding-all w (S .pre .1) (c .loop-test .left) (c .before .loop .inv .1))
+    sym (deciding-all w (S .pre .1 .0) (c .loop-test .left) (c .before .loop .inv .1))
 
 pub rule-12-spec : {M : Type 1} → statement M
 rule-12-spec =
@@ -70,9 +67,8 @@ rule-12-spec =
     Inv-loop
     μ-loop
     loop-holds
-    mul-t6
-    shared-slice-read-t9
-    base-ptr-requires
+    cast-t8
+    base-of-requires
     add-a
     slice-aggregate-row-add
     row-add-requires

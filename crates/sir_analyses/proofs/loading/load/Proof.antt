@@ -1,7 +1,8 @@
 -- `load` meets its contract.
-use mathlib.Core.Path.{_≡_, sym, _∙_}
+use mathlib.Core.Path.{_≡_, sym, ap, _∙_}
 use Prim.Native.Nat.{ℕ}
 use native.Mathlib.Omega.{arith}
+use lib.ListN.{length}
 use Rattle.sir_analyses.proofs.Keys.{capped-fits}
 use Rattle.sir_analyses.proofs.Loads.{refused-early, words-fit, front-is, front-good, refused-last, refused-never, blocks-fit, rpo-is, keys-fit, front-length, found-over, prepared}
 use borrow.Author.Needs.{needs}
@@ -92,7 +93,8 @@ slice-aggregate-rule-12-2 : tie.Need-slice-aggregate-rule-12-2
 slice-aggregate-rule-12-2 c = front-length _ _ (omega (arith, c .before .before .if2 .left))
 
 rule-12-requires : tie.Need-rule-12-requires
-rule-12-requires c κs = (front-good (c .before .before .before .before .before .before .before .before .before .before .before .before .before .before .before .before .before .before .before .before .before .before .before .before .before .read-image .ensures) (c .before .before .before .before .before .before .before .before .before .before .before .before .before .before .before .before .before .before .before .before .before .before .if1 .left), capped-fits (omega (arith, c .before .before .if2 .left)) (c .before .before .before .before .before .find-allocations .ensures) .list)
+rule-12-requires c κs = let k = capped-fits (omega (arith, c .before .before .if2 .left)) (c .before .before .before .before .before .find-allocations .ensures) in
+    (front-good (c .before .before .before .before .before .before .before .before .before .before .before .before .before .before .before .before .before .before .before .before .before .before .before .before .before .read-image .ensures) (c .before .before .before .before .before .before .before .before .before .before .before .before .before .before .before .before .before .before .before .before .before .before .if1 .left), (k .list, omega (arith, ap length (k .list), k .next, k .long, c .before .before .if2 .left, c .before .before .before .before .before .before .before .before .before .before .before .before .before .before .before .before .before .before .before .before .before .before .before .before .before .before .before .before .before .before .before .before .before .pre .1 .2)))
 
 no-sizes-requires-3 : tie.Need-no-sizes-requires-3
 no-sizes-requires-3 c κs = search needs

@@ -1,8 +1,8 @@
 -- `site_of` meets its contract.
 use Rattle.sir_analyses.proofs.AllocationWords.{key-site}
 use borrow.Author.Needs.{needs}
-use Rattle.sir_analyses.proofs.allocation_words.site_of.Statement.{statement}
-use Rattle.sir_analyses.proofs.allocation_words.site_of.Tie as tie
+use Rattle.sir_analyses.proofs.allocation_liveness.site_of.Statement.{statement}
+use Rattle.sir_analyses.proofs.allocation_liveness.site_of.Tie as tie
 
 cast-key : tie.Need-cast-key
 cast-key c = search needs
