@@ -253,6 +253,10 @@ source-exits = (map (λ e. oneIf (has e 1)) (sourceLive looping .exits), 0 ∷ 1
 abbrev source-merging : Row
 source-merging = (intervalWords (mergeIntervals (interval 1 0 2 ∷ interval 0 3 5 ∷ interval 0 7 8 ∷ interval 0 1 3 ∷ interval 0 8 blockEnd ∷ [])), 0 ∷ 1 ∷ 5 ∷ 0 ∷ 7 ∷ blockEnd ∷ 1 ∷ 0 ∷ 2 ∷ [])
 
+-- a block that is not there: 13, and the slice is kept
+abbrev unknown-block : Row
+unknown-block = (outcomeWords (asked (known blocks 2) (inWords (λ w. exitAnswer w 2)) (pageBytes report) (replicate 9 7)), 13 ∷ 0 ∷ replicate 9 7)
+
 -- a block's calls are visited before its successors: functions 0, 2, 1
 abbrev calls-first : Row
 calls-first = (orderAnswer callsAndGoes, 0 ∷ 2 ∷ 0 ∷ 1 ∷ 2 ∷ 1 ∷ 3 ∷ 1 ∷ 1 ∷ 2 ∷ [])
@@ -317,7 +321,7 @@ table =
     -- as bytes, into a slice of 9: rounds; exit of block 0; a block that is not there; order, for which it is too short; a bad check
     ∷ (outcomeWords (asked noRules (inWords roundsAnswer) (pageBytes report) (replicate 9 7)), 0 ∷ 4 ∷ 2 ∷ 0 ∷ 0 ∷ 0 ∷ 7 ∷ 7 ∷ 7 ∷ 7 ∷ 7 ∷ [])
     ∷ (outcomeWords (asked (known blocks 0) (inWords (λ w. exitAnswer w 0)) (pageBytes report) (replicate 9 7)), 0 ∷ 4 ∷ 1 ∷ 0 ∷ 0 ∷ 0 ∷ 7 ∷ 7 ∷ 7 ∷ 7 ∷ 7 ∷ [])
-    ∷ (outcomeWords (asked (known blocks 2) (inWords (λ w. exitAnswer w 2)) (pageBytes report) (replicate 9 7)), 13 ∷ 0 ∷ replicate 9 7)
+    ∷ unknown-block
     ∷ (outcomeWords (asked noRules (inWords orderAnswer) (pageBytes report) (replicate 9 7)), 14 ∷ 0 ∷ replicate 9 7)
     ∷ (outcomeWords (asked (known blocks 0) (inWords (λ w. exitAnswer w 0)) pageOne (replicate 9 7)), 3 ∷ 0 ∷ replicate 9 7)
     -- misreadings: taking non-zero first

@@ -37,45 +37,82 @@ say-refused-requires c κs = search needs
 
 returns : tie.Need-returns
 unfolding reported
-returns c = rw (ne-eqb (refusal (c .before .before .before .before .before .before .before .before .before .before .before .before .before .before .before .before .args .image .now)) 0 (λ z. c .before .before .before .if1 .taken (c .before .before .before .before .before .before .before .before .before .load .ensures .number-is ∙ z))) (c .before .before .before .before .before .before .before .before .before .load .ensures .number-is)
+returns c =
+    let at-if1 = c .before .before .before in
+    let at-words2 = at-if1 .before .before .before .before .before in
+    let at-load = at-words2 .before in
+    let at-words = at-load .before .before .before .before .before in
+    let start = at-words .before .before in
+    rw (ne-eqb (refusal (start .args .image .now)) 0 (λ z. at-if1 .if1 .taken (at-load .load .ensures .number-is ∙ z))) (at-load .load .ensures .number-is)
 
 array-share-prefix-words : tie.Need-array-share-prefix-words
-array-share-prefix-words c = let p = c .before .before .before .before .before .before .load .ensures .accepted (sym (c .before .before .before .before .before .before .load .ensures .number-is) ∙ c .if1 .left) in
+array-share-prefix-words c =
+    let at-words2 = c .before .before .before .before .before in
+    let at-load = at-words2 .before in
+    let p = at-load .load .ensures .accepted (sym (at-load .load .ensures .number-is) ∙ c .if1 .left) in
     p .words-fit
 
 slice-aggregate-report-words : tie.Need-slice-aggregate-report-words
-slice-aggregate-report-words c = let p = c .before .before .before .before .before .before .before .load .ensures .accepted (sym (c .before .before .before .before .before .before .before .load .ensures .number-is) ∙ c .before .if1 .left) in
+slice-aggregate-report-words c =
+    let at-seen2 = c .before .before .before .before .before in
+    let at-load = at-seen2 .before .before in
+    let p = at-load .load .ensures .accepted (sym (at-load .load .ensures .number-is) ∙ c .before .if1 .left) in
     sym (length-take-le _ _ (p .words-fit))
 
 slice-aggregate-report-words-2 : tie.Need-slice-aggregate-report-words-2
 slice-aggregate-report-words-2 c = search needs
 
 array-share-prefix-rpo : tie.Need-array-share-prefix-rpo
-array-share-prefix-rpo c = let p = c .before .before .before .before .before .before .before .before .load .ensures .accepted (sym (c .before .before .before .before .before .before .before .before .load .ensures .number-is) ∙ c .before .before .if1 .left) in
+array-share-prefix-rpo c =
+    let at-post2 = c .before .before .before .before .before in
+    let at-load = at-post2 .before .before .before in
+    let p = at-load .load .ensures .accepted (sym (at-load .load .ensures .number-is) ∙ c .before .before .if1 .left) in
     p .rpo-fit
 
 slice-aggregate-report-words-3 : tie.Need-slice-aggregate-report-words-3
-slice-aggregate-report-words-3 c = let p = c .before .before .before .before .before .before .before .before .before .load .ensures .accepted (sym (c .before .before .before .before .before .before .before .before .before .load .ensures .number-is) ∙ c .before .before .before .if1 .left) in
+slice-aggregate-report-words-3 c =
+    let at-if1 = c .before .before .before in
+    let at-words2 = at-if1 .before .before .before .before .before in
+    let at-load = at-words2 .before in
+    let p = at-load .load .ensures .accepted (sym (at-load .load .ensures .number-is) ∙ at-if1 .if1 .left) in
     sym (length-take-le _ _ (p .rpo-fit))
 
 array-share-prefix-keys : tie.Need-array-share-prefix-keys
-array-share-prefix-keys c = let p = c .before .before .before .before .before .before .before .before .before .load .ensures .accepted (sym (c .before .before .before .before .before .before .before .before .before .load .ensures .number-is) ∙ c .before .before .before .if1 .left) in
+array-share-prefix-keys c =
+    let at-if1 = c .before .before .before in
+    let at-words2 = at-if1 .before .before .before .before .before in
+    let at-load = at-words2 .before in
+    let p = at-load .load .ensures .accepted (sym (at-load .load .ensures .number-is) ∙ at-if1 .if1 .left) in
     p .keys-fit
 
 slice-aggregate-report-words-4 : tie.Need-slice-aggregate-report-words-4
-slice-aggregate-report-words-4 c = let p = c .before .before .before .before .before .before .before .before .before .before .load .ensures .accepted (sym (c .before .before .before .before .before .before .before .before .before .before .load .ensures .number-is) ∙ c .before .before .before .before .if1 .left) in
+slice-aggregate-report-words-4 c =
+    let at-if1 = c .before .before .before .before in
+    let at-words2 = at-if1 .before .before .before .before .before in
+    let at-load = at-words2 .before in
+    let p = at-load .load .ensures .accepted (sym (at-load .load .ensures .number-is) ∙ at-if1 .if1 .left) in
     sym (length-take-le _ _ (p .keys-fit))
 
 report-words-requires : tie.Need-report-words-requires
-report-words-requires c κs = let p = c .before .before .before .before .before .before .before .before .before .before .load .ensures .accepted (sym (c .before .before .before .before .before .before .before .before .before .before .load .ensures .number-is) ∙ c .before .before .before .before .if1 .left) in
+report-words-requires c κs =
+    let at-if1 = c .before .before .before .before in
+    let at-words2 = at-if1 .before .before .before .before .before in
+    let at-load = at-words2 .before in
+    let p = at-load .load .ensures .accepted (sym (at-load .load .ensures .number-is) ∙ at-if1 .if1 .left) in
     let r = p .ready in
     (r .well-formed, ((r .seen-are, r .rpo-is, take-most _ 256 _ (p .rpo-fit) (omega (arith, p .rpo-fit)), omega (arith, ap length (p .order-is), p .order-fits)), (r .bases-differ, r .keys-are, r .keys-few)))
 
 returns-2 : tie.Need-returns-2
 unfolding reported
-returns-2 c = let z = sym (c .before .before .before .before .before .before .before .before .before .before .before .load .ensures .number-is) ∙ c .before .before .before .before .before .if1 .left in
-    let p = c .before .before .before .before .before .before .before .before .before .before .before .load .ensures .accepted z in
-    rw (eq-eqb (refusal (c .before .before .before .before .before .before .before .before .before .before .before .before .before .before .before .before .before .before .args .image .now)) 0 z) (rw (p .words-are) at (c .report-words .ensures))
+returns-2 c =
+    let at-if1 = c .before .before .before .before .before in
+    let at-words2 = at-if1 .before .before .before .before .before in
+    let at-load = at-words2 .before in
+    let at-words = at-load .before .before .before .before .before in
+    let start = at-words .before .before in
+    let z = sym (at-load .load .ensures .number-is) ∙ at-if1 .if1 .left in
+    let p = at-load .load .ensures .accepted z in
+    rw (eq-eqb (refusal (start .args .image .now)) 0 z) (rw (p .words-are) at (c .report-words .ensures))
 
 pub report-spec : {M : Type 1} → statement M
 report-spec =

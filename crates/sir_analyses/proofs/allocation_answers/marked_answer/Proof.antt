@@ -19,12 +19,14 @@ same-length : tie.Need-same-length
 same-length c = search needs
 
 returns : tie.Need-returns
-returns c = let s = c .before .before .before .before .before .before .before in
-    let w = s .args .words .now in
+returns c =
+    let at-finish = c .before .before .before .before in
+    let start = at-finish .before .before .before in
+    let w = start .args .words .now in
     λ a x t.
-    finished (allocationAnswer w a) (s .args .out .now)
-    (finish-as (allocationAnswer w a) (s .args .out .now) (marked-long w (s .pre .0) x t) refl (c .before .before .before .before .finish .ensures))
-    (puts-as (marked-answer w (s .pre .0) x t) (c .before .before .put-head .ensures))
+    finished (allocationAnswer w a) (start .args .out .now)
+    (finish-as (allocationAnswer w a) (start .args .out .now) (marked-long w (start .pre .0) x t) refl (at-finish .finish .ensures))
+    (puts-as (marked-answer w (start .pre .0) x t) (c .before .before .put-head .ensures))
 
 pub marked-answer-spec : {M : Type 1} → statement M
 marked-answer-spec = tie.close (tie.spec finish-requires put-head-requires same-length returns)

@@ -51,9 +51,14 @@ slice-aggregate-allocation-answer-2 : tie.Need-slice-aggregate-allocation-answer
 slice-aggregate-allocation-answer-2 c = search needs
 
 allocation-answer-requires : tie.Need-allocation-answer-requires
-allocation-answer-requires c κs = let s = c .before .before .before .before .before .before .before .before .before .before .before .before .before .before .before .before .before .before .before .before .before .before .before in
-    let w = s .args .words .now in
-    (s .pre .0, (omega (arith, ap length (s .pre .0 .keys-are), keys-long w, known-below (λ x. length (allocs x)) _ w (own-as Question.OfPointers w (c .before .before .before .before .question .given .1) (s .pre .1))), (c .before .before .before .before .before .before .before .before .discover-allocations .kept .1 .1 .1 .1 .0, c .before .before .before .before .before .before .before .before .discover-allocations .kept .1 .1 .1 .1 .1 .0, c .before .before .before .before .before .before .before .before .discover-allocations .ensures)))
+allocation-answer-requires c κs =
+    let at-question = c .before .before .before .before in
+    let at-discover-allocations = at-question .before .before .before .before in
+    let at-harms2 = at-discover-allocations .before .before .before .before .before in
+    let at-slice-known = at-harms2 .before .before .before .before .before in
+    let start = at-slice-known .before .before .before .before .before in
+    let w = start .args .words .now in
+    (start .pre .0, (omega (arith, ap length (start .pre .0 .keys-are), keys-long w, known-below (λ x. length (allocs x)) _ w (own-as Question.OfPointers w (at-question .question .given .1) (start .pre .1))), (at-discover-allocations .discover-allocations .kept .1 .1 .1 .1 .0, at-discover-allocations .discover-allocations .kept .1 .1 .1 .1 .1 .0, at-discover-allocations .discover-allocations .ensures)))
 
 enum-known-question-2 : tie.Need-enum-known-question-2
 enum-known-question-2 c = search needs
@@ -65,9 +70,14 @@ mul-t35 : tie.Need-mul-t35
 mul-t35 c = search needs
 
 array-read-t38 : tie.Need-array-read-t38
-array-read-t38 c = let s = c .before .before .before .before .before .before .before .before .before .before .before .before .before .before .before .before .before .before .before .before .before in
-    let w = s .args .words .now in
-    omega (arith, known-below locals _ w (own-as Question.OfPointers w (c .before .before .question2 .given .1) (s .pre .1)), s .pre .0 .well-formed .sized .locals-most)
+array-read-t38 c =
+    let at-owner2 = c .before .before .before .before .before in
+    let at-links3 = at-owner2 .before .before .before .before .before in
+    let at-links = at-links3 .before .before .before .before .before in
+    let at-shared-slice-known = at-links .before .before .before .before .before in
+    let start = at-shared-slice-known .before in
+    let w = start .args .words .now in
+    omega (arith, known-below locals _ w (own-as Question.OfPointers w (c .before .before .question2 .given .1) (start .pre .1)), start .pre .0 .well-formed .sized .locals-most)
 
 slice-aggregate-words-answer : tie.Need-slice-aggregate-words-answer
 slice-aggregate-words-answer c = search needs
@@ -79,17 +89,30 @@ same-length : tie.Need-same-length
 same-length c = search needs
 
 returns : tie.Need-returns
-returns c = let a = c .before .before .before .before .before .before .before .before .before .before .before .before .before .before .before .before .before .before .before .before .before .before .before .before .before .before .args in
-    c .before .before .allocation-answer .ensures ∙ answered-as Question.OfPointers (a .words .now) (c .before .before .before .before .before .before .before .question .given .1) (a .out .now)
+returns c =
+    let at-owner3 = c .before .before .before .before .before in
+    let at-question = at-owner3 .before .before in
+    let at-marks = at-question .before .before .before .before .before in
+    let at-links2 = at-marks .before .before .before .before .before in
+    let at-shared-slice-known4 = at-links2 .before .before .before .before .before in
+    let start = at-shared-slice-known4 .before .before .before .before in
+    let a = start .args in
+    c .before .before .allocation-answer .ensures ∙ answered-as Question.OfPointers (a .words .now) (at-question .question .given .1) (a .out .now)
 
 same-length-2 : tie.Need-same-length-2
 same-length-2 c = search needs
 
 returns-2 : tie.Need-returns-2
-returns-2 c = let s = c .before .before .before .before .before .before .before .before .before .before .before .before .before .before .before .before .before .before .before .before .before .before .before .before .before .before in
-    let a = s .args in
+returns-2 c =
+    let at-struct-known = c .before .before .before .before .before in
+    let at-question2 = at-struct-known .before .before in
+    let at-discover-allocations = at-question2 .before .before .before .before in
+    let at-harms2 = at-discover-allocations .before .before .before .before .before in
+    let at-slice-known = at-harms2 .before .before .before .before .before in
+    let start = at-slice-known .before .before .before .before .before in
+    let a = start .args in
     let w = a .words .now in
-    c .before .before .words-answer .ensures ∙ ap (λ (n : ℕ). answered (bind (n ∷ []) bytesOf) (a .out .now)) (c .before .before .before .before .before .before .before .before .before .before .before .discover-allocations .ensures .owner-is _ (known-below locals _ w (own-as Question.OfPointers w (c .before .before .before .before .before .before .before .question2 .given .1) (s .pre .1)))) ∙ answered-as Question.OfPointers w (c .before .before .before .before .before .before .before .question2 .given .1) (a .out .now)
+    c .before .before .words-answer .ensures ∙ ap (λ (n : ℕ). answered (bind (n ∷ []) bytesOf) (a .out .now)) (at-discover-allocations .discover-allocations .ensures .owner-is _ (known-below locals _ w (own-as Question.OfPointers w (at-question2 .question2 .given .1) (start .pre .1)))) ∙ answered-as Question.OfPointers w (at-question2 .question2 .given .1) (a .out .now)
 
 pub pointer-answer-spec : {M : Type 1} → statement M
 pointer-answer-spec =

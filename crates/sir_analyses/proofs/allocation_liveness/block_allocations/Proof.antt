@@ -37,11 +37,13 @@ op-word-requires c κs = let S = c .before .before .before .before .before in
     (S .pre .0 .sized, (h, omega arith))
 
 is-alloc-requires : tie.Need-is-alloc-requires Inv-loop μ-loop
-is-alloc-requires c κs = let S = c .before .before .before .before .before .before in
+is-alloc-requires c κs =
+    let at-block-operations = c .before .before .before in
+    let start = at-block-operations .before .before .before in
     let L = c .before .before .loop in
-    let w = S .args .words .now in
-    let h : L .o < operations w = omega (arith, S .pre .0 .in-range .ops-range (S .args .b .0) (S .pre .1 .0), c .before .before .before .block-operations .ensures, c .before .loop-test .taken) in
-    omega (arith, S .pre .0 .in-range .code-most (L .o) h, c .op-word .ensures)
+    let w = start .args .words .now in
+    let h : L .o < operations w = omega (arith, start .pre .0 .in-range .ops-range (start .args .b .0) (start .pre .1 .0), at-block-operations .block-operations .ensures, c .before .loop-test .taken) in
+    omega (arith, start .pre .0 .in-range .code-most (L .o) h, c .op-word .ensures)
 
 add-result : tie.Need-add-result Inv-loop μ-loop
 add-result c = omega (arith, c .before .before .before .before .before .loop .inv .0)
@@ -50,54 +52,81 @@ same-length : tie.Need-same-length Inv-loop μ-loop
 same-length c = c .before .before .before .before .before .loop .inv .1 .long
 
 returns : tie.Need-returns Inv-loop μ-loop
-returns c = let S = c .before .before .before .before .before .before .before .before .before in
-    let L = c .before .before .before .before .before .loop in
-    let w = S .args .words .now in
-    let t : isAlloc (code w (L .o)) ≡ true = ap isAlloc (sym (c .before .before .before .op-word .ensures)) ∙ sym (c .before .before .is-alloc .ensures) ∙ c .before .if1 .taken in
-    let e = key-next w (S .args .b .0) (L .o) (c .before .before .before .before .before .before .block-operations .result .end) (c .before .before .before .before .loop-test .taken) t in
+returns c =
+    let at-op-word = c .before .before .before in
+    let at-loop-test = at-op-word .before in
+    let at-loop = at-loop-test .before in
+    let at-block-operations = at-loop .before in
+    let start = at-block-operations .before .before .before in
+    let L = at-loop .loop in
+    let w = start .args .words .now in
+    let t : isAlloc (code w (L .o)) ≡ true = ap isAlloc (sym (at-op-word .op-word .ensures)) ∙ sym (c .before .before .is-alloc .ensures) ∙ c .before .if1 .taken in
+    let e = key-next w (start .args .b .0) (L .o) (at-block-operations .block-operations .result .end) (at-loop-test .loop-test .taken) t in
     capped-stop (omega (arith, c .if2 .taken)) (omega (arith, c .if2 .taken)) (listing-as e (L .inv .1))
 
 mul-keys : tie.Need-mul-keys Inv-loop μ-loop
-mul-keys c = let S = c .before .before .before .before .before .before .before .before .before .before in
-    omega (arith, S .pre .0 .sized .blocks-most, S .pre .1 .0)
+mul-keys c =
+    let at-loop-test = c .before .before .before .before .before in
+    let start = at-loop-test .before .before .before .before .before in
+    omega (arith, start .pre .0 .sized .blocks-most, start .pre .1 .0)
 
 add-keys : tie.Need-add-keys Inv-loop μ-loop
-add-keys c = let S = c .before .before .before .before .before .before .before .before .before .before in
-    let L = c .before .before .before .before .before .before .loop in
-    let w = S .args .words .now in
-    let h : L .o < operations w = omega (arith, S .pre .0 .in-range .ops-range (S .args .b .0) (S .pre .1 .0), c .before .before .before .before .before .before .before .block-operations .ensures, c .before .before .before .before .before .loop-test .taken) in
-    omega (arith, S .pre .0 .sized .blocks-most, S .pre .0 .sized .operations-most, S .pre .1 .0)
+add-keys c =
+    let at-loop-test = c .before .before .before .before .before in
+    let at-loop = at-loop-test .before in
+    let at-block-operations = at-loop .before in
+    let start = at-block-operations .before .before .before in
+    let L = at-loop .loop in
+    let w = start .args .words .now in
+    let h : L .o < operations w = omega (arith, start .pre .0 .in-range .ops-range (start .args .b .0) (start .pre .1 .0), at-block-operations .block-operations .ensures, at-loop-test .loop-test .taken) in
+    omega (arith, start .pre .0 .sized .blocks-most, start .pre .0 .sized .operations-most, start .pre .1 .0)
 
 mul-keys-2 : tie.Need-mul-keys-2 Inv-loop μ-loop
 mul-keys-2 c = omega arith
 
 slice-write-keys : tie.Need-slice-write-keys Inv-loop μ-loop
-slice-write-keys c = omega (arith, c .before .before .before .before .before .before .loop .inv .0, c .before .if2 .left)
+slice-write-keys c =
+    let at-loop-test = c .before .before .before .before .before in
+    let at-loop = at-loop-test .before in
+    omega (arith, at-loop .loop .inv .0, c .before .if2 .left)
 
 add-m : tie.Need-add-m Inv-loop μ-loop
-add-m c = omega (arith, c .before .before .before .before .before .before .loop .inv .0, c .before .if2 .left)
+add-m c =
+    let at-loop-test = c .before .before .before .before .before in
+    let at-loop = at-loop-test .before in
+    omega (arith, at-loop .loop .inv .0, c .before .if2 .left)
 
 loop-less : tie.Need-loop-less Inv-loop μ-loop
 loop-less c = omega arith
 
 loop-again : tie.Need-loop-again Inv-loop μ-loop
-loop-again c = let S = c .before .before .before .before .before .before .before .before .before .before in
-    let L = c .before .before .before .before .before .before .loop in
-    let w = S .args .words .now in
-    let t : isAlloc (code w (L .o)) ≡ true = ap isAlloc (sym (c .before .before .before .before .op-word .ensures)) ∙ sym (c .before .before .before .is-alloc .ensures) ∙ c .before .before .if1 .taken in
-    let e = key-next w (S .args .b .0) (L .o) (c .before .before .before .before .before .before .before .block-operations .result .end) (c .before .before .before .before .before .loop-test .taken) t in
+loop-again c =
+    let at-is-alloc = c .before .before .before in
+    let at-op-word = at-is-alloc .before in
+    let at-loop-test = at-op-word .before in
+    let at-loop = at-loop-test .before in
+    let at-block-operations = at-loop .before in
+    let start = at-block-operations .before .before .before in
+    let L = at-loop .loop in
+    let w = start .args .words .now in
+    let t : isAlloc (code w (L .o)) ≡ true = ap isAlloc (sym (at-op-word .op-word .ensures)) ∙ sym (at-is-alloc .is-alloc .ensures) ∙ c .before .before .if1 .taken in
+    let e = key-next w (start .args .b .0) (L .o) (at-block-operations .block-operations .result .end) (at-loop-test .loop-test .taken) t in
     let r : L .m < length (L .keys) = omega (arith, L .inv .0, c .before .if2 .left) in
-    (omega (arith, length-set (L .keys) (L .m) (1024 * S .args .b .0 + L .o)), listing-put r (listing-as e (L .inv .1)))
+    (omega (arith, length-set (L .keys) (L .m) (1024 * start .args .b .0 + L .o)), listing-put r (listing-as e (L .inv .1)))
 
 loop-less-2 : tie.Need-loop-less-2 Inv-loop μ-loop
 loop-less-2 c = omega arith
 
 loop-again-2 : tie.Need-loop-again-2 Inv-loop μ-loop
-loop-again-2 c = let S = c .before .before .before .before .before .before .before .before in
-    let L = c .before .before .before .before .loop in
-    let w = S .args .words .now in
+loop-again-2 c =
+    let at-loop-test = c .before .before .before in
+    let at-loop = at-loop-test .before in
+    let at-block-operations = at-loop .before in
+    let start = at-block-operations .before .before .before in
+    let L = at-loop .loop in
+    let w = start .args .words .now in
     let t : isAlloc (code w (L .o)) ≡ false = ap isAlloc (sym (c .before .before .op-word .ensures)) ∙ sym (c .before .is-alloc .ensures) ∙ c .if1 .left in
-    (L .inv .0, listing-as (key-skip w (S .args .b .0) (L .o) (c .before .before .before .before .before .block-operations .result .end) (c .before .before .before .loop-test .taken) t) (L .inv .1))
+    (L .inv .0, listing-as (key-skip w (start .args .b .0) (L .o) (at-block-operations .block-operations .result .end) (at-loop-test .loop-test .taken) t) (L .inv .1))
 
 same-length-2 : tie.Need-same-length-2 Inv-loop μ-loop
 same-length-2 c = c .before .loop .inv .1 .long

@@ -29,23 +29,32 @@ shared-slice-read-t9 : tie.Need-shared-slice-read-t9 Inv-loop μ-loop
 shared-slice-read-t9 c = omega arith
 
 block-allocations-requires : tie.Need-block-allocations-requires Inv-loop μ-loop
-block-allocations-requires c κs = let S = c .before .before .before .before .before .before .before in
-    let L = c .before .before .before .loop in
-    let w = S .args .words .now in
-    let rpo = S .args .rpo .now in
+block-allocations-requires c κs =
+    let at-loop = c .before .before .before in
+    let start = at-loop .before .before .before .before in
+    let L = at-loop .loop in
+    let w = start .args .words .now in
+    let rpo = start .args .rpo .now in
     let b = getD rpo (L .i) 0 in
-    (S .pre .0, (rpo-below w (S .pre .0) (S .pre .1) b (getD-mem rpo (L .i) 0 (c .before .before .loop-test .taken)), omega (arith, L .inv .1)))
+    (start .pre .0, (rpo-below w (start .pre .0) (start .pre .1) b (getD-mem rpo (L .i) 0 (c .before .before .loop-test .taken)), omega (arith, L .inv .1)))
 
 same-length : tie.Need-same-length Inv-loop μ-loop
-same-length c = c .before .before .before .block-allocations .ensures .long ∙ c .before .before .before .before .before .before .before .loop .inv .2 .long
+same-length c =
+    let at-block-allocations = c .before .before .before in
+    let at-loop = at-block-allocations .before .before .before .before in
+    at-block-allocations .block-allocations .ensures .long ∙ at-loop .loop .inv .2 .long
 
 returns : tie.Need-returns Inv-loop μ-loop
-returns c = let S = c .before .before .before .before .before .before .before .before .before .before .before in
-    let L = c .before .before .before .before .before .before .before .loop in
-    let w = S .args .words .now in
-    let rpo = S .args .rpo .now in
-    let e = block-next (blockKeys w) rpo (L .i) (c .before .before .before .before .before .before .loop-test .taken) in
-    capped-over (blockKeys w (getD rpo (L .i) 0)) (bind (drop (L .i + 1) rpo) (blockKeys w)) (omega (arith, c .if1 .taken)) (listing-as e (L .inv .2)) (c .before .before .before .block-allocations .ensures)
+returns c =
+    let at-block-allocations = c .before .before .before in
+    let at-loop-test = at-block-allocations .before .before .before in
+    let at-loop = at-loop-test .before in
+    let start = at-loop .before .before .before .before in
+    let L = at-loop .loop in
+    let w = start .args .words .now in
+    let rpo = start .args .rpo .now in
+    let e = block-next (blockKeys w) rpo (L .i) (at-loop-test .loop-test .taken) in
+    capped-over (blockKeys w (getD rpo (L .i) 0)) (bind (drop (L .i + 1) rpo) (blockKeys w)) (omega (arith, c .if1 .taken)) (listing-as e (L .inv .2)) (at-block-allocations .block-allocations .ensures)
 
 add-i : tie.Need-add-i Inv-loop μ-loop
 add-i c = omega arith
@@ -54,12 +63,16 @@ loop-less : tie.Need-loop-less Inv-loop μ-loop
 loop-less c = omega arith
 
 loop-again : tie.Need-loop-again Inv-loop μ-loop
-loop-again c = let S = c .before .before .before .before .before .before .before .before .before .before .before in
-    let L = c .before .before .before .before .before .before .before .loop in
-    let w = S .args .words .now in
-    let rpo = S .args .rpo .now in
-    let e = block-next (blockKeys w) rpo (L .i) (c .before .before .before .before .before .before .loop-test .taken) in
-    (omega arith, omega (arith, c .if1 .left), listing-more (listing-as e (L .inv .2)) (capped-fits (omega (arith, c .if1 .left)) (c .before .before .before .block-allocations .ensures)))
+loop-again c =
+    let at-block-allocations = c .before .before .before in
+    let at-loop-test = at-block-allocations .before .before .before in
+    let at-loop = at-loop-test .before in
+    let start = at-loop .before .before .before .before in
+    let L = at-loop .loop in
+    let w = start .args .words .now in
+    let rpo = start .args .rpo .now in
+    let e = block-next (blockKeys w) rpo (L .i) (at-loop-test .loop-test .taken) in
+    (omega arith, omega (arith, c .if1 .left), listing-more (listing-as e (L .inv .2)) (capped-fits (omega (arith, c .if1 .left)) (at-block-allocations .block-allocations .ensures)))
 
 same-length-2 : tie.Need-same-length-2 Inv-loop μ-loop
 same-length-2 c = c .before .loop .inv .2 .long

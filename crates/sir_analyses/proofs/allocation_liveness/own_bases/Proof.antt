@@ -27,10 +27,16 @@ base-of-requires c κs = let S = c .before .before .before .before .before in
     (S .pre .0, (S .pre .1 .0, c .loop-test .taken))
 
 add-a : tie.Need-add-a Inv-loop μ-loop
-add-a c = omega (arith, c .before .before .before .before .before .before .pre .1 .1)
+add-a c =
+    let at-shared-slice-known = c .before .before .before .before .before in
+    let start = at-shared-slice-known .before in
+    omega (arith, start .pre .1 .1)
 
 cast-owner-2 : tie.Need-cast-owner-2 Inv-loop μ-loop
-cast-owner-2 c = omega (arith, c .before .before .before .before .before .before .pre .1 .1)
+cast-owner-2 c =
+    let at-shared-slice-known = c .before .before .before .before .before in
+    let start = at-shared-slice-known .before in
+    omega (arith, start .pre .1 .1)
 
 cast-owner-3 : tie.Need-cast-owner-3 Inv-loop μ-loop
 cast-owner-3 c = omega arith
@@ -39,19 +45,23 @@ mul-owner : tie.Need-mul-owner Inv-loop μ-loop
 mul-owner c = omega arith
 
 slice-write-owner : tie.Need-slice-write-owner Inv-loop μ-loop
-slice-write-owner c = let S = c .before .before .before .before .before .before .before in
-    let L = c .before .before .before .loop in
-    let w = S .args .words .now in
-    omega (arith, L .inv .1 .long, c .before .base-of .ensures .1, S .pre .0 .sized .locals-most)
+slice-write-owner c =
+    let at-loop = c .before .before .before in
+    let start = at-loop .before .before .before .before in
+    let L = at-loop .loop in
+    let w = start .args .words .now in
+    omega (arith, L .inv .1 .long, c .before .base-of .ensures .1, start .pre .0 .sized .locals-most)
 
 loop-less : tie.Need-loop-less Inv-loop μ-loop
 loop-less c = omega arith
 
 loop-again : tie.Need-loop-again Inv-loop μ-loop
-loop-again c = let S = c .before .before .before .before .before .before .before in
-    let L = c .before .before .before .loop in
-    let w = S .args .words .now in
-    (omega arith, owned-more w (S .pre .0) (omega (arith, c .before .before .loop-test .taken, ap length (S .pre .1 .0), keys-long w)) (c .before .base-of .ensures .0) (L .inv .1))
+loop-again c =
+    let at-loop = c .before .before .before in
+    let start = at-loop .before .before .before .before in
+    let L = at-loop .loop in
+    let w = start .args .words .now in
+    (omega arith, owned-more w (start .pre .0) (omega (arith, c .before .before .loop-test .taken, ap length (start .pre .1 .0), keys-long w)) (c .before .base-of .ensures .0) (L .inv .1))
 
 same-length : tie.Need-same-length Inv-loop μ-loop
 same-length c = let S = c .before .before .before .before .before in

@@ -35,25 +35,35 @@ slice-aggregate-row-add : tie.Need-slice-aggregate-row-add Inv-loop μ-loop
 slice-aggregate-row-add c = omega (arith, c .before .before .before .loop .inv .1 .long)
 
 row-add-requires : tie.Need-row-add-requires Inv-loop μ-loop
-row-add-requires c κs = let S = c .before .before .before .before .before .before in
-    let w = S .args .words .now in
-    (omega (arith, c .before .before .before .loop .inv .1 .long), omega (arith, c .before .base-of .ensures .1, S .pre .0 .sized .locals-most))
+row-add-requires c κs =
+    let at-loop = c .before .before .before in
+    let start = at-loop .before .before .before in
+    let w = start .args .words .now in
+    (omega (arith, at-loop .loop .inv .1 .long), omega (arith, c .before .base-of .ensures .1, start .pre .0 .sized .locals-most))
 
 returns : tie.Need-returns Inv-loop μ-loop
-returns c = let S = c .before .before .before .before .before .before .before .before .before in
-    let w = S .args .words .now in
+returns c =
+    let at-base-of = c .before .before .before .before in
+    let at-loop-test = at-base-of .before in
+    let at-loop = at-loop-test .before in
+    let start = at-loop .before .before .before in
+    let w = start .args .words .now in
     let n = rw zero-add at (c .before .before .row-add .ensures .0) in
-    sym (deciding-stop w (S .pre .0) (S .pre .1 .0) (c .before .before .before .before .before .loop-test .taken) (c .before .before .before .before .base-of .ensures .0) (c .before .before .before .before .before .before .loop .inv .1) (not-false _ (sym n ∙ not-true _ (c .if1 .taken))))
+    sym (deciding-stop w (start .pre .0) (start .pre .1 .0) (at-loop-test .loop-test .taken) (at-base-of .base-of .ensures .0) (at-loop .loop .inv .1) (not-false _ (sym n ∙ not-true _ (c .if1 .taken))))
 
 loop-less : tie.Need-loop-less Inv-loop μ-loop
 loop-less c = omega arith
 
 loop-again : tie.Need-loop-again Inv-loop μ-loop
-loop-again c = let S = c .before .before .before .before .before .before .before .before .before in
-    let w = S .args .words .now in
+loop-again c =
+    let at-base-of = c .before .before .before .before in
+    let at-loop-test = at-base-of .before in
+    let at-loop = at-loop-test .before in
+    let start = at-loop .before .before .before in
+    let w = start .args .words .now in
     let n = rw zero-add at (c .before .before .row-add .ensures .0) in
     let put = rw zero-add at (c .before .before .row-add .ensures .1) in
-    (omega arith, rw put (deciding-next w (S .pre .0) (S .pre .1 .0) (c .before .before .before .before .before .loop-test .taken) (c .before .before .before .before .base-of .ensures .0) (c .before .before .before .before .before .before .loop .inv .1) (not-true _ (sym n ∙ not-false _ (c .if1 .left)))))
+    (omega arith, rw put (deciding-next w (start .pre .0) (start .pre .1 .0) (at-loop-test .loop-test .taken) (at-base-of .base-of .ensures .0) (at-loop .loop .inv .1) (not-true _ (sym n ∙ not-false _ (c .if1 .left)))))
 
 returns-2 : tie.Need-returns-2 Inv-loop μ-loop
 returns-2 c = let S = c .before .before .before .before in

@@ -26,8 +26,13 @@ same-length : tie.Need-same-length
 same-length c = search needs
 
 returns : tie.Need-returns
-returns c = let a = c .before .before .before .before .before .before .before .before .before .before .before .before .args in
-    puts-as (head-made (a .words .now) (a .site .block .0) (a .site .op .0) (a .mark) (a .count) (c .before .before .before .before .before .before .before .base-ptr .ensures .0) (c .before .before .before .before .before .kind-words .ensures ∙ ap kindWords (c .before .before .before .before .before .before .alloc-kind .ensures))) (c .before .before .put-words .ensures)
+returns c =
+    let at-kind-words = c .before .before .before .before .before in
+    let at-alloc-kind = at-kind-words .before in
+    let at-base-ptr = at-alloc-kind .before in
+    let start = at-base-ptr .before .before .before .before .before in
+    let a = start .args in
+    puts-as (head-made (a .words .now) (a .site .block .0) (a .site .op .0) (a .mark) (a .count) (at-base-ptr .base-ptr .ensures .0) (at-kind-words .kind-words .ensures ∙ ap kindWords (at-alloc-kind .alloc-kind .ensures))) (c .before .before .put-words .ensures)
 
 pub put-head-spec : {M : Type 1} → statement M
 put-head-spec =

@@ -15,7 +15,10 @@ same-length : tie.Need-same-length
 same-length c = search needs
 
 returns : tie.Need-returns
-returns c = let a = c .before .before .before .before .before .before .before .args in finished (a .words .now) (a .out .now) (c .before .before .before .before .finish .ensures) (c .before .before .put-words .ensures)
+returns c =
+    let at-finish = c .before .before .before .before in
+    let start = at-finish .before .before .before in
+    let a = start .args in finished (a .words .now) (a .out .now) (at-finish .finish .ensures) (c .before .before .put-words .ensures)
 
 pub words-answer-spec : {M : Type 1} → statement M
 words-answer-spec = tie.close (tie.spec finish-requires put-words-requires same-length returns)

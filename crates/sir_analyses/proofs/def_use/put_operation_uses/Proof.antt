@@ -24,60 +24,80 @@ loop-holds : tie.Need-loop-holds Inv-loop μ-loop
 loop-holds c = putting-none
 
 cast-put-same : tie.Need-cast-put-same Inv-loop μ-loop
-cast-put-same c = let S = c .before .before .before .before .before .before .before in
+cast-put-same c =
+    let at-operations = c .before .before .before in
+    let start = at-operations .before .before .before .before in
     let L = c .before .before .loop in
-    let r = S .pre .0 .in-range .ops-range (S .args .b .0) (S .pre .1 .0 .0) in
-    let h : L .o < operations (S .args .words .now) = omega (arith, r, c .before .before .before .operations .ensures, c .before .loop-test .taken) in
-    let m = S .pre .0 .sized .operations-most in
-    omega (arith, S .pre .1 .0 .1)
+    let r = start .pre .0 .in-range .ops-range (start .args .b .0) (start .pre .1 .0 .0) in
+    let h : L .o < operations (start .args .words .now) = omega (arith, r, at-operations .operations .ensures, c .before .loop-test .taken) in
+    let m = start .pre .0 .sized .operations-most in
+    omega (arith, start .pre .1 .0 .1)
 
 mul-put-same : tie.Need-mul-put-same Inv-loop μ-loop
-mul-put-same c = let S = c .before .before .before .before .before .before .before in
+mul-put-same c =
+    let at-operations = c .before .before .before in
+    let start = at-operations .before .before .before .before in
     let L = c .before .before .loop in
-    let r = S .pre .0 .in-range .ops-range (S .args .b .0) (S .pre .1 .0 .0) in
-    let h : L .o < operations (S .args .words .now) = omega (arith, r, c .before .before .before .operations .ensures, c .before .loop-test .taken) in
-    let m = S .pre .0 .sized .operations-most in
-    omega (arith, S .pre .1 .0 .1)
+    let r = start .pre .0 .in-range .ops-range (start .args .b .0) (start .pre .1 .0 .0) in
+    let h : L .o < operations (start .args .words .now) = omega (arith, r, at-operations .operations .ensures, c .before .loop-test .taken) in
+    let m = start .pre .0 .sized .operations-most in
+    omega (arith, start .pre .1 .0 .1)
 
 shared-slice-read-put-same : tie.Need-shared-slice-read-put-same Inv-loop μ-loop
-shared-slice-read-put-same c = let S = c .before .before .before .before .before .before .before .before in
-    let L = c .before .before .before .loop in
-    let r = S .pre .0 .in-range .ops-range (S .args .b .0) (S .pre .1 .0 .0) in
-    let h : L .o < operations (S .args .words .now) = omega (arith, r, c .before .before .before .before .operations .ensures, c .before .before .loop-test .taken) in
-    let m = S .pre .0 .sized .operations-most in
-    omega (arith, S .pre .1 .0 .1)
+shared-slice-read-put-same c =
+    let at-loop = c .before .before .before in
+    let at-operations = at-loop .before in
+    let start = at-operations .before .before .before .before in
+    let L = at-loop .loop in
+    let r = start .pre .0 .in-range .ops-range (start .args .b .0) (start .pre .1 .0 .0) in
+    let h : L .o < operations (start .args .words .now) = omega (arith, r, at-operations .operations .ensures, c .before .before .loop-test .taken) in
+    let m = start .pre .0 .sized .operations-most in
+    omega (arith, start .pre .1 .0 .1)
 
 put-same-requires : tie.Need-put-same-requires Inv-loop μ-loop
-put-same-requires c κs = let S = c .before .before .before .before .before .before .before .before in
-    let L = c .before .before .before .loop in
-    let e = operation-next (S .args .words .now) (S .args .counts .now) (S .args .b .0) (L .o) (c .before .before .before .before .operations .result .end) (c .before .before .loop-test .taken) in
-    let q = putting-count (sameUses (S .args .b .0) (L .o) (getD (S .args .counts .now) (L .o) 0)) (operationsLeft (S .args .words .now) (S .args .counts .now) (S .args .b .0) (L .o + 1) (c .before .before .before .before .operations .result .end)) {k = 2 ^ 59} (omega (arith, ap length (span-is (S .args .words .now) (S .args .counts .now) (S .args .b .0) _ _ (c .before .before .before .before .operations .ensures .0) (c .before .before .before .before .operations .ensures .1)), S .pre .1 .1 .1)) (putting-as e (L .inv)) in
-    (omega (arith, S .pre .1 .1 .0, L .inv .long), omega (arith, q, same-uses-length (S .args .b .0) (L .o) (getD (S .args .counts .now) (L .o) 0)))
+put-same-requires c κs =
+    let at-loop = c .before .before .before in
+    let at-operations = at-loop .before in
+    let start = at-operations .before .before .before .before in
+    let L = at-loop .loop in
+    let e = operation-next (start .args .words .now) (start .args .counts .now) (start .args .b .0) (L .o) (at-operations .operations .result .end) (c .before .before .loop-test .taken) in
+    let q = putting-count (sameUses (start .args .b .0) (L .o) (getD (start .args .counts .now) (L .o) 0)) (operationsLeft (start .args .words .now) (start .args .counts .now) (start .args .b .0) (L .o + 1) (at-operations .operations .result .end)) {k = 2 ^ 59} (omega (arith, ap length (span-is (start .args .words .now) (start .args .counts .now) (start .args .b .0) _ _ (at-operations .operations .ensures .0) (at-operations .operations .ensures .1)), start .pre .1 .1 .1)) (putting-as e (L .inv)) in
+    (omega (arith, start .pre .1 .1 .0, L .inv .long), omega (arith, q, same-uses-length (start .args .b .0) (L .o) (getD (start .args .counts .now) (L .o) 0)))
 
 add-o : tie.Need-add-o Inv-loop μ-loop
-add-o c = let S = c .before .before .before .before .before .before .before .before .before .before .before in
-    let L = c .before .before .before .before .before .before .loop in
-    let r = S .pre .0 .in-range .ops-range (S .args .b .0) (S .pre .1 .0 .0) in
-    let h : L .o < operations (S .args .words .now) = omega (arith, r, c .before .before .before .before .before .before .before .operations .ensures, c .before .before .before .before .before .loop-test .taken) in
-    let m = S .pre .0 .sized .operations-most in
-    omega (arith, S .pre .1 .0 .1)
+add-o c =
+    let at-loop-test = c .before .before .before .before .before in
+    let at-loop = at-loop-test .before in
+    let at-operations = at-loop .before in
+    let start = at-operations .before .before .before .before in
+    let L = at-loop .loop in
+    let r = start .pre .0 .in-range .ops-range (start .args .b .0) (start .pre .1 .0 .0) in
+    let h : L .o < operations (start .args .words .now) = omega (arith, r, at-operations .operations .ensures, at-loop-test .loop-test .taken) in
+    let m = start .pre .0 .sized .operations-most in
+    omega (arith, start .pre .1 .0 .1)
 
 loop-less : tie.Need-loop-less Inv-loop μ-loop
 loop-less c = omega arith
 
 loop-again : tie.Need-loop-again Inv-loop μ-loop
-loop-again c = let S = c .before .before .before .before .before .before .before .before .before .before .before in
-    let L = c .before .before .before .before .before .before .loop in
-    let e = operation-next (S .args .words .now) (S .args .counts .now) (S .args .b .0) (L .o) (c .before .before .before .before .before .before .before .operations .result .end) (c .before .before .before .before .before .loop-test .taken) in
-    putting-more (S .pre .1 .1 .0) (putting-as e (L .inv)) (c .before .before .put-same .ensures)
+loop-again c =
+    let at-loop-test = c .before .before .before .before .before in
+    let at-loop = at-loop-test .before in
+    let at-operations = at-loop .before in
+    let start = at-operations .before .before .before .before in
+    let L = at-loop .loop in
+    let e = operation-next (start .args .words .now) (start .args .counts .now) (start .args .b .0) (L .o) (at-operations .operations .result .end) (at-loop-test .loop-test .taken) in
+    putting-more (start .pre .1 .1 .0) (putting-as e (L .inv)) (c .before .before .put-same .ensures)
 
 same-length : tie.Need-same-length Inv-loop μ-loop
 same-length c = c .before .loop .inv .long
 
 returns : tie.Need-returns Inv-loop μ-loop
-returns c = let S = c .before .before .before .before .before .before in
+returns c =
+    let at-shared-slice-known = c .before .before .before .before .before in
+    let start = at-shared-slice-known .before in
     let L = c .before .loop in
-    puts-as (span-is (S .args .words .now) (S .args .counts .now) (S .args .b .0) _ _ (c .before .before .operations .ensures .0) (c .before .before .operations .ensures .1)) (putting-all (operation-end (S .args .words .now) (S .args .counts .now) (S .args .b .0) (L .o) _ (c .loop-test .left)) (L .inv))
+    puts-as (span-is (start .args .words .now) (start .args .counts .now) (start .args .b .0) _ _ (c .before .before .operations .ensures .0) (c .before .before .operations .ensures .1)) (putting-all (operation-end (start .args .words .now) (start .args .counts .now) (start .args .b .0) (L .o) _ (c .loop-test .left)) (L .inv))
 
 pub put-operation-uses-spec : {M : Type 1} → statement M
 put-operation-uses-spec =

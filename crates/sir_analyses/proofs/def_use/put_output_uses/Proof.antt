@@ -37,44 +37,59 @@ shared-slice-read-v : tie.Need-shared-slice-read-v Inv-loop μ-loop
 shared-slice-read-v c = omega arith
 
 add-k : tie.Need-add-k Inv-loop μ-loop
-add-k c = let S = c .before .before .before .before .before .before in
+add-k c =
+    let at-outputs = c .before .before .before in
+    let start = at-outputs .before .before .before in
     let L = c .before .before .loop in
-    omega (arith, ap length (c .before .before .before .outputs .ensures), outputs-most (S .args .words .now) (S .args .local .0) (S .args .b .0) (L .k) (S .pre .0) (S .pre .1 .0), c .before .loop-test .taken)
+    omega (arith, ap length (at-outputs .outputs .ensures), outputs-most (start .args .words .now) (start .args .local .0) (start .args .b .0) (L .k) (start .pre .0) (start .pre .1 .0), c .before .loop-test .taken)
 
 put-triple-requires : tie.Need-put-triple-requires Inv-loop μ-loop
-put-triple-requires c κs = let S = c .before .before .before .before .before .before .before .before .before in
-    let L = c .before .before .before .before .before .loop in
-    let w = S .args .words .now in
-    let is = c .before .before .before .before .before .before .outputs .ensures in
-    let h : L .k < length (outputs w (S .args .b .0)) = omega (arith, ap length is, c .before .before .before .before .loop-test .taken) in
-    let same : getD (c .before .before .before .before .before .before .outputs .result .now) (L .k) 0 ≡ getD (outputs w (S .args .b .0)) (L .k) 0 = ap (λ (l : List ℕ). getD l (L .k) 0) is in
-    let e = output-here w (S .args .local .0) (S .args .b .0) (L .k) h (sym same ∙ c .before .if1 .taken) in
-    (omega (arith, S .pre .1 .1 .0, L .inv .1 .long), omega (arith, putting-count (S .args .b .0 ∷ 2 ∷ L .k ∷ []) (outputsLeft w (S .args .local .0) (S .args .b .0) (L .k + 1)) (S .pre .1 .1 .1) (putting-as e (L .inv .1))))
+put-triple-requires c κs =
+    let at-loop-test = c .before .before .before .before in
+    let at-loop = at-loop-test .before in
+    let at-outputs = at-loop .before in
+    let start = at-outputs .before .before .before in
+    let L = at-loop .loop in
+    let w = start .args .words .now in
+    let is = at-outputs .outputs .ensures in
+    let h : L .k < length (outputs w (start .args .b .0)) = omega (arith, ap length is, at-loop-test .loop-test .taken) in
+    let same : getD (at-outputs .outputs .result .now) (L .k) 0 ≡ getD (outputs w (start .args .b .0)) (L .k) 0 = ap (λ (l : List ℕ). getD l (L .k) 0) is in
+    let e = output-here w (start .args .local .0) (start .args .b .0) (L .k) h (sym same ∙ c .before .if1 .taken) in
+    (omega (arith, start .pre .1 .1 .0, L .inv .1 .long), omega (arith, putting-count (start .args .b .0 ∷ 2 ∷ L .k ∷ []) (outputsLeft w (start .args .local .0) (start .args .b .0) (L .k + 1)) (start .pre .1 .1 .1) (putting-as e (L .inv .1))))
 
 loop-less : tie.Need-loop-less Inv-loop μ-loop
 loop-less c = omega arith
 
 loop-again : tie.Need-loop-again Inv-loop μ-loop
-loop-again c = let S = c .before .before .before .before .before .before .before .before .before .before .before .before in
-    let L = c .before .before .before .before .before .before .before .before .loop in
-    let w = S .args .words .now in
-    let is = c .before .before .before .before .before .before .before .before .before .outputs .ensures in
-    let h : L .k < length (outputs w (S .args .b .0)) = omega (arith, ap length is, c .before .before .before .before .before .before .before .loop-test .taken) in
-    let same : getD (c .before .before .before .before .before .before .before .before .before .outputs .result .now) (L .k) 0 ≡ getD (outputs w (S .args .b .0)) (L .k) 0 = ap (λ (l : List ℕ). getD l (L .k) 0) is in
-    let e = output-here w (S .args .local .0) (S .args .b .0) (L .k) h (sym same ∙ c .before .before .before .before .if1 .taken) in
-    (omega arith, putting-more (S .pre .1 .1 .0) (putting-as e (L .inv .1)) (c .before .before .put-triple .ensures))
+loop-again c =
+    let at-if1 = c .before .before .before .before in
+    let at-loop-test = at-if1 .before .before .before in
+    let at-loop = at-loop-test .before in
+    let at-outputs = at-loop .before in
+    let start = at-outputs .before .before .before in
+    let L = at-loop .loop in
+    let w = start .args .words .now in
+    let is = at-outputs .outputs .ensures in
+    let h : L .k < length (outputs w (start .args .b .0)) = omega (arith, ap length is, at-loop-test .loop-test .taken) in
+    let same : getD (at-outputs .outputs .result .now) (L .k) 0 ≡ getD (outputs w (start .args .b .0)) (L .k) 0 = ap (λ (l : List ℕ). getD l (L .k) 0) is in
+    let e = output-here w (start .args .local .0) (start .args .b .0) (L .k) h (sym same ∙ at-if1 .if1 .taken) in
+    (omega arith, putting-more (start .pre .1 .1 .0) (putting-as e (L .inv .1)) (c .before .before .put-triple .ensures))
 
 loop-less-2 : tie.Need-loop-less-2 Inv-loop μ-loop
 loop-less-2 c = omega arith
 
 loop-again-2 : tie.Need-loop-again-2 Inv-loop μ-loop
-loop-again-2 c = let S = c .before .before .before .before .before .before .before .before in
-    let L = c .before .before .before .before .loop in
-    let w = S .args .words .now in
-    let is = c .before .before .before .before .before .outputs .ensures in
-    let h : L .k < length (outputs w (S .args .b .0)) = omega (arith, ap length is, c .before .before .before .loop-test .taken) in
-    let same : getD (c .before .before .before .before .before .outputs .result .now) (L .k) 0 ≡ getD (outputs w (S .args .b .0)) (L .k) 0 = ap (λ (l : List ℕ). getD l (L .k) 0) is in
-    (omega arith, putting-as (output-other w (S .args .local .0) (S .args .b .0) (L .k) h (λ y. c .if1 .left (same ∙ y))) (L .inv .1))
+loop-again-2 c =
+    let at-loop-test = c .before .before .before in
+    let at-loop = at-loop-test .before in
+    let at-outputs = at-loop .before in
+    let start = at-outputs .before .before .before in
+    let L = at-loop .loop in
+    let w = start .args .words .now in
+    let is = at-outputs .outputs .ensures in
+    let h : L .k < length (outputs w (start .args .b .0)) = omega (arith, ap length is, at-loop-test .loop-test .taken) in
+    let same : getD (at-outputs .outputs .result .now) (L .k) 0 ≡ getD (outputs w (start .args .b .0)) (L .k) 0 = ap (λ (l : List ℕ). getD l (L .k) 0) is in
+    (omega arith, putting-as (output-other w (start .args .local .0) (start .args .b .0) (L .k) h (λ y. c .if1 .left (same ∙ y))) (L .inv .1))
 
 same-length : tie.Need-same-length Inv-loop μ-loop
 same-length c = c .before .loop .inv .1 .long

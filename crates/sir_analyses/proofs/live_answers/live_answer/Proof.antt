@@ -40,8 +40,13 @@ slice-aggregate-live-sets-5 : tie.Need-slice-aggregate-live-sets-5
 slice-aggregate-live-sets-5 c = search needs
 
 live-sets-requires : tie.Need-live-sets-requires
-live-sets-requires c κs = let r = c .before .before .before .before .before .before .before .before .before .before .before .before .before .before .pre in
-    (r .0, (r .1 .0, (c .before .before .before .before .before .before .before .operand-sets .ensures, (refl, refl, refl))))
+live-sets-requires c κs =
+    let at-writes2 = c .before .before .before .before .before in
+    let at-operand-sets = at-writes2 .before .before in
+    let at-shared-slice-known2 = at-operand-sets .before .before .before .before .before in
+    let start = at-shared-slice-known2 .before .before in
+    let r = start .pre in
+    (r .0, (r .1 .0, (at-operand-sets .operand-sets .ensures, (refl, refl, refl))))
 
 enum-known-question : tie.Need-enum-known-question
 enum-known-question c = search needs
@@ -56,9 +61,14 @@ slice-aggregate-entry-answer-3 : tie.Need-slice-aggregate-entry-answer-3
 slice-aggregate-entry-answer-3 c = search needs
 
 entry-answer-requires : tie.Need-entry-answer-requires
-entry-answer-requires c κs = let s = c .before .before .before .before .before .before .before .before .before .before .before .before .before .before .before .before .before .before .before .before .before .before .before .before .before in
-    let r = s .pre in
-    (r .0, ((r .1 .0 .0, c .before .before .before .before .before .before .before .before .before .before .live-sets .ensures .1), known-below blocks _ (s .args .words .now) (own-as Question.OfLiveness (s .args .words .now) (c .before .before .before .before .before .question .given .1) (s .pre .1 .1))))
+entry-answer-requires c κs =
+    let at-question = c .before .before .before .before .before in
+    let at-live-sets = at-question .before .before .before .before .before in
+    let at-reads3 = at-live-sets .before .before .before .before .before in
+    let at-reads = at-reads3 .before .before .before .before .before in
+    let start = at-reads .before .before .before .before .before in
+    let r = start .pre in
+    (r .0, ((r .1 .0 .0, at-live-sets .live-sets .ensures .1), known-below blocks _ (start .args .words .now) (own-as Question.OfLiveness (start .args .words .now) (at-question .question .given .1) (start .pre .1 .1))))
 
 enum-known-question-2 : tie.Need-enum-known-question-2
 enum-known-question-2 c = search needs
@@ -70,12 +80,22 @@ cast-row-of : tie.Need-cast-row-of
 cast-row-of c = search needs
 
 row-of-requires : tie.Need-row-of-requires
-row-of-requires c κs = let s = c .before .before .before .before .before .before .before .before .before .before .before .before .before .before .before .before .before .before .before .before .before .before .before in
-    omega (arith, known-below blocks _ (s .args .words .now) (own-as Question.OfLiveness (s .args .words .now) (c .before .before .before .question2 .given .1) (s .pre .1 .1)), c .before .before .before .before .before .before .before .before .live-sets .ensures .1 .exits-long, s .pre .0 .sized .blocks-most)
+row-of-requires c κs =
+    let at-question2 = c .before .before .before in
+    let at-live-sets = at-question2 .before .before .before .before .before in
+    let at-reads3 = at-live-sets .before .before .before .before .before in
+    let at-reads = at-reads3 .before .before .before .before .before in
+    let start = at-reads .before .before .before .before .before in
+    omega (arith, known-below blocks _ (start .args .words .now) (own-as Question.OfLiveness (start .args .words .now) (at-question2 .question2 .given .1) (start .pre .1 .1)), at-live-sets .live-sets .ensures .1 .exits-long, start .pre .0 .sized .blocks-most)
 
 set-answer-requires : tie.Need-set-answer-requires
-set-answer-requires c κs = let s = c .before .before .before .before .before .before .before .before .before .before .before .before .before .before .before .before .before .before .before .before .before .before .before .before .before in
-    row-answer (s .pre .0) (c .before .before .before .before .before .before .before .before .before .before .live-sets .ensures .1) (known-below blocks _ (s .args .words .now) (own-as Question.OfLiveness (s .args .words .now) (c .before .before .before .before .before .question2 .given .1) (s .pre .1 .1))) (c .before .row-of .ensures) .0
+set-answer-requires c κs =
+    let at-question2 = c .before .before .before .before .before in
+    let at-live-sets = at-question2 .before .before .before .before .before in
+    let at-reads3 = at-live-sets .before .before .before .before .before in
+    let at-reads = at-reads3 .before .before .before .before .before in
+    let start = at-reads .before .before .before .before .before in
+    row-answer (start .pre .0) (at-live-sets .live-sets .ensures .1) (known-below blocks _ (start .args .words .now) (own-as Question.OfLiveness (start .args .words .now) (at-question2 .question2 .given .1) (start .pre .1 .1))) (c .before .row-of .ensures) .0
 
 enum-known-question-3 : tie.Need-enum-known-question-3
 enum-known-question-3 c = search needs
@@ -90,10 +110,16 @@ slice-aggregate-intervals-answer-3 : tie.Need-slice-aggregate-intervals-answer-3
 slice-aggregate-intervals-answer-3 c = search needs
 
 intervals-answer-requires : tie.Need-intervals-answer-requires
-intervals-answer-requires c κs = let s = c .before .before .before .before .before .before .before .before .before .before .before .before .before .before .before .before .before .before .before .before .before .before .before .before .before in
-    let r = s .pre in
-    let l = c .before .before .before .before .before .before .before .before .before .before .live-sets .ensures .1 in
-    (r .0, ((r .1 .0 .1, c .before .before .before .before .before .before .before .before .before .before .before .before .before .before .before .before .before .before .operand-sets .ensures), (l .exits-long, l .exit-rows, known-below locals _ (s .args .words .now) (own-as Question.OfLiveness (s .args .words .now) (c .before .before .before .before .before .question3 .given .1) (s .pre .1 .1)))))
+intervals-answer-requires c κs =
+    let at-question3 = c .before .before .before .before .before in
+    let at-live-sets = at-question3 .before .before .before .before .before in
+    let at-reads3 = at-live-sets .before .before .before .before .before in
+    let at-operand-sets = at-reads3 .before .before .before in
+    let at-shared-slice-known2 = at-operand-sets .before .before .before .before .before in
+    let start = at-shared-slice-known2 .before .before in
+    let r = start .pre in
+    let l = at-live-sets .live-sets .ensures .1 in
+    (r .0, ((r .1 .0 .1, at-operand-sets .operand-sets .ensures), (l .exits-long, l .exit-rows, known-below locals _ (start .args .words .now) (own-as Question.OfLiveness (start .args .words .now) (at-question3 .question3 .given .1) (start .pre .1 .1)))))
 
 enum-told : tie.Need-enum-told
 enum-told c = search needs
@@ -108,30 +134,56 @@ same-length : tie.Need-same-length
 same-length c = search needs
 
 returns : tie.Need-returns
-returns c = let a = c .before .before .before .before .before .before .before .before .before .before .before .before .before .before .before .before .before .before .before .before .before .before .before .before .before .before .before .before .args in
-    c .before .before .entry-answer .ensures ∙ answered-as Question.OfLiveness (a .words .now) (c .before .before .before .before .before .before .before .before .question .given .1) (a .out .now)
+returns c =
+    let at-defs3 = c .before .before .before .before .before in
+    let at-question = at-defs3 .before .before .before in
+    let at-live-sets = at-question .before .before .before .before .before in
+    let at-reads3 = at-live-sets .before .before .before .before .before in
+    let at-reads = at-reads3 .before .before .before .before .before in
+    let start = at-reads .before .before .before .before .before in
+    let a = start .args in
+    c .before .before .entry-answer .ensures ∙ answered-as Question.OfLiveness (a .words .now) (at-question .question .given .1) (a .out .now)
 
 same-length-2 : tie.Need-same-length-2
 same-length-2 c = search needs
 
 returns-2 : tie.Need-returns-2
-returns-2 c = let s = c .before .before .before .before .before .before .before .before .before .before .before .before .before .before .before .before .before .before .before .before .before .before .before .before .before .before .before .before in
-    let a = s .args in
-    c .before .before .set-answer .ensures ∙ ap (λ (l : List ℕ). answered (bind l bytesOf) (a .out .now)) (row-answer (s .pre .0) (c .before .before .before .before .before .before .before .before .before .before .before .before .before .live-sets .ensures .1) (known-below blocks _ (s .args .words .now) (own-as Question.OfLiveness (s .args .words .now) (c .before .before .before .before .before .before .before .before .question2 .given .1) (s .pre .1 .1))) (c .before .before .before .before .row-of .ensures) .1) ∙ answered-as Question.OfLiveness (a .words .now) (c .before .before .before .before .before .before .before .before .question2 .given .1) (a .out .now)
+returns-2 c =
+    let at-row-of = c .before .before .before .before in
+    let at-question2 = at-row-of .before .before .before .before in
+    let at-live-sets = at-question2 .before .before .before .before .before in
+    let at-reads3 = at-live-sets .before .before .before .before .before in
+    let at-reads = at-reads3 .before .before .before .before .before in
+    let start = at-reads .before .before .before .before .before in
+    let a = start .args in
+    c .before .before .set-answer .ensures ∙ ap (λ (l : List ℕ). answered (bind l bytesOf) (a .out .now)) (row-answer (start .pre .0) (at-live-sets .live-sets .ensures .1) (known-below blocks _ (start .args .words .now) (own-as Question.OfLiveness (start .args .words .now) (at-question2 .question2 .given .1) (start .pre .1 .1))) (at-row-of .row-of .ensures) .1) ∙ answered-as Question.OfLiveness (a .words .now) (at-question2 .question2 .given .1) (a .out .now)
 
 same-length-3 : tie.Need-same-length-3
 same-length-3 c = search needs
 
 returns-3 : tie.Need-returns-3
-returns-3 c = let a = c .before .before .before .before .before .before .before .before .before .before .before .before .before .before .before .before .before .before .before .before .before .before .before .before .before .before .before .before .args in
-    c .before .before .intervals-answer .ensures ∙ answered-as Question.OfLiveness (a .words .now) (c .before .before .before .before .before .before .before .before .question3 .given .1) (a .out .now)
+returns-3 c =
+    let at-writes4 = c .before .before .before .before .before in
+    let at-question3 = at-writes4 .before .before .before in
+    let at-live-sets = at-question3 .before .before .before .before .before in
+    let at-reads3 = at-live-sets .before .before .before .before .before in
+    let at-reads = at-reads3 .before .before .before .before .before in
+    let start = at-reads .before .before .before .before .before in
+    let a = start .args in
+    c .before .before .intervals-answer .ensures ∙ answered-as Question.OfLiveness (a .words .now) (at-question3 .question3 .given .1) (a .out .now)
 
 same-length-4 : tie.Need-same-length-4
 same-length-4 c = search needs
 
 returns-4 : tie.Need-returns-4
-returns-4 c = let a = c .before .before .before .before .before .before .before .before .before .before .before .before .before .before .before .before .before .before .before .before .before .before .before .before .before .args in
-    c .before .before .words-answer .ensures ∙ ap (λ (n : ℕ). answered (bind (n ∷ []) bytesOf) (a .out .now)) (c .before .before .before .before .before .before .before .before .before .before .live-sets .ensures .0) ∙ answered-as Question.OfLiveness (a .words .now) (c .before .before .before .before .before .enum-told .given .1) (a .out .now)
+returns-4 c =
+    let at-enum-told = c .before .before .before .before .before in
+    let at-live-sets = at-enum-told .before .before .before .before .before in
+    let at-reads3 = at-live-sets .before .before .before .before .before in
+    let at-reads = at-reads3 .before .before .before .before .before in
+    let start = at-reads .before .before .before .before .before in
+    let a = start .args in
+    c .before .before .words-answer .ensures ∙ ap (λ (n : ℕ). answered (bind (n ∷ []) bytesOf) (a .out .now)) (at-live-sets .live-sets .ensures .0) ∙ answered-as Question.OfLiveness (a .words .now) (at-enum-told .enum-told .given .1) (a .out .now)
 
 pub live-answer-spec : {M : Type 1} → statement M
 live-answer-spec =

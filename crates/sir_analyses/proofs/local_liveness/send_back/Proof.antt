@@ -93,21 +93,31 @@ part-send-all-end-2 : tie.Need-part-send-all-end-2
 part-send-all-end-2 c = search needs
 
 send-all-requires : tie.Need-send-all-requires
-send-all-requires c κs = let s = c .before .before .before .before .before .before .before .before .before .before .before .before .before .before .before .before .before .before .before .before .before .before .before .before .before .before .before .before .before .before .before .before .before .before .before .before .before .before in
-    let w = s .args .words .now in
-    let b : ℕ = s .args .b .0 in
-    let k = c .before .before .before .before .before .before .before .list in
-    let p = c .before .before .before .before .before .before .before .before .before .before .before .before .part-inputs in
-    let new = c .before .before .before .before .before .before .before .before .before .before .before .before .before .before .before .before .before .before .before .before .before .before .before .before .row-difference-with .last .0 in
-    let ids : take (k .result - 0) (k .last .1 .0) ≡ members (rowOf (s .args .preds .now) b) = listed (c .before .before .before .before .before .before .before .before .before .row-of2 .result .now) _ (k .ensures .0) (k .ensures .1) ∙ ap members (c .before .before .before .before .before .before .before .before .before .row-of2 .ensures) in
+send-all-requires c κs =
+    let at-ids3 = c .before .before .before .before .before in
+    let at-list = at-ids3 .before .before in
+    let at-row-of2 = at-list .before .before in
+    let at-part-inputs = at-row-of2 .before .before .before in
+    let at-row-union-with = at-part-inputs .before .before .before .before .before in
+    let at-new4 = at-row-union-with .before .before .before .before .before in
+    let at-row-difference-with = at-new4 .before .before in
+    let at-entry = at-row-difference-with .before .before .before .before .before in
+    let at-shared-slice-known4 = at-entry .before .before .before .before .before in
+    let start = at-shared-slice-known4 .before .before .before .before in
+    let w = start .args .words .now in
+    let b : ℕ = start .args .b .0 in
+    let k = at-list .list in
+    let p = at-part-inputs .part-inputs in
+    let new = at-row-difference-with .row-difference-with .last .0 in
+    let ids : take (k .result - 0) (k .last .1 .0) ≡ members (rowOf (start .args .preds .now) b) = listed (at-row-of2 .row-of2 .result .now) _ (k .ensures .0) (k .ensures .1) ∙ ap members (at-row-of2 .row-of2 .ensures) in
     let z : p .result - 0 ≡ p .result = omega arith in
     let parts : Parted w b new (p .last .1 .1 .0) (take (p .result - 0) (p .last .1 .1 .1 .0)) = subst (λ (j : ℕ). Parted w b new (p .last .1 .1 .0) (take j (p .last .1 .1 .1 .0))) (sym z) (p .ensures .1) in (
-      s .pre .0,
+      start .pre .0,
       (
-        (omega (arith, p .kept, c .before .before .before .before .before .before .before .before .before .before .before .before .before .before .before .before .before .before .before .before .before .before .before .before .row-difference-with .kept, c .before .before .before .before .before .before .before .before .before .before .before .before .before .before .before .before .before .before .before .before .before .before .before .before .before .before .before .before .before .entry .ensures .0), s .pre .1 .1 .1 .1),
+        (omega (arith, p .kept, at-row-difference-with .row-difference-with .kept, at-entry .entry .ensures .0), start .pre .1 .1 .1 .1),
         (
-          λ q m. listed-below (s .pre .0) b (s .pre .1 .0) (s .pre .1 .1 .0 .1) q (subst (λ (xs : List ℕ). q ∈ xs) ids m),
-          λ q i m n. moved-below (s .pre .0) b (s .pre .1 .0) (s .pre .1 .1 .0 .1) q (subst (λ (xs : List ℕ). q ∈ xs) ids m) parts i n,
+          λ q m. listed-below (start .pre .0) b (start .pre .1 .0) (start .pre .1 .1 .0 .1) q (subst (λ (xs : List ℕ). q ∈ xs) ids m),
+          λ q i m n. moved-below (start .pre .0) b (start .pre .1 .0) (start .pre .1 .1 .0 .1) q (subst (λ (xs : List ℕ). q ∈ xs) ids m) parts i n,
         ),
       ),
     )

@@ -18,31 +18,43 @@ slice-aggregate-put-uses : tie.Need-slice-aggregate-put-uses
 slice-aggregate-put-uses c = search needs
 
 put-uses-requires : tie.Need-put-uses-requires
-put-uses-requires c κs = let s = c .before .before .before .before .before .before .before .before in
-    let k = c .before .before .before .input-counts .ensures in
-    (s .pre .0, ((s .pre .1, k .wide), (omega arith, omega (arith, uses-most (s .args .words .now) (s .pre .0) (s .args .v .0) k))))
+put-uses-requires c κs =
+    let at-input-counts = c .before .before .before in
+    let start = at-input-counts .before .before .before .before .before in
+    let k = at-input-counts .input-counts .ensures in
+    (start .pre .0, ((start .pre .1, k .wide), (omega arith, omega (arith, uses-most (start .args .words .now) (start .pre .0) (start .args .v .0) k))))
 
 finish-requires : tie.Need-finish-requires
-finish-requires c κs = let s = c .before .before .before .before .before .before .before .before .before .before .before in
-    let k = c .before .before .before .before .before .before .input-counts .ensures in
-    omega (arith, c .before .before .put-uses .ensures .next, uses-most (s .args .words .now) (s .pre .0) (s .args .v .0) k)
+finish-requires c κs =
+    let at-counts2 = c .before .before .before .before .before in
+    let at-input-counts = at-counts2 .before in
+    let start = at-input-counts .before .before .before .before .before in
+    let k = at-input-counts .input-counts .ensures in
+    omega (arith, c .before .before .put-uses .ensures .next, uses-most (start .args .words .now) (start .pre .0) (start .args .v .0) k)
 
 slice-aggregate-put-uses-2 : tie.Need-slice-aggregate-put-uses-2
 slice-aggregate-put-uses-2 c = search needs
 
 put-uses-requires-2 : tie.Need-put-uses-requires-2
-put-uses-requires-2 c κs = let s = c .before .before .before .before .before .before .before .before .before .before .before .before .before .before in
-    let k = c .before .before .before .before .before .before .before .before .before .input-counts .ensures in
-    (s .pre .0, ((s .pre .1, k .wide), (finish-fits (c .before .before .finish .ensures), omega (arith, uses-most (s .args .words .now) (s .pre .0) (s .args .v .0) k))))
+put-uses-requires-2 c κs =
+    let at-put-uses = c .before .before .before .before .before in
+    let at-input-counts = at-put-uses .before .before .before .before in
+    let start = at-input-counts .before .before .before .before .before in
+    let k = at-input-counts .input-counts .ensures in
+    (start .pre .0, ((start .pre .1, k .wide), (finish-fits (c .before .before .finish .ensures), omega (arith, uses-most (start .args .words .now) (start .pre .0) (start .args .v .0) k))))
 
 same-length : tie.Need-same-length
 same-length c = search needs
 
 returns : tie.Need-returns
-returns c = let s = c .before .before .before .before .before .before .before .before .before .before .before .before .before .before .before .before .before in
-    let a = s .args in
-    let e = uses-are (a .words .now) (s .pre .0) (a .v .0) (c .before .before .before .before .before .before .before .before .before .before .before .before .input-counts .ensures) in
-    count-write (usesAnswer (a .words .now) (a .v .0)) (a .out .now) (puts-as e (c .before .before .before .before .before .before .before .before .put-uses .ensures)) (c .before .before .before .before .before .finish .ensures) (puts-as e (c .before .before .put-uses2 .ensures))
+returns c =
+    let at-finish = c .before .before .before .before .before in
+    let at-put-uses = at-finish .before .before .before in
+    let at-input-counts = at-put-uses .before .before .before .before in
+    let start = at-input-counts .before .before .before .before .before in
+    let a = start .args in
+    let e = uses-are (a .words .now) (start .pre .0) (a .v .0) (at-input-counts .input-counts .ensures) in
+    count-write (usesAnswer (a .words .now) (a .v .0)) (a .out .now) (puts-as e (at-put-uses .put-uses .ensures)) (at-finish .finish .ensures) (puts-as e (c .before .before .put-uses2 .ensures))
 
 pub uses-answer-spec : {M : Type 1} → statement M
 uses-answer-spec =

@@ -22,18 +22,28 @@ array-share-prefix-order : tie.Need-array-share-prefix-order
 array-share-prefix-order c = search needs
 
 slice-aggregate-words-answer : tie.Need-slice-aggregate-words-answer
-slice-aggregate-words-answer c = let k = c .before .before .order-words .ensures in
-    front-length _ _ (omega (arith, k .next, k .long, c .before .before .before .before .before .before .pre))
+slice-aggregate-words-answer c =
+    let at-shared-slice-known = c .before .before .before .before .before in
+    let start = at-shared-slice-known .before in
+    let k = c .before .before .order-words .ensures in
+    front-length _ _ (omega (arith, k .next, k .long, start .pre))
 
 words-answer-requires : tie.Need-words-answer-requires
-words-answer-requires c κs = omega (arith, ap length (c .before .before .before .order-words .ensures .list), c .before .before .before .before .before .before .before .pre)
+words-answer-requires c κs =
+    let at-order-words = c .before .before .before in
+    let start = at-order-words .before .before .before .before in
+    omega (arith, ap length (at-order-words .order-words .ensures .list), start .pre)
 
 same-length : tie.Need-same-length
 same-length c = search needs
 
 returns : tie.Need-returns
-returns c = let a = c .before .before .before .before .before .before .before .before .before .before .args in
-    c .before .before .words-answer .ensures ∙ ap (λ (l : List ℕ). answered (bind l bytesOf) (a .out .now)) (c .before .before .before .before .before .before .order-words .ensures .list)
+returns c =
+    let at-order2 = c .before .before .before .before .before in
+    let at-order-words = at-order2 .before in
+    let start = at-order-words .before .before .before .before in
+    let a = start .args in
+    c .before .before .words-answer .ensures ∙ ap (λ (l : List ℕ). answered (bind l bytesOf) (a .out .now)) (at-order-words .order-words .ensures .list)
 
 pub visit-answer-spec : {M : Type 1} → statement M
 visit-answer-spec =

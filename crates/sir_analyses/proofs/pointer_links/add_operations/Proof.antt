@@ -34,10 +34,12 @@ cast-row-add : tie.Need-cast-row-add Inv-loop μ-loop
 cast-row-add c = omega arith
 
 row-add-requires : tie.Need-row-add-requires Inv-loop μ-loop
-row-add-requires c κs = let s = c .before .before .before .before .before .before in
+row-add-requires c κs =
+    let at-operations = c .before .before .before in
+    let start = at-operations .before .before .before in
     let l = c .before .before .loop in
-    let h : l .o < operations (s .args .words .now) = omega (arith, s .pre .0 .in-range .ops-range (s .args .b .0) (s .pre .1 .0), c .before .before .before .operations .ensures) in
-    (omega (arith, s .pre .0 .sized .operations-most, l .inv .2 .long), omega arith)
+    let h : l .o < operations (start .args .words .now) = omega (arith, start .pre .0 .in-range .ops-range (start .args .b .0) (start .pre .1 .0), at-operations .operations .ensures) in
+    (omega (arith, start .pre .0 .sized .operations-most, l .inv .2 .long), omega arith)
 
 add-o : tie.Need-add-o Inv-loop μ-loop
 add-o c = omega arith
@@ -46,10 +48,13 @@ loop-less : tie.Need-loop-less Inv-loop μ-loop
 loop-less c = omega arith
 
 loop-again : tie.Need-loop-again Inv-loop μ-loop
-loop-again c = let l = c .before .before .before .before .before .loop in
+loop-again c =
+    let at-loop = c .before .before .before .before .before in
+    let at-operations = at-loop .before in
+    let l = at-loop .loop in
     let n : 512 * (l .o / 512) + l .o % 512 ≡ l .o = omega arith in
     let a : Adds (l .met) (λ r i. eqb (512 * r + i) (l .o)) (c .before .before .row-add .last .0) = rw (c .before .before .row-add .ensures .1, n) (adds-number (l .met) (l .o)) in
-    (omega arith, omega arith, adds-as (λ r i h. range-more (512 * r + i) (c .before .before .before .before .before .before .operations .result .start) (l .o) (l .inv .0)) (adds-then (l .inv .2) a))
+    (omega arith, omega arith, adds-as (λ r i h. range-more (512 * r + i) (at-operations .operations .result .start) (l .o) (l .inv .0)) (adds-then (l .inv .2) a))
 
 same-length : tie.Need-same-length Inv-loop μ-loop
 same-length c = c .before .loop .inv .2 .long

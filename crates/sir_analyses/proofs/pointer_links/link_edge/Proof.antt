@@ -40,13 +40,23 @@ mul-row-add-2 : tie.Need-mul-row-add-2 Inv-loop μ-loop
 mul-row-add-2 c = omega arith
 
 shared-slice-read-row-add-2 : tie.Need-shared-slice-read-row-add-2 Inv-loop μ-loop
-shared-slice-read-row-add-2 c = let s = c .before .before .before .before .before .before .before .before .before in
-    edge-places (s .pre .0) (s .args .b .0) (s .args .s .0) (c .before .before .before .before .loop .k) (c .before .before .before .before .before .before .outputs .ensures) (c .before .before .before .before .before .inputs .ensures) (s .pre .1 .0) (s .pre .1 .1) (c .before .before .before .loop-test .taken) .0
+shared-slice-read-row-add-2 c =
+    let at-loop-test = c .before .before .before in
+    let at-loop = at-loop-test .before in
+    let at-inputs = at-loop .before in
+    let at-outputs = at-inputs .before in
+    let start = at-outputs .before .before .before in
+    edge-places (start .pre .0) (start .args .b .0) (start .args .s .0) (at-loop .loop .k) (at-outputs .outputs .ensures) (at-inputs .inputs .ensures) (start .pre .1 .0) (start .pre .1 .1) (at-loop-test .loop-test .taken) .0
 
 row-add-requires : tie.Need-row-add-requires Inv-loop μ-loop
-row-add-requires c κs = let s = c .before .before .before .before .before .before .before .before .before in
-    let l = c .before .before .before .before .loop in
-    let p = edge-places (s .pre .0) (s .args .b .0) (s .args .s .0) (l .k) (c .before .before .before .before .before .before .outputs .ensures) (c .before .before .before .before .before .inputs .ensures) (s .pre .1 .0) (s .pre .1 .1) (c .before .before .before .loop-test .taken) in
+row-add-requires c κs =
+    let at-loop-test = c .before .before .before in
+    let at-loop = at-loop-test .before in
+    let at-inputs = at-loop .before in
+    let at-outputs = at-inputs .before in
+    let start = at-outputs .before .before .before in
+    let l = at-loop .loop in
+    let p = edge-places (start .pre .0) (start .args .b .0) (start .args .s .0) (l .k) (at-outputs .outputs .ensures) (at-inputs .inputs .ensures) (start .pre .1 .0) (start .pre .1 .1) (at-loop-test .loop-test .taken) in
     (omega (arith, l .inv .1 .long, p .1), p .2)
 
 add-k : tie.Need-add-k Inv-loop μ-loop
@@ -56,11 +66,17 @@ loop-less : tie.Need-loop-less Inv-loop μ-loop
 loop-less c = omega arith
 
 loop-again : tie.Need-loop-again Inv-loop μ-loop
-loop-again c = let s = c .before .before .before .before .before .before .before .before .before .before .before .before in
-    let l = c .before .before .before .before .before .before .before .loop in
-    let xs = c .before .before .before .before .before .before .before .before .before .outputs .result .now in
-    let ys = c .before .before .before .before .before .before .before .before .inputs .result .now in
-    let p = edge-places (s .pre .0) (s .args .b .0) (s .args .s .0) (l .k) (c .before .before .before .before .before .before .before .before .before .outputs .ensures) (c .before .before .before .before .before .before .before .before .inputs .ensures) (s .pre .1 .0) (s .pre .1 .1) (c .before .before .before .before .before .before .loop-test .taken) in
+loop-again c =
+    let at-row-add-arg = c .before .before .before .before .before in
+    let at-loop-test = at-row-add-arg .before in
+    let at-loop = at-loop-test .before in
+    let at-inputs = at-loop .before in
+    let at-outputs = at-inputs .before in
+    let start = at-outputs .before .before .before in
+    let l = at-loop .loop in
+    let xs = at-outputs .outputs .result .now in
+    let ys = at-inputs .inputs .result .now in
+    let p = edge-places (start .pre .0) (start .args .b .0) (start .args .s .0) (l .k) (at-outputs .outputs .ensures) (at-inputs .inputs .ensures) (start .pre .1 .0) (start .pre .1 .1) (at-loop-test .loop-test .taken) in
     let a : Adds (l .links) (passed xs ys (l .k)) (c .before .before .row-add .last .0) = rw (c .before .before .row-add .ensures .1) (adds-one (l .links) (getD xs (l .k) 0) (getD ys (l .k) 0) (p .2)) in
     (omega arith, adds-counted (passed xs ys) (l .k) (l .inv .1) a)
 
@@ -68,10 +84,12 @@ same-length : tie.Need-same-length Inv-loop μ-loop
 same-length c = c .before .loop .inv .1 .long
 
 returns : tie.Need-returns Inv-loop μ-loop
-returns c = let s = c .before .before .before .before .before .before in
+returns c =
+    let at-outputs = c .before .before .before in
+    let start = at-outputs .before .before .before in
     let l = c .before .loop in
-    let e : l .k ≡ length (c .before .before .before .outputs .result .now) = omega arith in
-    rw (e, c .before .before .before .outputs .ensures, c .before .before .inputs .ensures) at (l .inv .1)
+    let e : l .k ≡ length (at-outputs .outputs .result .now) = omega arith in
+    rw (e, at-outputs .outputs .ensures, c .before .before .inputs .ensures) at (l .inv .1)
 
 pub link-edge-spec : {M : Type 1} → statement M
 link-edge-spec =

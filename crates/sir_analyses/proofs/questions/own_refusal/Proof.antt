@@ -94,35 +94,62 @@ returns : tie.Need-returns
 returns c = search needs
 
 returns-2 : tie.Need-returns-2
-returns-2 c = let w = c .before .before .before .before .before .before .before .before .before .before .args .words .now in
-    (rw (c .before .block-count .ensures) at (c .id-refusal .ensures)) ∙ ap (λ (q : OrderQuestion). first (ownRules (Question.OfOrder q) w)) (sym (c .before .before .before .q .given .1)) ∙ ap (λ (q : Question). first (ownRules q w)) (sym (c .before .before .before .before .before .before .question .given .1))
+returns-2 c =
+    let at-q = c .before .before .before in
+    let at-question = at-q .before .before .before in
+    let start = at-question .before .before .before .before in
+    let w = start .args .words .now in
+    (rw (c .before .block-count .ensures) at (c .id-refusal .ensures)) ∙ ap (λ (q : OrderQuestion). first (ownRules (Question.OfOrder q) w)) (sym (at-q .q .given .1)) ∙ ap (λ (q : Question). first (ownRules q w)) (sym (at-question .question .given .1))
 
 returns-3 : tie.Need-returns-3
-returns-3 c = let w = c .before .before .before .before .before .before .before .before .before .before .args .words .now in
-    (rw (c .before .local-count .ensures) at (c .id-refusal2 .ensures)) ∙ ap (λ (q : OrderQuestion). first (ownRules (Question.OfOrder q) w)) (sym (c .before .before .before .q2 .given .1)) ∙ ap (λ (q : Question). first (ownRules q w)) (sym (c .before .before .before .before .before .before .question .given .1))
+returns-3 c =
+    let at-q2 = c .before .before .before in
+    let at-question = at-q2 .before .before .before in
+    let start = at-question .before .before .before .before in
+    let w = start .args .words .now in
+    (rw (c .before .local-count .ensures) at (c .id-refusal2 .ensures)) ∙ ap (λ (q : OrderQuestion). first (ownRules (Question.OfOrder q) w)) (sym (at-q2 .q2 .given .1)) ∙ ap (λ (q : Question). first (ownRules q w)) (sym (at-question .question .given .1))
 
 returns-4 : tie.Need-returns-4
-returns-4 c = let w = c .before .before .before .before .before .before .before .before .before .before .args .words .now in
-    (rw (c .before .block-count2 .ensures) at (c .id-refusal3 .ensures)) ∙ ap (λ (q : LiveQuestion). first (ownRules (Question.OfLiveness q) w)) (sym (c .before .before .before .q3 .given .1)) ∙ ap (λ (q : Question). first (ownRules q w)) (sym (c .before .before .before .before .before .before .question2 .given .1))
+returns-4 c =
+    let at-q3 = c .before .before .before in
+    let at-question2 = at-q3 .before .before .before in
+    let start = at-question2 .before .before .before .before in
+    let w = start .args .words .now in
+    (rw (c .before .block-count2 .ensures) at (c .id-refusal3 .ensures)) ∙ ap (λ (q : LiveQuestion). first (ownRules (Question.OfLiveness q) w)) (sym (at-q3 .q3 .given .1)) ∙ ap (λ (q : Question). first (ownRules q w)) (sym (at-question2 .question2 .given .1))
 
 returns-5 : tie.Need-returns-5
-returns-5 c = let w = c .before .before .before .before .before .before .before .before .before .before .args .words .now in
-    (rw (c .before .block-count3 .ensures) at (c .id-refusal4 .ensures)) ∙ ap (λ (q : LiveQuestion). first (ownRules (Question.OfLiveness q) w)) (sym (c .before .before .before .q4 .given .1)) ∙ ap (λ (q : Question). first (ownRules q w)) (sym (c .before .before .before .before .before .before .question2 .given .1))
+returns-5 c =
+    let at-q4 = c .before .before .before in
+    let at-question2 = at-q4 .before .before .before in
+    let start = at-question2 .before .before .before .before in
+    let w = start .args .words .now in
+    (rw (c .before .block-count3 .ensures) at (c .id-refusal4 .ensures)) ∙ ap (λ (q : LiveQuestion). first (ownRules (Question.OfLiveness q) w)) (sym (at-q4 .q4 .given .1)) ∙ ap (λ (q : Question). first (ownRules q w)) (sym (at-question2 .question2 .given .1))
 
 returns-6 : tie.Need-returns-6
-returns-6 c = let w = c .before .before .before .before .before .before .before .before .before .before .args .words .now in
-    (rw (c .before .local-count2 .ensures) at (c .id-refusal5 .ensures)) ∙ ap (λ (q : LiveQuestion). first (ownRules (Question.OfLiveness q) w)) (sym (c .before .before .before .q5 .given .1)) ∙ ap (λ (q : Question). first (ownRules q w)) (sym (c .before .before .before .before .before .before .question2 .given .1))
+returns-6 c =
+    let at-q5 = c .before .before .before in
+    let at-question2 = at-q5 .before .before .before in
+    let start = at-question2 .before .before .before .before in
+    let w = start .args .words .now in
+    (rw (c .before .local-count2 .ensures) at (c .id-refusal5 .ensures)) ∙ ap (λ (q : LiveQuestion). first (ownRules (Question.OfLiveness q) w)) (sym (at-q5 .q5 .given .1)) ∙ ap (λ (q : Question). first (ownRules q w)) (sym (at-question2 .question2 .given .1))
 
 returns-7 : tie.Need-returns-7
 returns-7 c = search needs
 
 returns-8 : tie.Need-returns-8
-returns-8 c = let w = c .before .before .before .before .before .before .before .before .before .args .words .now in
-    (rw (ap length (c .before .before .before .before .before .before .before .before .before .pre .1 .0) ∙ keys-long w) at (c .id-refusal6 .ensures)) ∙ ap (λ (q : PointerQuestion). first (ownRules (Question.OfPointers q) w)) (sym (c .before .before .q6 .given .1)) ∙ ap (λ (q : Question). first (ownRules q w)) (sym (c .before .before .before .before .before .question3 .given .1))
+returns-8 c =
+    let at-question3 = c .before .before .before .before .before in
+    let start = at-question3 .before .before .before .before in
+    let w = start .args .words .now in
+    (rw (ap length (start .pre .1 .0) ∙ keys-long w) at (c .id-refusal6 .ensures)) ∙ ap (λ (q : PointerQuestion). first (ownRules (Question.OfPointers q) w)) (sym (c .before .before .q6 .given .1)) ∙ ap (λ (q : Question). first (ownRules q w)) (sym (at-question3 .question3 .given .1))
 
 returns-9 : tie.Need-returns-9
-returns-9 c = let w = c .before .before .before .before .before .before .before .before .before .before .args .words .now in
-    (rw (c .before .local-count3 .ensures) at (c .id-refusal7 .ensures)) ∙ ap (λ (q : PointerQuestion). first (ownRules (Question.OfPointers q) w)) (sym (c .before .before .before .q7 .given .1)) ∙ ap (λ (q : Question). first (ownRules q w)) (sym (c .before .before .before .before .before .before .question3 .given .1))
+returns-9 c =
+    let at-q7 = c .before .before .before in
+    let at-question3 = at-q7 .before .before .before in
+    let start = at-question3 .before .before .before .before in
+    let w = start .args .words .now in
+    (rw (c .before .local-count3 .ensures) at (c .id-refusal7 .ensures)) ∙ ap (λ (q : PointerQuestion). first (ownRules (Question.OfPointers q) w)) (sym (at-q7 .q7 .given .1)) ∙ ap (λ (q : Question). first (ownRules q w)) (sym (at-question3 .question3 .given .1))
 
 pub own-refusal-spec : {M : Type 1} → statement M
 own-refusal-spec =
