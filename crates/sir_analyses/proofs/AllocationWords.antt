@@ -1,6 +1,6 @@
 -- The locals that an allocation owns as a set, and the words of its answer.
 use mathlib.Core.Path.{_≡_, refl, sym, ap, _∙_}
-use mathlib.Core.Bool.{Bool, true, false, _&&_, _||_}
+use mathlib.Core.Bool.{Bool, true, false, _&&_, _||_, not}
 use mathlib.Core.List.{List, [], _∷_, _++_, append-nil, append-assoc}
 use Prim.Native.Nat.{ℕ, _+_, _-_, _*_, _/_, _%_, _≤_, _<_}
 use native.Mathlib.Omega.{arith}
@@ -73,9 +73,13 @@ module _ {w owner marks : List ℕ} (good : WellFormed w) (d : Discovered w owne
   pub owned-unmarked : {b o : ℕ} {set : List ℕ} → Site w a b o → (length set ≡ 8) × Below (λ v. eqb (getD owner v 0) (a + 1)) (locals w) set → Unmarked w b o set a
   owned-unmarked {b} {o} {set} x s = record { site = x; unmarked = u; long = s .0; same = owned-reach set (s .1) }
 
--- the table of marks tells
-pub mark-told : {w owner marks : List ℕ} → Discovered w owner marks → {a : ℕ} → a < length (allocs w) → {told t : Bool} → told ≡ contains marks (0 + a) → told ≡ t → marked w a ≡ t
-mark-told {marks = marks} d {a} l p q = let z : a ≡ 0 + a = omega arith in sym (d .mark-is a l) ∙ ap (contains marks) z ∙ sym p ∙ q
+-- the array of marks tells
+pub mark-told : {w owner marks : List ℕ} → Discovered w owner marks → {a : ℕ} → a < length (allocs w) → {told t : Bool} → told ≡ not (eqb (getD marks a 0) 0) → told ≡ t → marked w a ≡ t
+mark-told {w} d {a} l p q = sym (flag (marked w a)) ∙ ap (λ (k : ℕ). not (eqb k 0)) (sym (d .mark-is a l)) ∙ sym p ∙ q
+  where
+    flag : (m : Bool) → not (eqb (oneIf m) 0) ≡ m
+    flag true = refl
+    flag false = refl
 
 interval-count : (is : List Interval) → length (intervalWords is) ≡ 3 * length is
 interval-count [] = refl
@@ -123,25 +127,25 @@ module _ (w : List ℕ) {a b o : ℕ} (good : WellFormed w) (x : Site w a b o) w
   pub marked-long : marked w a ≡ true → 8 ≡ length (allocationAnswer w a)
   marked-long t = sym (head-long w b o 1 0) ∙ ap length (marked-answer t)
 
--- what a sweep for some locals puts behind the head
-abbrev Sweeps : List ℕ → List ℕ → ℕ → List ℕ → List ℕ → ℕ → Type 0
-Sweeps w set limit out out′ r = (s : Set) → length s ≡ locals w → Same set s → Puts limit 8 (intervalWords (sweepFrom w s (upto (blocks w)))) out out′ r
+-- what a sweep for some locals puts after the head
+abbrev Sweeps : List ℕ → List ℕ → List ℕ → List ℕ → ℕ → Type 0
+Sweeps w set out out′ r = (s : Set) → length s ≡ locals w → Same set s → Puts 8 (intervalWords (sweepFrom w s (upto (blocks w)))) out out′ r
 
 module _ {w set : List ℕ} {b o a : ℕ} (good : WellFormed w) (x : Unmarked w b o set a) where
-  swept : {limit r : ℕ} {out out′ : List ℕ} → Sweeps w set limit out out′ r → Puts limit 8 (intervalWords (merged w a)) out out′ r
+  swept : {r : ℕ} {out out′ : List ℕ} → Sweeps w set out out′ r → Puts 8 (intervalWords (merged w a)) out out′ r
   swept p = puts-as (ap intervalWords (sweep-merged w good a (x .unmarked))) (p (reach w (allocAt w a)) (reach-length w good a) (x .same))
 
   pub answer-long : length (allocationAnswer w a) ≡ 8 + length (intervalWords (merged w a))
   answer-long = sym (ap length (head-is w good (x .site) (oneIf (marked w a)) (length (merged w a)) refl refl)) ∙ length-append (headWords w b o (oneIf (marked w a)) (length (merged w a))) (intervalWords (merged w a)) ∙ rw (head-long w b o (oneIf (marked w a)) (length (merged w a)))
 
-  -- counting gives the number of words, and leaves the slice alone
-  pub swept-count : {n : ℕ} {out counted : List ℕ} → Sweeps w set 0 out counted n → (n ≡ length (allocationAnswer w a)) × (counted ≡ out)
-  swept-count {n} {out} {counted} p = let q = swept p in (omega (arith, q .next, answer-long), q .left ∙ puts-past 0 8 _ out (omega arith))
+  -- counting gives the number of words
+  pub swept-count : {n : ℕ} {out counted : List ℕ} → Sweeps w set out counted n → n ≡ length (allocationAnswer w a)
+  swept-count p = let q = swept p in omega (arith, q .next, answer-long)
 
-  pub swept-answer : {limit n m r : ℕ} {out headed left : List ℕ} → n ≡ length (allocationAnswer w a)
-      → Puts limit 0 (headWords w b o 0 ((n - 8) / 3)) out headed m → Sweeps w set limit headed left r → Puts limit 0 (allocationAnswer w a) out left r
-  swept-answer {limit} {n} {m} {r} {out} {headed} {left} e p q =
+  pub swept-answer : {n m r : ℕ} {out headed left : List ℕ} → n ≡ length (allocationAnswer w a)
+      → Puts 0 (headWords w b o 0 ((n - 8) / 3)) out headed m → Sweeps w set headed left r → Puts 0 (allocationAnswer w a) out left r
+  swept-answer {n} {m} {r} {out} {headed} {left} e p q =
       let z : (n - 8) / 3 ≡ length (merged w a) = omega (arith, e, answer-long, interval-count (merged w a)) in
       let g : m ≡ 8 = omega (arith, p .next, head-long w b o 0 ((n - 8) / 3)) in
-      let p′ : Puts limit 0 (headWords w b o 0 ((n - 8) / 3)) out headed 8 = rw g at p in
+      let p′ : Puts 0 (headWords w b o 0 ((n - 8) / 3)) out headed 8 = rw g at p in
       puts-as (head-is w good (x .site) 0 ((n - 8) / 3) (rw (x .unmarked) refl) z) (puts-then p′ (swept q))

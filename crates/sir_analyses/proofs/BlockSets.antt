@@ -1,7 +1,7 @@
 -- What the tables of operands, of use and def sets and of predecessors hold, step by step.
 use mathlib.Core.Path.{_≡_, refl, sym, ap, _∙_}
 use mathlib.Core.Logic.{⊎-elim}
-use mathlib.Core.Bool.{Bool, true, false, not, _&&_, _||_, or-true, or-false, or-comm, and-comm, and-or-distrib-left}
+use mathlib.Core.Bool.{Bool, true, false, not, _&&_, _||_, or-true, or-false, or-comm, and-true, and-comm, and-or-distrib-left}
 use mathlib.Core.List.{List, [], _∷_, List·Memᴰ·head, List·Memᴰ·tail, List·Memᴰ·append-cases}
 use Prim.Native.Nat.{ℕ, _+_, _*_, _≤_, _<_}
 use native.Mathlib.Omega.{arith}
@@ -88,59 +88,79 @@ ends-both w b a₁ a₂ =
 
 -- ---- a run of operations backwards: `os` are done
 
-pub run-starts : {w os exposed gives : List ℕ} → os ≡ [] → exposed ≡ replicate 8 0 → gives ≡ replicate 8 0 → RunSets w os exposed gives
-run-starts {w} e x g = rw e (record {
-  exposed-long = cleared-long _ 8 x;
-  given-long = cleared-long _ 8 g;
-  reads-first = λ v h. cleared-set x v;
-  gives = λ v h. cleared-set g v;
-})
+pub run-starts : {w os sets : List ℕ} → os ≡ [] → sets ≡ replicate 16 0 → RunSets w os sets
+run-starts {w} {os} {sets} e x = rw e (record { long = cleared-long sets 16 x; reads-first = λ v h. cleared-set v; defines = λ v h. cleared-set (512 + v) })
   where
-    cleared-set : {s : List ℕ} → s ≡ replicate 8 0 → (v : ℕ) → contains s v ≡ false
-    cleared-set q v = ap (λ (ws : List ℕ). contains ws v) q ∙ contains-cleared 8 v
+    cleared-set : (v : ℕ) → contains sets v ≡ false
+    cleared-set v = ap (λ (ws : List ℕ). contains ws v) x ∙ contains-cleared 16 v
 
 step-read : (r o i : Bool) → ((r && not o) || i) ≡ (i || (not o && r))
 step-read r o true = or-true (r && not o)
 step-read r o false = or-false (r && not o) ∙ and-comm r (not o)
 
-module _ {w os exposed gives : List ℕ} where
-  pub run-more : (reads writes : List ℕ) (o : ℕ) → OperandRows w reads writes → o < operations w → RunSets w os exposed gives
-      → RunSets w (o ∷ os) (rowUnion (rowDifference exposed 0 (rowOf writes o)) 0 (rowOf reads o)) (rowUnion gives 0 (rowOf writes o))
+module _ {w os sets : List ℕ} where
+  pub run-more : (reads writes : List ℕ) (o : ℕ) → OperandRows w reads writes → o < operations w → RunSets w os sets
+      → RunSets w (o ∷ os) (rowUnion (rowUnion (rowDifference sets 0 (rowOf writes o)) 0 (rowOf reads o)) 1 (rowOf writes o))
   run-more reads writes o rows l g =
-      let mid = rowDifference exposed 0 (rowOf writes o) in
-      let m : length mid ≡ length exposed = length-difference exposed 0 (rowOf writes o) in
+      let one = rowDifference sets 0 (rowOf writes o) in
+      let two = rowUnion one 0 (rowOf reads o) in
+      let a : length one ≡ 16 = length-difference sets 0 (rowOf writes o) ∙ g .long in
+      let b : length two ≡ 16 = length-union one 0 (rowOf reads o) ∙ a in
       let out : (v : ℕ) → v < 512 → contains (rowOf writes o) v ≡ mem v (outs w o) = λ v k. contains-row writes o v k ∙ rows .written o v l k in
       let inn : (v : ℕ) → v < 512 → contains (rowOf reads o) v ≡ mem v (ins w o) = λ v k. contains-row reads o v k ∙ rows .read o v l k in
       record {
-        exposed-long = length-union mid 0 (rowOf reads o) ∙ m ∙ g .exposed-long;
-        given-long = length-union gives 0 (rowOf writes o) ∙ g .given-long;
+        long = length-union two 1 (rowOf writes o) ∙ b;
         reads-first = λ v k.
-            set-union mid (rowOf reads o) v k (omega (arith, m, g .exposed-long))
-            ∙ rw (set-difference exposed (rowOf writes o) v k (omega (arith, g .exposed-long)), g .reads-first v k, out v k, inn v k)
+            in-first (rowUnion two 1 (rowOf writes o)) v
+            ∙ contains-union two 1 (rowOf writes o) 0 v k (omega (arith, b))
+            ∙ or-false (contains two (512 * 0 + v))
+            ∙ sym (in-first two v)
+            ∙ set-union one (rowOf reads o) v k (omega (arith, a))
+            ∙ rw (set-difference sets (rowOf writes o) v k (omega (arith, g .long)), g .reads-first v k, out v k, inn v k)
             (step-read (readFirst w [] os v) (mem v (outs w o)) (mem v (ins w o)));
-        gives = λ v k.
-            set-union gives (rowOf writes o) v k (omega (arith, g .given-long))
-            ∙ rw (g .gives v k, out v k) (or-comm (given w os v) (mem v (outs w o)));
+        defines = λ v k.
+            in-second (rowUnion two 1 (rowOf writes o)) v
+            ∙ contains-union two 1 (rowOf writes o) 1 v k (omega (arith, b))
+            ∙ ap (λ (t : Bool). t || contains (rowOf writes o) v)
+            (contains-union one 0 (rowOf reads o) 1 v k (omega (arith, a)) ∙ or-false (contains one (512 * 1 + v))
+            ∙ contains-difference sets 0 (rowOf writes o) 1 v k (omega (arith, g .long)) ∙ and-true (contains sets (512 * 1 + v))
+            ∙ sym (in-second sets v) ∙ g .defines v k)
+            ∙ ap (λ (t : Bool). given w os v || t) (out v k)
+            ∙ or-comm (given w os v) (mem v (outs w o));
       }
+    where
+      in-first : (t : List ℕ) (v : ℕ) → contains t v ≡ contains t (512 * 0 + v)
+      in-first t v = let e : v ≡ 512 * 0 + v = omega arith in ap (contains t) e
+
+      in-second : (t : List ℕ) (v : ℕ) → contains t (512 + v) ≡ contains t (512 * 1 + v)
+      in-second t v = let e : 512 + v ≡ 512 * 1 + v = omega arith in ap (contains t) e
+
+-- the two rows
+module _ {w os sets : List ℕ} (g : RunSets w os sets) (v : ℕ) (h : v < 512) where
+  exposed-is : contains (rowOf sets 0) v ≡ readFirst w [] os v
+  exposed-is = let e : 512 * 0 + v ≡ v = omega arith in contains-row sets 0 v h ∙ ap (contains sets) e ∙ g .reads-first v h
+
+  defined-is : contains (rowOf sets 1) v ≡ given w os v
+  defined-is = let e : 512 * 1 + v ≡ 512 + v = omega arith in contains-row sets 1 v h ∙ ap (contains sets) e ∙ g .defines v h
 
 -- ---- a block's rows from the sets of its operations
 
--- a row that was empty has what is exposed, and what is read behind the operations and not given by them
-pub row-used : {w : List ℕ} → WellFormed w → (b : ℕ) {u u₁ exposed gives : List ℕ} → b < blocks w → ((v : ℕ) → v < 512 → contains u (512 * b + v) ≡ false)
-    → Adds u (λ r v. eqb r b && mem v (endReads w b)) u₁ → RunSets w (ops w b) exposed gives
-    → Adds u (λ r v. eqb r b && has (useSet w b) v) (rowUnion (rowDifference u₁ b gives) b exposed)
-row-used {w} good b {u} {u₁} {exposed} {gives} l z a run = record {
-  long = length-union mid b exposed ∙ m ∙ a .long;
+-- a row that was empty has what is exposed, and what is read after the operations and not defined by them
+pub row-used : {w : List ℕ} → WellFormed w → (b : ℕ) {u u₁ sets : List ℕ} → b < blocks w → ((v : ℕ) → v < 512 → contains u (512 * b + v) ≡ false)
+    → Adds u (λ r v. eqb r b && mem v (endReads w b)) u₁ → RunSets w (ops w b) sets
+    → Adds u (λ r v. eqb r b && has (useSet w b) v) (rowUnion (rowDifference u₁ b (rowOf sets 1)) b (rowOf sets 0))
+row-used {w} good b {u} {u₁} {sets} l z a run = record {
+  long = length-union mid b (rowOf sets 0) ∙ m ∙ a .long;
   same = λ r v n h.
-      contains-union mid b exposed r v h (omega (arith, m, a .long))
-      ∙ rw (contains-difference u₁ b gives r v h (omega (arith, a .long)), a .same r v n h, run .gives v h, run .reads-first v h) (go r v h (eqb r b) refl);
+      contains-union mid b (rowOf sets 0) r v h (omega (arith, m, a .long))
+      ∙ rw (contains-difference u₁ b (rowOf sets 1) r v h (omega (arith, a .long)), a .same r v n h, defined-is run v h, exposed-is run v h) (go r v h (eqb r b) refl);
 }
   where
     mid : List ℕ
-    mid = rowDifference u₁ b gives
+    mid = rowDifference u₁ b (rowOf sets 1)
 
     m : length mid ≡ length u₁
-    m = length-difference u₁ b gives
+    m = length-difference u₁ b (rowOf sets 1)
 
     other : (x : Bool) → (((x || false) && true) || false) ≡ (x || false)
     other true = refl
@@ -153,6 +173,6 @@ row-used {w} good b {u} {u₁} {exposed} {gives} l z a run = record {
         (or-comm (mem v (endReads w b) && not (given w (ops w b) v)) (readFirst w [] (ops w b) v) ∙ sym (read-behind w (endReads w b) (ops w b) v) ∙ use-test good b v l)
     go r v h false q = other (contains u (512 * r + v))
 
-pub row-defined : {w : List ℕ} → WellFormed w → (b : ℕ) {exposed gives : List ℕ} → b < blocks w → (defs : List ℕ) → RunSets w (ops w b) exposed gives
-    → Adds defs (λ r v. eqb r b && has (defSet w b) v) (rowUnion defs b gives)
-row-defined good b {gives = gives} l defs run = adds-as (λ r v h. ap (λ (t : Bool). eqb r b && t) (run .gives v h ∙ def-test good b v l)) (adds-union defs b gives)
+pub row-defined : {w : List ℕ} → WellFormed w → (b : ℕ) {sets : List ℕ} → b < blocks w → (defs : List ℕ) → RunSets w (ops w b) sets
+    → Adds defs (λ r v. eqb r b && has (defSet w b) v) (rowUnion defs b (rowOf sets 1))
+row-defined good b {sets = sets} l defs run = adds-as (λ r v h. ap (λ (t : Bool). eqb r b && t) (defined-is run v h ∙ def-test good b v l)) (adds-union defs b (rowOf sets 1))

@@ -1,10 +1,11 @@
 -- Laws of calls.
-use mathlib.Core.Path.{_≡_, refl, sym, _∙_, subst}
+use mathlib.Core.Path.{_≡_, refl, sym, ap, _∙_, subst}
 use mathlib.Core.Bool.{Bool, true, false, not, cond}
 use Prim.Native.Nat.{ℕ, _*_, _≤_, _<_}
 use native.Mathlib.Omega.{arith}
-use mathlib.Core.List.{List, [], _∷_, _++_}
-use lib.ListN.{length, drop}
+use mathlib.Core.List.{List, [], _∷_, _++_, append-nil}
+use lib.ListN.{length, take, drop, length-append, drop-of-length-le}
+use lib.Seq.{length-take-le, take-at, drop-at}
 use lib.Dec.{eqb, ltb}
 use borrow.Author.Tests.{eq-eqb, ne-eqb, lt-ltb, le-ltb, ltb-true, ltb-false}
 use Rattle.plank_core.specs.Lists.{bind}
@@ -64,13 +65,9 @@ known-below count id w z = go (ltb id (count w)) refl z
 -- ---- an answer in words
 
 module _ (xs out : List ℕ) where
-  -- counting leaves the slice alone
-  pub counted : {r : ℕ} {out′ : List ℕ} → Puts 0 0 xs out out′ r → (r ≡ length xs) × (out′ ≡ out)
-  counted p = (omega (arith, p .next), p .left ∙ puts-past 0 0 xs out (omega arith))
-
   -- up to its length an answer is written whole, and a refused one not at all
-  pub finished : {number len r : ℕ} {out′ : List ℕ} → Finished (length xs) (length out) number len → Puts len 0 xs out out′ r → made number len out′ ≡ answered (bind xs bytesOf) out
-  finished {number} {len} {r} {out′} f p = go (ltb (length out) (4 * length xs)) refl
+  pub finished : {number len r : ℕ} {part out′ : List ℕ} → Finished (length xs) (length out) number len → Puts 0 xs (take len out) part r → out′ ≡ part ++ drop len out → made number len out′ ≡ answered (bind xs bytesOf) out
+  finished {number} {len} {r} {part} {out′} f p o = go (ltb (length out) (4 * length xs)) refl
     where
       e : length (bind xs bytesOf) ≡ 4 * length xs
       e = length-bytes xs
@@ -79,22 +76,28 @@ module _ (xs out : List ℕ) where
       go true q =
           let l : len ≡ 0 = rw q at (f .len-is) in
           let n : number ≡ 14 = rw q at (f .number-is) in
-          let o : out′ ≡ out = p .left ∙ puts-past len 0 xs out (omega arith) in
-          rw (e, q, n, l, o)
+          let z : out′ ≡ out = o ∙ ap (λ (k : List ℕ). k ++ drop len out) (p .left) ∙ rw l (rw (puts-past 0 0 xs [] (omega arith))) in
+          rw (e, q, n, l, z)
       go false q =
           let l : len ≡ 4 * length xs = rw q at (f .len-is) in
           let n : number ≡ 0 = rw q at (f .number-is) in
-          let o : out′ ≡ bind xs bytesOf ++ drop (4 * length xs) out = p .left ∙ puts-within len xs out (omega arith) (omega (arith, ltb-false (length out) (4 * length xs) q)) in
-          rw (e, q, n, l, o)
+          let h : 4 * length xs ≤ length out = ltb-false (length out) (4 * length xs) q in
+          let i : length (take (4 * length xs) out) ≡ 4 * length xs = length-take-le (4 * length xs) out h in
+          let w : part ≡ bind xs bytesOf ++ drop (4 * length xs) (take (4 * length xs) out) = p .left ∙ rw l (puts-within (length (take (4 * length xs) out)) xs (take (4 * length xs) out) (omega arith) (omega arith)) in
+          let d : drop (4 * length xs) (take (4 * length xs) out) ≡ [] = drop-of-length-le (take (4 * length xs) out) {i = 4 * length xs} (omega arith) in
+          let z : out′ ≡ bind xs bytesOf ++ drop (4 * length xs) out = o ∙ ap (λ (k : List ℕ). k ++ drop len out) (w ∙ ap (λ (k : List ℕ). bind xs bytesOf ++ k) d ∙ append-nil (bind xs bytesOf)) ∙ ap (λ (i : ℕ). bind xs bytesOf ++ drop i out) l in
+          rw (e, q, n, l, z)
 
-  pub finish-as : {number len n : ℕ} {mid : List ℕ} → n ≡ length xs → mid ≡ out → Finished n (length mid) number len → Finished (length xs) (length out) number len
-  finish-as {number} {len} {n} {mid} e m f = subst (λ (l : List ℕ). Finished (length xs) (length l) number len) m (subst (λ (i : ℕ). Finished i (length mid) number len) e f)
+  -- counted in an empty slice, then finished, then written
+  pub count-write : {number len n r : ℕ} {part out′ none : List ℕ} → Puts 0 xs [] none n → Finished n (length out) number len → Puts 0 xs (take len out) part r → out′ ≡ part ++ drop len out → made number len out′ ≡ answered (bind xs bytesOf) out
+  count-write {number} {len} {n} k f p o = let e : n ≡ length xs = omega (arith, k .next) in finished (subst (λ (i : ℕ). Finished i (length out) number len) e f) p o
 
-  -- counted, then finished, then written
-  pub count-write : {number len n r : ℕ} {mid out′ : List ℕ} → Puts 0 0 xs out mid n → Finished n (length mid) number len → Puts len 0 xs mid out′ r → made number len out′ ≡ answered (bind xs bytesOf) out
-  count-write {number} {len} k f p =
-      let c = counted k in
-      finished (finish-as (c .0) (c .1) f) (rw (c .1) at p)
+-- two calls in turn on the front of a slice: the second sees what the first left
+pub front-twice : (len : ℕ) (out head : List ℕ) → len ≤ length out → length head ≡ length (take len out) → (take len (head ++ drop len out) ≡ head) × (drop len (head ++ drop len out) ≡ drop len out)
+front-twice len out head h e = let l : length head ≡ len = e ∙ length-take-le len out h in (take-at head (drop len out) len l, drop-at head (drop len out) len l)
+
+pub front-fits : (len : ℕ) (out head : List ℕ) → len ≤ length out → length head ≡ length (take len out) → len ≤ length (head ++ drop len out)
+front-fits len out head h e = omega (arith, length-append head (drop len out), e ∙ length-take-le len out h)
 
 -- the length of an answer is within the slice
 pub finish-fits : {n room number len : ℕ} → Finished n room number len → len ≤ room

@@ -1,5 +1,6 @@
 pub mod OrderLaws
 pub mod Visiting
+pub mod Parts
 pub mod Writing
 pub mod Keys
 pub mod Loads
@@ -19,6 +20,7 @@ pub mod Growth
 pub mod Sending
 pub mod Stepping
 pub mod Passes
+pub mod LivenessTables
 pub mod Scanning
 pub mod SetAnswers
 pub mod BlockSets
@@ -46,6 +48,8 @@ pub mod Linking
 pub mod Following
 pub mod Discovery
 pub mod Turns
+pub mod PointerTables
+pub mod VisitTables
 pub mod SweepSteps
 pub mod SweepProof
 pub mod MergedIntervals

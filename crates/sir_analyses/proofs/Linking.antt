@@ -1,6 +1,6 @@
 -- What linking one local, and marking one allocation, does to the arrays and to the state that they show.
 use mathlib.Core.Path.{_≡_, refl, sym, ap, _∙_}
-use mathlib.Core.Bool.{Bool, true, false, _||_, cond, or-comm, or-false}
+use mathlib.Core.Bool.{Bool, true, false, _||_, cond, or-true, or-false}
 use mathlib.Core.List.{List, [], _∷_, _++_, reverse, List·Memᴰ·head, List·Memᴰ·not-nil, Memᴰ·append-left, Memᴰ·append-right}
 use Prim.Native.Nat.{ℕ, suc, _+_, _-_, _≤_, _<_}
 use native.Mathlib.Omega.{arith}
@@ -10,14 +10,12 @@ use lib.ListN.{length, getD, set, take, length-set, List·getD-eq-default, List�
 use lib.Seq.{getD-set-same, getD-set-other, take-suc, take-suc-set, take-all}
 use lib.Dec.{eqb}
 use borrow.Author.Tests.{eq-eqb, ne-eqb}
-use Rattle.plank_core.specs.Lists.{foldl}
-use Rattle.plank_core.specs.DenseIndexSet.{contains, added, members}
+use Rattle.plank_core.specs.Lists.{foldl, oneIf}
+use Rattle.plank_core.specs.DenseIndexSet.{members}
 use Rattle.plank_core.specs.laws.Loops.{reverse-snoc}
-use Rattle.plank_core.specs.laws.DenseIndexSet.{contains-added, length-added}
 use Rattle.sir_analyses.specs.Liveness.{Set, has, addAll}
-use Rattle.sir_analyses.specs.Tables.{Same}
 use Rattle.sir_analyses.specs.Propagation.{State, linkLocal, mark, follow}
-use Rattle.sir_analyses.specs.Discovery.{zeros, Room, StepTaken, SameWidth}
+use Rattle.sir_analyses.specs.Discovery.{zeros, Flags, Room, StepTaken, SameWidth}
 use Rattle.sir_analyses.proofs.SetLaws.{has-addAll, length-addAll}
 use Rattle.sir_analyses.proofs.Passes.{foldl-snoc}
 use Rattle.sir_analyses.proofs.SourceSteps.{zeros-fewer, zeros-no-more}
@@ -46,37 +44,41 @@ taken-set xs n y h = rw add-one (take-suc-set xs n y h)
 
 -- ---- marks
 
-pub same-mark : (marks : List ℕ) (ms : Set) (a : ℕ) → length marks ≡ 8 → a < length ms → Same marks ms → Same (added marks a) (addAll ms (a ∷ []))
-same-mark marks ms a long less e x h = go (decLt x (length ms))
+pub same-mark : (marks : List ℕ) (ms : Set) (a : ℕ) → length marks ≡ 512 → a < 512 → a < length ms → Flags marks ms → Flags (set marks a 1) (addAll ms (a ∷ []))
+same-mark marks ms a long small less e x h = go (ℕ-discrete x a) (decLt x (length ms))
   where
-    here : contains (added marks a) x ≡ (eqb x a || has ms x)
-    here = contains-added marks a x (omega (arith, long)) ∙ ap (λ (t : Bool). eqb x a || t) (e x h)
+    here : has (addAll ms (a ∷ [])) a ≡ (has ms a || (eqb a a || false)) → has (addAll ms (a ∷ [])) a ≡ true
+    here p = p ∙ rw (eq-eqb a a refl) (or-true (has ms a))
 
-    go : Dec (x < length ms) → contains (added marks a) x ≡ has (addAll ms (a ∷ [])) x
-    go (yes l) = here ∙ or-comm (eqb x a) (has ms x) ∙ ap (λ (t : Bool). has ms x || t) (sym (or-false (eqb x a))) ∙ sym (has-addAll ms (a ∷ []) x l)
-    go (no l) =
+    elsewhere : (x ≡ a → ⊥) → x < length ms → has (addAll ms (a ∷ [])) x ≡ has ms x
+    elsewhere q l = has-addAll ms (a ∷ []) x l ∙ rw (ne-eqb x a q) (or-false (has ms x))
+
+    go : Dec (x ≡ a) → Dec (x < length ms) → getD (set marks a 1) x 0 ≡ oneIf (has (addAll ms (a ∷ [])) x)
+    go (yes q) l = rw q (getD-set-same marks a 1 0 (omega (arith, long)) ∙ sym (ap oneIf (here (has-addAll ms (a ∷ []) a less))))
+    go (no q) (yes l) = getD-set-other marks a x 1 0 q ∙ e x h ∙ sym (ap oneIf (elsewhere q l))
+    go (no q) (no l) =
         let d : has ms x ≡ false = List·getD-eq-default ms false {n = x} (omega arith) in
         let d′ : has (addAll ms (a ∷ [])) x ≡ false = List·getD-eq-default (addAll ms (a ∷ [])) false {n = x} (omega (arith, length-addAll ms (a ∷ []))) in
-        here ∙ rw (d, d′, ne-eqb x a (λ q. omega arith)) refl
+        getD-set-other marks a x 1 0 q ∙ e x h ∙ rw (d, d′) refl
 
 module _ {owner marks work : List ℕ} {n : ℕ} (R : Room owner marks work n) (a : ℕ) where
-  pub room-mark : (m : ℕ) → Room owner (added marks m) work n
+  pub room-mark : (m : ℕ) → Room owner (set marks m 1) work n
   room-mark m = record {
     owner-long = R .owner-long;
-    marks-long = length-added marks m ∙ R .marks-long;
+    marks-long = length-set marks m 1 ∙ R .marks-long;
     work-long = R .work-long;
     owner-small = R .owner-small;
     work-small = R .work-small;
     room = R .room;
   }
 
-  pub marked-step : StepTaken [] a (mark a) owner marks work n owner (added marks a) work n
-  marked-step = record {
+  pub marked-step : a < 512 → StepTaken [] a (mark a) owner marks work n owner (set marks a 1) work n
+  marked-step small = record {
     room = room-mark a;
     same = λ s f l S. record {
       owner-is = S .owner-is;
       owner-known = λ v. rw length-addAll (S .owner-known v);
-      marks-are = same-mark marks (s .marks) a (R .marks-long) l (S .marks-are);
+      marks-are = same-mark marks (s .marks) a (R .marks-long) small l (S .marks-are);
       work-is = S .work-is;
     };
     cost = omega arith;
@@ -152,26 +154,22 @@ module _ {owner marks work : List ℕ} {n : ℕ} (R : Room owner marks work n) {
     }
 
     -- one that another had
-    both : (getD owner v 0 ≡ a + 1 → ⊥) → StepTaken (v ∷ []) a (λ s. linkLocal a s v) owner marks work n after (added (added marks a) (getD owner v 0 - 1)) work n
-    both d = record {
+    pub link-other : (getD owner v 0 ≡ a + 1 → ⊥) → StepTaken (v ∷ []) a (λ s. linkLocal a s v) owner marks work n after (set (set marks a 1) (getD owner v 0 - 1) 1) work n
+    link-other d = record {
       room = room-mark (room-mark room-owner a a) a (getD owner v 0 - 1);
       same = λ s f l S.
           let h = f v (List·Memᴰ·head refl) in
           let o : getD (s .owner) v 0 ≡ getD owner v 0 = sym (S .owner-is v h) in
           let k : getD owner v 0 - 1 < length (addAll (s .marks) (a ∷ [])) = omega (arith, S .owner-known v, length-addAll (s .marks) (a ∷ []), z) in
+          let j : getD owner v 0 - 1 < 512 = omega (arith, R .owner-small v, z) in
           rw (ne-eqb (getD (s .owner) v 0) 0 (λ q. z (sym o ∙ q)), ne-eqb (getD (s .owner) v 0) (suc a) (λ q. d (sym o ∙ q ∙ sym (add-one a))), o) (record {
             owner-is = rw add-one (set-both owner (s .owner) v (suc a) (omega (arith, R .owner-long)) h (S .owner-is));
             owner-known = λ x. rw length-set (rw length-set (set-most owner v (a + 1) (length (s .marks)) (omega arith) (S .owner-known) x));
-            marks-are = same-mark (added marks a) (addAll (s .marks) (a ∷ [])) (getD owner v 0 - 1) (length-added marks a ∙ R .marks-long) k (same-mark marks (s .marks) a (R .marks-long) l (S .marks-are));
+            marks-are = same-mark (set marks a 1) (addAll (s .marks) (a ∷ [])) (getD owner v 0 - 1) (length-set marks a 1 ∙ R .marks-long) j k (same-mark marks (s .marks) a (R .marks-long) ha l (S .marks-are));
             work-is = S .work-is;
           });
       cost = omega (arith, no-more);
     }
-
-    pub link-other : {mid last : List ℕ} → (getD owner v 0 ≡ a + 1 → ⊥) → mid ≡ added marks (0 + a) → last ≡ added mid (0 + (getD owner v 0 - 1)) → StepTaken (v ∷ []) a (λ s. linkLocal a s v) owner marks work n after last work n
-    link-other d e f = let p : 0 + a ≡ a = omega arith in
-        let q : 0 + (getD owner v 0 - 1) ≡ getD owner v 0 - 1 = omega arith in
-        rw (f, e, p, q) (both d)
 
 -- ---- some steps, one after the other
 
@@ -230,12 +228,12 @@ module _ {a : ℕ} {owner marks work : List ℕ} {n : ℕ} where
 
   -- and the mark behind them
   module _ {owner′ marks′ work′ : List ℕ} {m : ℕ} (xs : List ℕ) (P : StepTaken xs a (λ s. foldl (linkLocal a) s xs) owner marks work n owner′ marks′ work′ m) (t : Bool) where
-    pub follow-harmed : {last : List ℕ} → t ≡ true → last ≡ added marks′ (0 + a) → StepTaken xs a (follow xs t a) owner marks work n owner′ last work′ m
-    follow-harmed e f = let z : 0 + a ≡ a = omega arith in
-        let Q = marked-step (P .room) a in
+    pub follow-harmed : a < 512 → t ≡ true → StepTaken xs a (follow xs t a) owner marks work n owner′ (set marks′ a 1) work′ m
+    follow-harmed small e =
+        let Q = marked-step (P .room) a small in
         record {
-          room = rw (f, z) (Q .room);
-          same = λ s h l S. let w = links-width a xs s in rw (e, f, z) (Q .same (foldl (linkLocal a) s xs) (λ v k. absurd (List·Memᴰ·not-nil k)) (rw (w .marks-wide) l) (P .same s h l S));
+          room = Q .room;
+          same = λ s h l S. let w = links-width a xs s in rw e (Q .same (foldl (linkLocal a) s xs) (λ v k. absurd (List·Memᴰ·not-nil k)) (rw (w .marks-wide) l) (P .same s h l S));
           cost = P .cost;
         }
 

@@ -16,9 +16,9 @@ use Rattle.sir_analyses.specs.Order.{blocksRpo}
 use Rattle.sir_analyses.specs.Allocation.{rule12}
 use Rattle.sir_analyses.specs.Answers.{orderAnswer}
 use Rattle.sir_analyses.specs.Calls.{refusal}
-use Rattle.sir_analyses.specs.Visiting.{VisitedAll, SeenBlocks, blocksIn, orderIn, Listed}
+use Rattle.sir_analyses.specs.Visiting.{VisitedAll, blocksIn, orderIn, Listed}
 use Rattle.sir_analyses.specs.Discovery.{allocKeys, Capped}
-use Rattle.sir_analyses.specs.Loading.{Prepared}
+use Rattle.sir_analyses.specs.Stages.{OrderStage, AcceptedStage}
 use Rattle.sir_analyses.proofs.Discovery.{keys-long, keys-most, keys-over}
 use Rattle.sir_analyses.proofs.Keys.{blocks-rpo, order-answer, blocks-most, order-most, capped-past}
 
@@ -74,37 +74,21 @@ module _ {w seen post : List ℕ} {n : ℕ} (good : WellFormed w) (v : VisitedAl
 pub front-length : {A : Type 0} (n : ℕ) (xs : List A) → n ≤ length xs → n ≡ length (take n xs)
 front-length n xs h = sym (length-take-le n xs h)
 
--- the table of what was seen holds the visited blocks
-visited-seen : {w seen post : List ℕ} {n : ℕ} → WellFormed w → VisitedAll w seen post n → SeenBlocks w seen
-visited-seen good v = record {
-  wide = v .held .wide;
-  visited-is = λ b l. sym (v .shows .blocks-seen b (omega (arith, good .sized .blocks-most)));
-}
-
 -- more allocations than there can be bases
 pub found-over : {w old new : List ℕ} {r : ℕ} → WellFormed w → length old ≡ 512 → length new < r → Capped (allocKeys w) 0 old new r → rule12 w ≡ true
 found-over {w} {old} good long h k = keys-over w good (let p = capped-past h k in omega arith)
 
--- all is at hand
-pub prepared : {w words seen post old rpo oldKeys keys : List ℕ} {n k m a : ℕ} → n ≤ length words → take n words ≡ w → WellFormed (take n words) → VisitedAll (take n words) seen post k
-    → Listed (blocksIn (take k post)) 0 old rpo m → length old ≡ 256 → Listed (allocKeys (take n words)) 0 oldKeys keys a → a ≤ length keys → rule12 (take n words) ≡ false
-    → Prepared w words seen post rpo keys n k m a
-prepared {w} {words} {seen} {post} {old} {rpo} {oldKeys} {keys} {n} {k} {m} {a} fit is good v l long found room differ =
-    let order : orderIn (take k post) ≡ orderAnswer (take n words) = sym (order-answer (take n words) (v .shows)) in
-    record {
-      words-fit = fit;
-      words-are = is;
-      post-fit = keys-fit good v;
-      order-is = order;
-      order-fits = omega (arith, ap length order, order-most (take n words) good, good .sized .functions-most, good .sized .blocks-most);
-      rpo-fit = omega (arith, l .next, l .long, blocks-fit good v);
-      keys-fit = room;
-      ready = record {
-        well-formed = good;
-        seen-are = visited-seen good v;
-        rpo-is = rpo-is good v l;
-        bases-differ = differ;
-        keys-are = found .list;
-        keys-few = omega (arith, ap length (found .list), keys-long (take n words), keys-most (take n words) good differ);
-      };
-    }
+-- the words of the order
+pub order-stage : {w seen post : List ℕ} {n : ℕ} → WellFormed w → VisitedAll w seen post n → OrderStage w (take n post)
+order-stage {w} {post = post} {n = n} good v =
+    let e : orderIn (take n post) ≡ orderAnswer w = sym (order-answer w (v .shows)) in
+    record { order-is = e; order-fits = omega (arith, ap length e, order-most w good, good .sized .functions-most, good .sized .blocks-most) }
+
+-- rule 12 does not apply
+pub accepted-stage : {w old sites : List ℕ} {a : ℕ} → WellFormed w → Listed (allocKeys w) 0 old sites a → rule12 w ≡ false → AcceptedStage w (take a sites)
+accepted-stage {w} good found differ = record {
+  well-formed = good;
+  sites-are = found .list;
+  sites-few = omega (arith, ap length (found .list), keys-long w, keys-most w good differ);
+  bases-differ = differ;
+}

@@ -22,7 +22,7 @@ use Rattle.sir_analyses.specs.Answers.{intervalWords}
 use Rattle.sir_analyses.specs.Writing.{Puts}
 use Rattle.sir_analyses.specs.Tables.{Same, SameRows, OperandRows, EndRows}
 use Rattle.sir_analyses.specs.Sweep.{meet, nonempty, liveBefore, shut, note, Sweep, sweepEnd, sweepOp, sweepBlock, sweepFrom}
-use Rattle.sir_analyses.proofs.Writing.{Putting, putting-none, putting-as, putting-more, putting-all, puts-as, puts-length}
+use Rattle.sir_analyses.proofs.Writing.{Putting, putting-none, putting-as, putting-more, putting-all, puts-as, puts-long}
 use Rattle.sir_analyses.proofs.SetLaws.{has-less, has-addAll, has-removeAll, length-removeAll}
 use Rattle.sir_analyses.proofs.GenKill.{length-through}
 use Rattle.sir_analyses.proofs.Scans.{liveIn}
@@ -202,28 +202,28 @@ pub lent-most : (run : List ℕ) (k r : ℕ) → length run ≡ k → length (ta
 lent-most run k r e = omega (arith, length-take (k - r) (drop r run), length-drop r run)
 
 -- the blocks below b are put, the others are to come
-pub record Populating (w reach : List ℕ) (limit n : ℕ) (out₀ : List ℕ) (b : ℕ) (out : List ℕ) (m : ℕ) : Type 0 where
+pub record Populating (w reach : List ℕ) (n : ℕ) (out₀ : List ℕ) (b : ℕ) (out : List ℕ) (m : ℕ) : Type 0 where
   pub long : length out ≡ length out₀
   pub few : m ≤ n + 3075 * b
-  pub puts : (s : Set) → length s ≡ locals w → Same reach s → Putting limit n (intervalWords (sweepFrom w s (upto (blocks w)))) out₀ (blocksLeft w s b) out m
+  pub puts : (s : Set) → length s ≡ locals w → Same reach s → Putting n (intervalWords (sweepFrom w s (upto (blocks w)))) out₀ (blocksLeft w s b) out m
 
-pub populating-none : {w reach : List ℕ} {limit n : ℕ} {out : List ℕ} → Populating w reach limit n out 0 out n
+pub populating-none : {w reach : List ℕ} {n : ℕ} {out : List ℕ} → Populating w reach n out 0 out n
 populating-none {w} = record { long = refl; few = omega arith; puts = λ s e same. putting-as (left-all w s) putting-none }
 
-module _ {w reach : List ℕ} {limit n : ℕ} {out₀ : List ℕ} {b : ℕ} {out : List ℕ} {m : ℕ} (g : Populating w reach limit n out₀ b out m) where
-  pub populating-more : limit ≤ length out₀ → b < blocks w → isVisited w b ≡ true → (run : List ℕ) (r : ℕ) → length run ≡ 3075
+module _ {w reach : List ℕ} {n : ℕ} {out₀ : List ℕ} {b : ℕ} {out : List ℕ} {m : ℕ} (g : Populating w reach n out₀ b out m) where
+  pub populating-more : b < blocks w → isVisited w b ≡ true → (run : List ℕ) (r : ℕ) → length run ≡ 3075
       → ((s : Set) → length s ≡ locals w → Same reach s → drop r run ≡ intervalWords (sweepBlock w s b []))
-      → {out′ : List ℕ} {m′ : ℕ} → Puts limit m (take (3075 - r) (drop r run)) out out′ m′ → Populating w reach limit n out₀ (b + 1) out′ m′
-  populating-more h l t run r k f {out′} p =
+      → {out′ : List ℕ} {m′ : ℕ} → Puts m (take (3075 - r) (drop r run)) out out′ m′ → Populating w reach n out₀ (b + 1) out′ m′
+  populating-more l t run r k f {out′} p =
       let a : length (take (3075 - r) (drop r run)) ≤ 3075 = lent-most run 3075 r k in
       record {
-        long = ap length (p .left) ∙ puts-length limit m (take (3075 - r) (drop r run)) out (omega (arith, g .long)) ∙ g .long;
+        long = puts-long p ∙ g .long;
         few = omega (arith, p .next, g .few);
-        puts = λ s e same. putting-more h (putting-as (left-in w s b l t) (g .puts s e same)) (puts-as (ap (λ (n : ℕ). take (n - r) (drop r run)) (sym k) ∙ lent-end r run ∙ f s e same) p);
+        puts = λ s e same. putting-more (putting-as (left-in w s b l t) (g .puts s e same)) (puts-as (ap (λ (n : ℕ). take (n - r) (drop r run)) (sym k) ∙ lent-end r run ∙ f s e same) p);
       }
 
-  pub populating-on : b < blocks w → isVisited w b ≡ false → Populating w reach limit n out₀ (b + 1) out m
+  pub populating-on : b < blocks w → isVisited w b ≡ false → Populating w reach n out₀ (b + 1) out m
   populating-on l t = record { long = g .long; few = omega (arith, g .few); puts = λ s e same. putting-as (left-out w s b l t) (g .puts s e same) }
 
-  pub populating-all : blocks w ≤ b → (s : Set) → length s ≡ locals w → Same reach s → Puts limit n (intervalWords (sweepFrom w s (upto (blocks w)))) out₀ out m
+  pub populating-all : blocks w ≤ b → (s : Set) → length s ≡ locals w → Same reach s → Puts n (intervalWords (sweepFrom w s (upto (blocks w)))) out₀ out m
   populating-all l s e same = putting-all (left-none w s b l) (g .puts s e same)

@@ -5,12 +5,12 @@ use mathlib.Core.List.{List}
 use Prim.Native.Nat.{ℕ, suc, _+_, _≤_, _<_}
 use native.Mathlib.Omega.{arith}
 use native.Mathlib.Numerals.{add-one}
-use lib.ListN.{length, getD, replicate, length-replicate}
+use lib.ListN.{length, getD, replicate, length-replicate, getD-replicate}
 use lib.Dec.{eqb}
-use Rattle.plank_core.specs.Lists.{mem, _∈_}
+use Rattle.plank_core.specs.Lists.{mem, oneIf, _∈_}
 use Rattle.plank_core.specs.DenseIndexSet.{contains, rowOf}
 use Rattle.plank_core.specs.laws.Lists.{same-tests, mem-in, in-mem}
-use Rattle.plank_core.specs.laws.DenseIndexSet.{contains-row, contains-cleared}
+use Rattle.plank_core.specs.laws.DenseIndexSet.{contains-row}
 use Rattle.plank_core.specs.laws.Members.{member-in, member-is}
 use Rattle.sir_data.specs.Records.{locals}
 use Rattle.sir_data.specs.WellFormed.{WellFormed}
@@ -36,11 +36,11 @@ pub record Turned (w links harms owner marks work : List ℕ) (i : ℕ) : Type 0
 
 module _ (w : List ℕ) (good : WellFormed w) (twelve : rule12 w ≡ false) {links harms : List ℕ} where
   pub turned-starts : {owner marks work : List ℕ} → ((v : ℕ) → v < locals w → getD owner v 0 ≡ getD (bases w) v 0) → ((v : ℕ) → getD owner v 0 ≤ length (allocs w)) → length owner ≡ 512
-      → marks ≡ replicate 8 0 → length work ≡ 513 → Turned w links harms owner marks work 0
+      → marks ≡ replicate 512 0 → length work ≡ 513 → Turned w links harms owner marks work 0
   turned-starts {owner} {marks} {work} own most long clear wide = record {
     room = record {
       owner-long = long;
-      marks-long = cleared-long marks 8 clear;
+      marks-long = cleared-long marks 512 clear;
       work-long = wide;
       owner-small = λ v. omega (arith, most v, keys-most w good twelve);
       work-small = λ k h. absurd (omega arith);
@@ -51,7 +51,7 @@ module _ (w : List ℕ) (good : WellFormed w) (twelve : rule12 w ≡ false) {lin
     shown = record {
       owner-is = λ v h. own v (omega (arith, start-length w));
       owner-known = λ v. rw length-replicate (most v);
-      marks-are = λ x h. ap (λ (ws : List ℕ). contains ws x) clear ∙ contains-cleared 8 x ∙ sym (none-in (length (allocs w)) x);
+      marks-are = λ x h. ap (λ (ws : List ℕ). getD ws x 0) clear ∙ getD-replicate 512 x 0 0 h ∙ sym (ap oneIf (none-in (length (allocs w)) x));
       work-is = refl;
     };
     wide = start-length w;
@@ -90,7 +90,7 @@ module _ (w : List ℕ) (good : WellFormed w) (twelve : rule12 w ≡ false) {lin
         let F : Followed w (linksIn links) (contains harms) (length (allocs w)) (T .state) = rw e at (T .followed) in
         record {
           owner-is = λ v h. T .shown .owner-is v (rw (T .wide) h) ∙ ap (λ (o : List ℕ). getD o v 0) (followed-owners w good twelve (linksIn links) (contains harms) links-exact (rows .harmed) F);
-          mark-is = λ a h. T .shown .marks-are a (omega (arith, keys-most w good twelve)) ∙ followed-marks w good twelve (linksIn links) (contains harms) links-exact (rows .harmed) F a h;
+          mark-is = λ a h. T .shown .marks-are a (omega (arith, keys-most w good twelve)) ∙ ap oneIf (followed-marks w good twelve (linksIn links) (contains harms) links-exact (rows .harmed) F a h);
           reach-is = λ a v h free l.
               followed-reach w good twelve (linksIn links) (contains harms) links-exact (rows .harmed) F a v h free
               ∙ ap (λ (k : ℕ). eqb k (suc a)) (sym (T .shown .owner-is v (rw (T .wide) l)));

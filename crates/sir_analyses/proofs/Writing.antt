@@ -13,31 +13,34 @@ pub use Rattle.sir_analyses.specs.laws.Writing.{length-bytes, puts-past,
 
 -- ---- some words are put, the rest are to come
 
-pub record Putting (limit n₀ : ℕ) (full out₀ : List ℕ) (rest out : List ℕ) (n : ℕ) : Type 0 where
+pub record Putting (n₀ : ℕ) (full out₀ : List ℕ) (rest out : List ℕ) (n : ℕ) : Type 0 where
   pub count : n + length rest ≡ n₀ + length full
-  pub left : wordsPut limit n rest out ≡ wordsPut limit n₀ full out₀
+  pub left : wordsPut (length out₀) n rest out ≡ wordsPut (length out₀) n₀ full out₀
   pub long : length out ≡ length out₀
 
-module _ {limit n₀ : ℕ} {full out₀ : List ℕ} where
-  pub putting-none : Putting limit n₀ full out₀ full out₀ n₀
+module _ {n₀ : ℕ} {full out₀ : List ℕ} where
+  pub putting-none : Putting n₀ full out₀ full out₀ n₀
   putting-none = record { count = refl; left = refl; long = refl }
 
-  pub putting-as : {rest rest′ out : List ℕ} {n : ℕ} → rest ≡ rest′ → Putting limit n₀ full out₀ rest out n → Putting limit n₀ full out₀ rest′ out n
+  pub putting-as : {rest rest′ out : List ℕ} {n : ℕ} → rest ≡ rest′ → Putting n₀ full out₀ rest out n → Putting n₀ full out₀ rest′ out n
   putting-as e k = rw e at k
 
-  pub putting-more : {xs rest out out′ : List ℕ} {n n′ : ℕ} → limit ≤ length out₀ → Putting limit n₀ full out₀ (xs ++ rest) out n → Puts limit n xs out out′ n′ → Putting limit n₀ full out₀ rest out′ n′
-  putting-more {xs} {rest} {out} {out′} {n} {n′} h k p = record {
-    count = let a = length-append xs rest in omega (arith, k .count, p .next);
-    left = ap (wordsPut limit n′ rest) (p .left) ∙ ap (λ (i : ℕ). wordsPut limit i rest (wordsPut limit n xs out)) (p .next) ∙ sym (puts-append limit n xs rest out) ∙ k .left;
-    long = ap length (p .left) ∙ puts-length limit n xs out (omega (arith, k .long)) ∙ k .long;
-  }
+  pub putting-more : {xs rest out out′ : List ℕ} {n n′ : ℕ} → Putting n₀ full out₀ (xs ++ rest) out n → Puts n xs out out′ n′ → Putting n₀ full out₀ rest out′ n′
+  putting-more {xs} {rest} {out} {out′} {n} {n′} k p =
+      let m : ℕ = length out₀ in
+      let e : out′ ≡ wordsPut m n xs out = p .left ∙ ap (λ (i : ℕ). wordsPut i n xs out) (k .long) in
+      record {
+        count = let a = length-append xs rest in omega (arith, k .count, p .next);
+        left = ap (wordsPut m n′ rest) e ∙ ap (λ (i : ℕ). wordsPut m i rest (wordsPut m n xs out)) (p .next) ∙ sym (puts-append m n xs rest out) ∙ k .left;
+        long = ap length e ∙ puts-length m n xs out (omega (arith, k .long)) ∙ k .long;
+      }
 
-  pub putting-all : {rest out : List ℕ} {n : ℕ} → rest ≡ [] → Putting limit n₀ full out₀ rest out n → Puts limit n₀ full out₀ out n
+  pub putting-all : {rest out : List ℕ} {n : ℕ} → rest ≡ [] → Putting n₀ full out₀ rest out n → Puts n₀ full out₀ out n
   unfolding wordsPut
   putting-all {rest} {out} {n} e k =
       let c : n + length rest ≡ n₀ + length full = k .count in
       let z : length rest ≡ 0 = ap length e in
-      record { next = omega arith; left = sym (ap (λ (l : List ℕ). wordsPut limit n l out) e) ∙ k .left }
+      record { next = omega arith; left = sym (ap (λ (l : List ℕ). wordsPut (length out₀) n l out) e) ∙ k .left }
 
 -- ---- one word, and one after another
 
@@ -49,31 +52,41 @@ four l at a b c d h =
     let e3 : at + 3 ≡ suc (suc (suc at)) = omega arith in
     rw (e1, e2, e3) (sets-eq (a ∷ b ∷ c ∷ d ∷ []) l at h)
 
-module _ (limit n x : ℕ) (out : List ℕ) where
-  pub puts-none : limit < 4 * n + 4 → Puts limit n (x ∷ []) out out (n + 1)
-  puts-none h = record { next = refl; left = sym (puts-past limit n (x ∷ []) out h) }
+module _ (n x : ℕ) (out : List ℕ) where
+  pub puts-none : length out < 4 * n + 4 → Puts n (x ∷ []) out out (n + 1)
+  puts-none h = record { next = refl; left = sym (puts-past (length out) n (x ∷ []) out h) }
 
-  pub puts-one : {out′ : List ℕ} → 4 * n + 4 ≤ limit → out′ ≡ take (4 * n) out ++ bytesOf x ++ drop (4 * n + 4) out → Puts limit n (x ∷ []) out out′ (n + 1)
+  pub puts-one : {out′ : List ℕ} → 4 * n + 4 ≤ length out → out′ ≡ take (4 * n) out ++ bytesOf x ++ drop (4 * n + 4) out → Puts n (x ∷ []) out out′ (n + 1)
   unfolding wordsPut wordPut
-  puts-one h e = record { next = refl; left = e ∙ rw (le-leb (4 * n + 4) limit h) }
+  puts-one h e = record { next = refl; left = e ∙ rw (le-leb (4 * n + 4) (length out) h) }
 
-pub puts-then : {limit n : ℕ} {xs ys out mid out′ : List ℕ} {m r : ℕ} → Puts limit n xs out mid m → Puts limit m ys mid out′ r → Puts limit n (xs ++ ys) out out′ r
-puts-then {limit} {n} {xs} {ys} {out} {mid} {out′} {m} {r} a b = record {
-  next = let l = length-append xs ys in omega (arith, a .next, b .next);
-  left = b .left ∙ ap (wordsPut limit m ys) (a .left) ∙ ap (λ (i : ℕ). wordsPut limit i ys (wordsPut limit n xs out)) (a .next) ∙ sym (puts-append limit n xs ys out);
-}
+-- putting keeps the length of the slice
+pub puts-long : {n : ℕ} {xs out out′ : List ℕ} {r : ℕ} → Puts n xs out out′ r → length out′ ≡ length out
+puts-long {n} {xs} {out} p = ap length (p .left) ∙ puts-length (length out) n xs out (omega arith)
+
+pub puts-then : {n : ℕ} {xs ys out mid out′ : List ℕ} {m r : ℕ} → Puts n xs out mid m → Puts m ys mid out′ r → Puts n (xs ++ ys) out out′ r
+puts-then {n} {xs} {ys} {out} {mid} {out′} {m} {r} a b =
+    let k : ℕ = length out in
+    record {
+      next = let l = length-append xs ys in omega (arith, a .next, b .next);
+      left = b .left
+          ∙ ap (λ (i : ℕ). wordsPut i m ys mid) (puts-long a)
+          ∙ ap (wordsPut k m ys) (a .left)
+          ∙ ap (λ (i : ℕ). wordsPut k i ys (wordsPut k n xs out)) (a .next)
+          ∙ sym (puts-append k n xs ys out);
+    }
 
 -- the words still to come fit the numbers
-pub putting-count : {limit n₀ : ℕ} {full out₀ : List ℕ} (xs rest : List ℕ) {out : List ℕ} {n k : ℕ} → n₀ + length full < k → Putting limit n₀ full out₀ (xs ++ rest) out n → n + length xs < k
+pub putting-count : {n₀ : ℕ} {full out₀ : List ℕ} (xs rest : List ℕ) {out : List ℕ} {n k : ℕ} → n₀ + length full < k → Putting n₀ full out₀ (xs ++ rest) out n → n + length xs < k
 putting-count xs rest h p = let a = length-append xs rest in omega (arith, p .count)
 
--- the limit is reached: the rest is only counted
-pub putting-past : {limit n₀ : ℕ} {full out₀ rest out : List ℕ} {n r : ℕ} → limit < 4 * n + 4 → r ≡ n₀ + length full → Putting limit n₀ full out₀ rest out n → Puts limit n₀ full out₀ out r
-putting-past {limit} {rest = rest} {out = out} {n = n} h e k = record { next = e; left = sym (puts-past limit n rest out h) ∙ k .left }
+-- the slice is full: the rest is only counted
+pub putting-past : {n₀ : ℕ} {full out₀ rest out : List ℕ} {n r : ℕ} → length out < 4 * n + 4 → r ≡ n₀ + length full → Putting n₀ full out₀ rest out n → Puts n₀ full out₀ out r
+putting-past {out₀ = out₀} {rest = rest} {out = out} {n = n} h e k = record { next = e; left = sym (puts-past (length out₀) n rest out (omega (arith, k .long))) ∙ k .left }
 
-pub puts-nothing : {limit n : ℕ} {out : List ℕ} → Puts limit n [] out out n
+pub puts-nothing : {n : ℕ} {out : List ℕ} → Puts n [] out out n
 unfolding wordsPut
 puts-nothing = record { next = omega arith; left = refl }
 
-pub puts-as : {limit n : ℕ} {xs ys out out′ : List ℕ} {r : ℕ} → xs ≡ ys → Puts limit n xs out out′ r → Puts limit n ys out out′ r
+pub puts-as : {n : ℕ} {xs ys out out′ : List ℕ} {r : ℕ} → xs ≡ ys → Puts n xs out out′ r → Puts n ys out out′ r
 puts-as e k = rw e at k

@@ -6,11 +6,11 @@ use mathlib.Core.List.{List, [], _∷_, _++_, map, reverse}
 use Prim.Native.Nat.{ℕ, zero, suc, _+_, _*_, _≤_, _<_}
 use lib.ListN.{length, getD, take}
 use lib.Dec.{eqb}
-use Rattle.plank_core.specs.Lists.{keep, _∈_}
+use Rattle.plank_core.specs.Lists.{keep, oneIf, _∈_}
 use Rattle.plank_core.specs.DenseIndexSet.{contains, members, rowOf}
 use Rattle.sir_data.specs.Records.{locals, ops, code, outs}
 use Rattle.sir_data.specs.Codes.{isAlloc}
-use Rattle.sir_analyses.specs.Liveness.{has}
+use Rattle.sir_analyses.specs.Liveness.{Set, has}
 use Rattle.sir_analyses.specs.Allocation.{Alloc, allocs, allocAt, reach, marked, owners}
 use Rattle.sir_analyses.specs.Tables.{Same}
 use Rattle.sir_analyses.specs.Visiting.{Listed}
@@ -44,17 +44,21 @@ zeros (suc x ∷ xs) = zeros xs
 -- the arrays have their lengths, and each entry without an owner finds room on the work list
 pub record Room (owner marks work : List ℕ) (n : ℕ) : Type 0 where
   pub owner-long : length owner ≡ 512
-  pub marks-long : length marks ≡ 8
+  pub marks-long : length marks ≡ 512
   pub work-long : length work ≡ 513
   pub owner-small : (v : ℕ) → getD owner v 0 ≤ 512
   pub work-small : (k : ℕ) → k < n → getD work k 0 < 512
   pub room : zeros owner + n ≤ 513
 
+-- an array has 1 for each member of a set, and 0 for what is no member
+abbrev pub Flags : List ℕ → Set → Type 0
+Flags marks s = (a : ℕ) → a < 512 → getD marks a 0 ≡ oneIf (has s a)
+
 -- the arrays, with n locals on the work list, show a state
 pub record ShowsState (owner marks work : List ℕ) (n : ℕ) (s : State) : Type 0 where
   pub owner-is : (v : ℕ) → v < length (s .owner) → getD owner v 0 ≡ getD (s .owner) v 0
   pub owner-known : (v : ℕ) → getD owner v 0 ≤ length (s .marks)
-  pub marks-are : Same marks (s .marks)
+  pub marks-are : Flags marks (s .marks)
   pub work-is : s .work ≡ reverse (take n work)
 
 -- the arrays went on by one step, whatever state they showed, if it has these locals and this allocation
@@ -88,7 +92,7 @@ pub record Propagated (links harms : List ℕ) (a v : ℕ) (owner marks work own
 -- the arrays at the end: owners, marks, and with them the reach of each unmarked allocation
 pub record Discovered (w owner marks : List ℕ) : Type 0 where
   pub owner-is : (v : ℕ) → v < locals w → getD owner v 0 ≡ getD (owners w) v 0
-  pub mark-is : (a : ℕ) → a < length (allocs w) → contains marks a ≡ marked w a
+  pub mark-is : (a : ℕ) → a < length (allocs w) → getD marks a 0 ≡ oneIf (marked w a)
   pub reach-is : (a v : ℕ) → a < length (allocs w) → marked w a ≡ false → v < locals w → has (reach w (allocAt w a)) v ≡ eqb (getD owner v 0) (suc a)
 
 -- allocation a stands at operation o of block b

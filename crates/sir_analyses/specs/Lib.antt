@@ -15,6 +15,7 @@ pub mod Kinds
 pub mod Discovery
 pub mod Answers
 pub mod Calls
+pub mod Stages
 pub mod Loading
 pub mod Questions
 pub mod Scanning

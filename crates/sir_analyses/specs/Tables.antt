@@ -45,12 +45,11 @@ pub record OperandRows (w reads writes : List ℕ) : Type 0 where
   pub read : Rows reads (operations w) (λ o v. mem v (ins w o))
   pub written : Rows writes (operations w) (λ o v. mem v (outs w o))
 
--- what the operations os read before one of them gives it, and what they give
-pub record RunSets (w os exposed given : List ℕ) : Type 0 where
-  pub exposed-long : length exposed ≡ 8
-  pub given-long : length given ≡ 8
-  pub reads-first : (v : ℕ) → v < 512 → contains exposed v ≡ readFirst w [] os v
-  pub gives : (v : ℕ) → v < 512 → contains given v ≡ any (λ o. mem v (outs w o)) os
+-- two sets: what the operations os read before one of them defines it, and what they define
+pub record RunSets (w os sets : List ℕ) : Type 0 where
+  pub long : length sets ≡ 16
+  pub reads-first : (v : ℕ) → v < 512 → contains sets v ≡ readFirst w [] os v
+  pub defines : (v : ℕ) → v < 512 → contains sets (512 + v) ≡ any (λ o. mem v (outs w o)) os
 
 -- what is read behind each block's operations
 pub record EndRows (w ends : List ℕ) : Type 0 where

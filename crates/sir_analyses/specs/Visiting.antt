@@ -10,7 +10,7 @@ use lib.Dec.{eqb, leb, ltb}
 use Rattle.plank_core.specs.Lists.{bind, mem, oneIf}
 use Rattle.plank_core.specs.DenseIndexSet.{contains}
 use Rattle.sir_data.specs.Records.{functions, blocks}
-use Rattle.sir_analyses.specs.Order.{Visit, visited, isVisited}
+use Rattle.sir_analyses.specs.Order.{Visit, visited}
 
 -- the key of block b, finished on behalf of function f
 abbrev pub blockKey : ℕ → ℕ → ℕ
@@ -57,11 +57,6 @@ pub record Went (w : List ℕ) (step : Visit → Visit) (seen post : List ℕ) (
 pub record VisitedAll (w seen post : List ℕ) (n : ℕ) : Type 0 where
   pub shows : Shows seen post n (visited w)
   pub held : Held w seen post n
-
--- row 1 of the table holds the visited blocks
-pub record SeenBlocks (w seen : List ℕ) : Type 0 where
-  pub wide : length seen ≡ 16
-  pub visited-is : (b : ℕ) → b < blocks w → contains seen (512 + b) ≡ isVisited w b
 
 -- ---- the order, read off the keys from the last to the first
 

@@ -1,5 +1,5 @@
--- How the words of an answer go into a slice: word by word, each only where a limit allows it. With the limit 0 the words are only
--- counted, and with the slice's length as the limit an answer that fits is written whole.
+-- How the words of an answer go into a slice: word by word, each only where the slice has room for it. In an empty slice the words
+-- are only counted, and in one of the answer's length it is written whole.
 -- Used by inner contracts; no exported promise speaks of it.
 use mathlib.Core.Path.{_≡_}
 use mathlib.Core.Bool.{cond}
@@ -9,7 +9,7 @@ use lib.ListN.{length, take, drop}
 use lib.Dec.{leb, ltb}
 use Rattle.sir_data.specs.Pages.{bytesOf}
 
--- the slice with x put as word n of an answer
+-- the slice with x put as word n of an answer, if it ends within the limit
 unfoldable pub wordPut : ℕ → ℕ → ℕ → List ℕ → List ℕ
 wordPut limit n x out = cond (leb (4 * n + 4) limit) (take (4 * n) out ++ bytesOf x ++ drop (4 * n + 4) out) out
 
@@ -18,10 +18,10 @@ unfoldable pub wordsPut : ℕ → ℕ → List ℕ → List ℕ → List ℕ
 wordsPut limit n [] out = out
 wordsPut limit n (x ∷ xs) out = wordsPut limit (n + 1) xs (wordPut limit n x out)
 
--- a call that puts xs from number n on, and gives the next number
-pub record Puts (limit n : ℕ) (xs out out′ : List ℕ) (r : ℕ) : Type 0 where
+-- a call that puts xs from number n on, where the slice has room, and gives the next number
+pub record Puts (n : ℕ) (xs out out′ : List ℕ) (r : ℕ) : Type 0 where
   pub next : r ≡ n + length xs
-  pub left : out′ ≡ wordsPut limit n xs out
+  pub left : out′ ≡ wordsPut (length out) n xs out
 
 -- number and length of a call whose answer has n words, for a slice of `room` bytes
 pub record Finished (n room number len : ℕ) : Type 0 where

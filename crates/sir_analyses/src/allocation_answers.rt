@@ -6,49 +6,49 @@ use crate::allocation_words::put_head;
 use crate::answers::Answer;
 use crate::answers::finish;
 use crate::answers::words_answer;
-use crate::block_sets::end_sets;
-use crate::block_sets::operand_sets;
 use crate::local_liveness::live_sets;
 use crate::merged_intervals::populate_intervals_from_local_liveness;
 use crate::pointer_links::pointer_links;
 use crate::questions::PointerQuestion;
+use crate::stages::LINKS;
+use crate::stages::LIVE;
+use crate::stages::POINTERS;
+use crate::stages::alloc_sites;
+use crate::stages::is_marked;
+use crate::stages::owner_of;
 use plank_core::index::AllocId;
+use plank_core::index::LocalId;
 use plank_core::rows::row_add;
-use plank_core::rows::row_contains;
 use sir_data::records::local_count;
 ghost use mathlib.Core.Path.{_≡_};
-ghost use mathlib.Core.Bool.{true, false, _&&_};
-ghost use Prim.Native.Nat.{ℕ, _+_, _≤_, _<_};
+ghost use mathlib.Core.Bool.{true, _&&_};
+ghost use Prim.Native.Nat.{ℕ, _+_, _<_};
 ghost use lib.ListN.{length, getD, replicate};
 ghost use lib.Dec.{eqb, ltb};
 ghost use Rattle.plank_core.specs.Lists.{bind};
 ghost use Rattle.plank_core.specs.DenseIndexSet.{contains};
 ghost use Rattle.sir_data.specs.Pages.{bytesOf};
-ghost use Rattle.sir_data.specs.Records.{blocks, locals};
+ghost use Rattle.sir_data.specs.Records.{locals};
 ghost use Rattle.sir_data.specs.Rules.{first};
 ghost use Rattle.sir_data.specs.WellFormed.{WellFormed};
-ghost use Rattle.sir_analyses.specs.Order.{blocksRpo};
-ghost use Rattle.sir_analyses.specs.Liveness.{settled};
-ghost use Rattle.sir_analyses.specs.Allocation.{marked};
+ghost use Rattle.sir_analyses.specs.Allocation.{allocs, marked};
 ghost use Rattle.sir_analyses.specs.Answers.{allocationAnswer};
 ghost use Rattle.sir_analyses.specs.Calls.{made, answered, inWords};
-ghost use Rattle.sir_analyses.specs.Loading.{Ready};
 ghost use Rattle.sir_analyses.specs.Questions.{ownRules, answerWords};
-ghost use Rattle.sir_analyses.specs.Visiting.{SeenBlocks};
-ghost use Rattle.sir_analyses.specs.Tables.{OperandRows, SameRows, EndRows};
-ghost use Rattle.sir_analyses.specs.Discovery.{allocKeys, Discovered, Site, Unmarked};
+ghost use Rattle.sir_analyses.specs.Discovery.{Site, Unmarked};
+ghost use Rattle.sir_analyses.specs.Stages.{VisitStage, AcceptedStage, LivenessStage, PointerStage, ownersIn};
 ghost use Rattle.sir_analyses.specs.declared.questions.Question.{Question};
 
 // Adds the locals that allocation a owns to an empty set.
-fn owned_locals(words: &[u32], owner: &[u32], a: AllocId, set: &mut [u64])
+fn owned_locals(words: &[u32], pointers: &[u32], a: AllocId, set: &mut [u64])
     requires { ⌜ WellFormed (now words) ⌝ }
-    requires { ⌜ (length (now owner) ≡ 512) × (a .0 < 512) × (now set ≡ replicate 8 0) ⌝ }
-    ensures { λ _. ⌜ (length (now (set .exit)) ≡ 8) × ((v : ℕ) → v < 512 → contains (now (set .exit)) v ≡ (ltb v (locals (now (words .entry))) && eqb (getD (now (owner .entry)) v 0) (a .0 + 1))) ⌝ }
+    requires { ⌜ (length (now pointers) ≡ 2051) × (a .0 < 512) × (now set ≡ replicate 8 0) ⌝ }
+    ensures { λ _. ⌜ (length (now (set .exit)) ≡ 8) × ((v : ℕ) → v < 512 → contains (now (set .exit)) v ≡ (ltb v (locals (now (words .entry))) && eqb (getD (ownersIn (now (pointers .entry))) v 0) (a .0 + 1))) ⌝ }
 {
     let count = local_count(words);
     let mut v: u32 = 0;
     while v < count {
-        if owner[v as usize] == a.0 + 1 {
+        if owner_of(pointers, LocalId(v)) == a.0 + 1 {
             row_add(set, 0, v);
         }
         v += 1;
@@ -62,181 +62,104 @@ fn marked_answer(words: &[u32], site: AllocSite, out: &mut [u8]) -> Answer
     ensures { λ r. ⌜ ((a : ℕ) → Site (now (words .entry)) a (site .block .0) (site .op .0) → marked (now (words .entry)) a ≡ true → made (r .number) (r .length) (now (out .exit)) ≡ answered (bind (allocationAnswer (now (words .entry)) a) bytesOf) (now (out .entry))) ⌝ }
 {
     let answer = finish(8, out.len());
-    put_head(words, site, 1, 0, out, answer.length as usize);
+    let end = answer.length as usize;
+    put_head(words, site, 1, 0, &mut out[..end]);
     answer
 }
 
-// The record of an unmarked allocation, from the locals of its reach: its intervals are counted, then put behind its head.
+// The record of an unmarked allocation, from the locals of its reach: its intervals are counted, then put after its head.
 fn record_answer(
     words: &[u32],
-    seen: &[u64],
-    reads: &[u64],
-    writes: &[u64],
-    exits: &[u64],
-    ends: &[u64],
+    visit: &[u32],
+    live: &[u64],
     site: AllocSite,
     reach: &[u64],
     out: &mut [u8],
 ) -> Answer
-    requires { ⌜ WellFormed (now words) ⌝ }
-    requires { ⌜ SeenBlocks (now words) (now seen) × OperandRows (now words) (now reads) (now writes) ⌝ }
-    requires { ⌜ (length (now exits) ≡ 2048) × SameRows (now exits) (settled (now words) .1) (blocks (now words)) × EndRows (now words) (now ends) ⌝ }
+    requires { ⌜ VisitStage (now words) (now visit) ⌝ }
+    requires { ⌜ LivenessStage (now words) (now live) ⌝ }
     requires { ⌜ ((a : ℕ) × Unmarked (now words) (site .block .0) (site .op .0) (now reach) a) ⌝ }
     ensures { λ r. ⌜ ((a : ℕ) → Unmarked (now (words .entry)) (site .block .0) (site .op .0) (now (reach .entry)) a → made (r .number) (r .length) (now (out .exit)) ≡ answered (bind (allocationAnswer (now (words .entry)) a) bytesOf) (now (out .entry))) ⌝ }
 {
-    let n = populate_intervals_from_local_liveness(
-        words,
-        seen,
-        reads,
-        writes,
-        exits,
-        ends,
-        reach,
-        out,
-        0,
-        8,
-    );
+    let n = populate_intervals_from_local_liveness(words, visit, live, reach, 8, &mut []);
     let answer = finish(n, out.len());
-    let limit = answer.length as usize;
-    put_head(words, site, 0, ((n - 8) / 3) as u32, out, limit);
-    populate_intervals_from_local_liveness(
-        words,
-        seen,
-        reads,
-        writes,
-        exits,
-        ends,
-        reach,
-        out,
-        limit,
-        8,
-    );
+    let end = answer.length as usize;
+    put_head(words, site, 0, ((n - 8) / 3) as u32, &mut out[..end]);
+    populate_intervals_from_local_liveness(words, visit, live, reach, 8, &mut out[..end]);
     answer
 }
 
-// The same, with the sets of liveness made here.
-fn unmarked_answer(
+// The record of allocation a, from the tables of liveness and of pointers.
+pub fn allocation_answer(
     words: &[u32],
-    seen: &[u64],
-    rpo: &[u32],
-    site: AllocSite,
-    reach: &[u64],
-    out: &mut [u8],
-) -> Answer
-    requires { ⌜ WellFormed (now words) ⌝ }
-    requires { ⌜ SeenBlocks (now words) (now seen) × (now rpo ≡ blocksRpo (now words)) ⌝ }
-    requires { ⌜ ((a : ℕ) × Unmarked (now words) (site .block .0) (site .op .0) (now reach) a) ⌝ }
-    ensures { λ r. ⌜ ((a : ℕ) → Unmarked (now (words .entry)) (site .block .0) (site .op .0) (now (reach .entry)) a → made (r .number) (r .length) (now (out .exit)) ≡ answered (bind (allocationAnswer (now (words .entry)) a) bytesOf) (now (out .entry))) ⌝ }
-{
-    let mut reads = [0u64; 8192];
-    let mut writes = [0u64; 8192];
-    operand_sets(words, &mut reads, &mut writes);
-    let mut uses = [0u64; 2048];
-    let mut defs = [0u64; 2048];
-    let mut exits = [0u64; 2048];
-    live_sets(
-        words,
-        seen,
-        rpo,
-        &reads,
-        &writes,
-        &mut uses,
-        &mut defs,
-        &mut exits,
-    );
-    let mut ends = [0u64; 2048];
-    end_sets(words, &mut ends);
-    record_answer(
-        words,
-        seen,
-        &reads,
-        &writes,
-        &exits,
-        &ends,
-        site,
-        reach,
-        out,
-    )
-}
-
-// The record of allocation a, from the tables of pointers.
-fn allocation_answer(
-    words: &[u32],
-    seen: &[u64],
-    rpo: &[u32],
-    keys: &[u32],
-    owner: &[u32],
-    marks: &[u64],
+    visit: &[u32],
+    live: &[u64],
+    pointers: &[u32],
     a: AllocId,
     out: &mut [u8],
 ) -> Answer
-    requires { ⌜ Ready (now words) (now seen) (now rpo) (now keys) ⌝ }
-    requires { ⌜ a .0 < length (now keys) ⌝ }
-    requires { ⌜ (length (now owner) ≡ 512) × (length (now marks) ≡ 8) × Discovered (now words) (now owner) (now marks) ⌝ }
+    requires { ⌜ VisitStage (now words) (now visit) ⌝ }
+    requires { ⌜ LivenessStage (now words) (now live) ⌝ }
+    requires { ⌜ PointerStage (now words) (now pointers) × (a .0 < length (allocs (now words))) ⌝ }
     ensures { λ r. ⌜ made (r .number) (r .length) (now (out .exit)) ≡ answered (bind (allocationAnswer (now (words .entry)) (a .0)) bytesOf) (now (out .entry)) ⌝ }
 {
-    let site = site_of(keys, a);
-    if row_contains(marks, 0, a.0) {
+    let site = site_of(alloc_sites(pointers), a);
+    if is_marked(pointers, a) {
         return marked_answer(words, site, out);
     }
     let mut reach = [0u64; 8];
-    owned_locals(words, owner, a, &mut reach);
-    unmarked_answer(words, seen, rpo, site, &reach, out)
+    owned_locals(words, pointers, a, &mut reach);
+    record_answer(words, visit, live, site, &reach, out)
 }
 
-// The same where the tables of liveness are at hand too, for a caller that asks for many.
-pub fn tables_answer(
+// The same, with the tables of liveness made here, for an allocation that is not marked; a marked one needs none.
+fn one_allocation(
     words: &[u32],
-    seen: &[u64],
-    reads: &[u64],
-    writes: &[u64],
-    exits: &[u64],
-    ends: &[u64],
-    keys: &[u32],
-    owner: &[u32],
-    marks: &[u64],
+    visit: &[u32],
+    pointers: &[u32],
     a: AllocId,
     out: &mut [u8],
 ) -> Answer
-    requires { ⌜ WellFormed (now words) ⌝ }
-    requires { ⌜ SeenBlocks (now words) (now seen) × OperandRows (now words) (now reads) (now writes) ⌝ }
-    requires { ⌜ (length (now exits) ≡ 2048) × SameRows (now exits) (settled (now words) .1) (blocks (now words)) × EndRows (now words) (now ends) ⌝ }
-    requires { ⌜ (now keys ≡ allocKeys (now words)) × (length (now keys) ≤ 512) × (a .0 < length (now keys)) ⌝ }
-    requires { ⌜ (length (now owner) ≡ 512) × (length (now marks) ≡ 8) × Discovered (now words) (now owner) (now marks) ⌝ }
+    requires { ⌜ VisitStage (now words) (now visit) ⌝ }
+    requires { ⌜ PointerStage (now words) (now pointers) × (a .0 < length (allocs (now words))) ⌝ }
     ensures { λ r. ⌜ made (r .number) (r .length) (now (out .exit)) ≡ answered (bind (allocationAnswer (now (words .entry)) (a .0)) bytesOf) (now (out .entry)) ⌝ }
 {
-    let site = site_of(keys, a);
-    if row_contains(marks, 0, a.0) {
-        return marked_answer(words, site, out);
+    if is_marked(pointers, a) {
+        return marked_answer(words, site_of(alloc_sites(pointers), a), out);
     }
-    let mut reach = [0u64; 8];
-    owned_locals(words, owner, a, &mut reach);
-    record_answer(words, seen, reads, writes, exits, ends, site, &reach, out)
+    let mut live = [0u64; LIVE];
+    live_sets(words, visit, &mut live);
+    allocation_answer(words, visit, &live, pointers, a, out)
+}
+
+// All tables of pointers, to an array that is empty at first.
+pub fn compute_pointers(words: &[u32], visit: &[u32], sites: &[u32], pointers: &mut [u32])
+    requires { ⌜ VisitStage (now words) (now visit) ⌝ }
+    requires { ⌜ AcceptedStage (now words) (now sites) × (now pointers ≡ replicate 2051 0) ⌝ }
+    ensures { λ _. ⌜ PointerStage (now (words .entry)) (now (pointers .exit)) ⌝ }
+{
+    let mut links = [0u64; LINKS];
+    let mut escaping = [0u64; 8];
+    pointer_links(words, visit, &mut links, &mut escaping);
+    discover_allocations(words, sites, &links, &escaping, pointers);
 }
 
 // The answer to a question on pointers: follows them, and answers from their tables.
 pub fn pointer_answer(
     words: &[u32],
-    seen: &[u64],
-    rpo: &[u32],
-    keys: &[u32],
+    visit: &[u32],
+    sites: &[u32],
     question: PointerQuestion,
     out: &mut [u8],
 ) -> Answer
-    requires { ⌜ Ready (now words) (now seen) (now rpo) (now keys) ⌝ }
-    requires { ⌜ first (ownRules (Question.OfPointers question) (now words)) ≡ 0 ⌝ }
+    requires { ⌜ VisitStage (now words) (now visit) ⌝ }
+    requires { ⌜ AcceptedStage (now words) (now sites) × (first (ownRules (Question.OfPointers question) (now words)) ≡ 0) ⌝ }
     ensures { λ r. ⌜ made (r .number) (r .length) (now (out .exit)) ≡ answered (inWords (answerWords (Question.OfPointers question)) (now (words .entry))) (now (out .entry)) ⌝ }
 {
-    let mut links = [0u64; 4096];
-    let mut harms = [0u64; 8];
-    pointer_links(words, rpo, &mut links, &mut harms);
-    let mut owner = [0u32; 512];
-    let mut marks = [0u64; 8];
-    discover_allocations(words, keys, &links, &harms, &mut owner, &mut marks);
+    let mut pointers = [0u32; POINTERS];
+    compute_pointers(words, visit, sites, &mut pointers);
     match question {
-        PointerQuestion::Allocation(a) => {
-            allocation_answer(words, seen, rpo, keys, &owner, &marks, a, out)
-        }
-        PointerQuestion::Owner(v) => words_answer(&[owner[v.0 as usize]], out),
+        PointerQuestion::Allocation(a) => one_allocation(words, visit, &pointers, a, out),
+        PointerQuestion::Owner(v) => words_answer(&[owner_of(&pointers, v)], out),
     }
 }

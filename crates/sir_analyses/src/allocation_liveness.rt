@@ -1,4 +1,11 @@
 // Allocations: the allocation operations met in visited blocks, in the order's sequence; their owners and marks.
+use crate::stages::ALLOCATIONS;
+use crate::stages::LEFT;
+use crate::stages::MARKS;
+use crate::stages::OWNERS;
+use crate::stages::SITES;
+use crate::stages::WORK;
+use crate::stages::rpo;
 use plank_core::dense_index_set::list;
 use plank_core::index::AllocId;
 use plank_core::index::BlockId;
@@ -12,7 +19,7 @@ use sir_data::records::block_operations;
 use sir_data::records::op_outputs;
 use sir_data::records::op_word;
 ghost use mathlib.Core.Path.{_≡_};
-ghost use mathlib.Core.Bool.{true, false};
+ghost use mathlib.Core.Bool.{true};
 ghost use mathlib.Core.List.{List, _∷_, []};
 ghost use Prim.Native.Nat.{ℕ, _+_, _*_, _<_, _≤_};
 ghost use lib.ListN.{length, getD, replicate};
@@ -20,11 +27,11 @@ ghost use Rattle.plank_core.specs.DenseIndexSet.{contains};
 ghost use Rattle.sir_data.specs.Records.{blocks, operations, locals, code, outs};
 ghost use Rattle.sir_data.specs.Codes.{isAlloc};
 ghost use Rattle.sir_data.specs.WellFormed.{WellFormed};
-ghost use Rattle.sir_analyses.specs.Order.{blocksRpo};
 ghost use Rattle.sir_analyses.specs.Allocation.{rule12, allocs, allocAt, base, bases};
 ghost use Rattle.sir_analyses.specs.Pointers.{PointerRows};
 ghost use Rattle.sir_analyses.specs.Propagation.{linkLocal, follow};
-ghost use Rattle.sir_analyses.specs.Discovery.{allocKeys, blockKeys, Capped, Site, Room, StepTaken, linksIn, Propagated, Discovered};
+ghost use Rattle.sir_analyses.specs.Discovery.{allocKeys, blockKeys, Capped, Site, linksIn};
+ghost use Rattle.sir_analyses.specs.Stages.{VisitStage, AcceptedStage, PointerStage, PointerRoom, PointerStep, PointersFollowed, SitesStored, leftIn};
 
 // The allocations of a block behind the first `at` of `keys`, each as one number: 1024 times the block, plus the operation. Where
 // there is no room for one of them, a number past the end of `keys`.
@@ -52,15 +59,15 @@ fn block_allocations(words: &[u32], b: BlockId, keys: &mut [u32], at: usize) -> 
 }
 
 // The allocations of all visited blocks, in the order's sequence.
-pub fn find_allocations(words: &[u32], rpo: &[u32], keys: &mut [u32]) -> usize
-    requires { ⌜ WellFormed (now words) ⌝ }
-    requires { ⌜ now rpo ≡ blocksRpo (now words) ⌝ }
+pub fn find_allocations(words: &[u32], visit: &[u32], keys: &mut [u32]) -> usize
+    requires { ⌜ VisitStage (now words) (now visit) ⌝ }
     ensures { λ r. ⌜ Capped (allocKeys (now (words .entry))) 0 (now (keys .entry)) (now (keys .exit)) r ⌝ }
 {
+    let order = rpo(visit);
     let mut m: usize = 0;
     let mut i: usize = 0;
-    while i < rpo.len() {
-        m = block_allocations(words, BlockId(rpo[i]), keys, m);
+    while i < order.len() {
+        m = block_allocations(words, BlockId(order[i]), keys, m);
         if m > keys.len() {
             return m;
         }
@@ -126,98 +133,93 @@ pub fn rule_12(words: &[u32], keys: &[u32]) -> bool
 }
 
 // Every base first for its own.
-fn own_bases(words: &[u32], keys: &[u32], owner: &mut [u32])
+fn own_bases(words: &[u32], keys: &[u32], owners: &mut [u32])
     requires { ⌜ WellFormed (now words) ⌝ }
-    requires { ⌜ (now keys ≡ allocKeys (now words)) × (length (now keys) ≤ 512) × (now owner ≡ replicate 512 0) ⌝ }
-    ensures { λ _. ⌜ ((v : ℕ) → v < locals (now (words .entry)) → getD (now (owner .exit)) v 0 ≡ getD (bases (now (words .entry))) v 0) × ((v : ℕ) → getD (now (owner .exit)) v 0 ≤ length (allocs (now (words .entry)))) × (length (now (owner .exit)) ≡ 512) ⌝ }
+    requires { ⌜ (now keys ≡ allocKeys (now words)) × (length (now keys) ≤ 512) × (now owners ≡ replicate 512 0) ⌝ }
+    ensures { λ _. ⌜ ((v : ℕ) → v < locals (now (words .entry)) → getD (now (owners .exit)) v 0 ≡ getD (bases (now (words .entry))) v 0) × ((v : ℕ) → getD (now (owners .exit)) v 0 ≤ length (allocs (now (words .entry)))) × (length (now (owners .exit)) ≡ 512) ⌝ }
 {
     let mut a: usize = 0;
     while a < keys.len() {
         let base = base_of(words, keys, AllocId(a as u32));
         a += 1;
-        owner[base.0 as usize] = a as u32;
+        owners[base.0 as usize] = a as u32;
     }
 }
 
 // A local comes to allocation a: its new owner replaces the old one, and a local that nobody had goes on the work list. Where
 // another had it, both are marked.
-fn link_local_to_alloc(
-    owner: &mut [u32],
-    marks: &mut [u64],
-    work: &mut [u32],
-    n: usize,
-    local: LocalId,
-    a: AllocId,
-) -> usize
-    requires { ⌜ Room (now owner) (now marks) (now work) n ⌝ }
+fn link_local_to_alloc(pointers: &mut [u32], local: LocalId, a: AllocId)
+    requires { ⌜ PointerRoom (now pointers) ⌝ }
     requires { ⌜ (local .0 < 512) × (a .0 < 512) ⌝ }
-    ensures { λ r. ⌜ StepTaken (local .0 ∷ []) (a .0) (λ s. linkLocal (a .0) s (local .0)) (now (owner .entry)) (now (marks .entry)) (now (work .entry)) n (now (owner .exit)) (now (marks .exit)) (now (work .exit)) r ⌝ }
+    ensures { λ _. ⌜ PointerStep (local .0 ∷ []) (a .0) (λ s. linkLocal (a .0) s (local .0)) (now (pointers .entry)) (now (pointers .exit)) ⌝ }
 {
-    let at = local.0 as usize;
-    let old = owner[at];
-    owner[at] = a.0 + 1;
+    let at = OWNERS + local.0 as usize;
+    let old = pointers[at];
+    pointers[at] = a.0 + 1;
     if old == 0 {
-        work[n] = local.0;
-        return n + 1;
+        let n = pointers[LEFT];
+        pointers[WORK + n as usize] = local.0;
+        pointers[LEFT] = n + 1;
+        return;
     }
     if old != a.0 + 1 {
-        row_add(marks, 0, a.0);
-        row_add(marks, 0, old - 1);
+        pointers[MARKS + a.0 as usize] = 1;
+        pointers[MARKS + old as usize - 1] = 1;
     }
-    n
 }
 
-// Links all that a local carries on, and marks allocation a where the local harms.
-fn follow_local(
-    links: &[u64],
-    harms: &[u64],
-    owner: &mut [u32],
-    marks: &mut [u64],
-    work: &mut [u32],
-    n: usize,
-    local: LocalId,
-    a: AllocId,
-) -> usize
-    requires { ⌜ (length (now links) ≡ 4096) × (length (now harms) ≡ 8) ⌝ }
-    requires { ⌜ Room (now owner) (now marks) (now work) n ⌝ }
+// Links all that a local carries on, and marks allocation a where the local escapes.
+fn follow_local(links: &[u64], escaping: &[u64], pointers: &mut [u32], local: LocalId, a: AllocId)
+    requires { ⌜ (length (now links) ≡ 4096) × (length (now escaping) ≡ 8) ⌝ }
+    requires { ⌜ PointerRoom (now pointers) ⌝ }
     requires { ⌜ (local .0 < 512) × (a .0 < 512) ⌝ }
-    ensures { λ r. ⌜ StepTaken (linksIn (now (links .entry)) (local .0)) (a .0) (follow (linksIn (now (links .entry)) (local .0)) (contains (now (harms .entry)) (local .0)) (a .0)) (now (owner .entry)) (now (marks .entry)) (now (work .entry)) n (now (owner .exit)) (now (marks .exit)) (now (work .exit)) r ⌝ }
+    ensures { λ _. ⌜ PointerStep (linksIn (now (links .entry)) (local .0)) (a .0) (follow (linksIn (now (links .entry)) (local .0)) (contains (now (escaping .entry)) (local .0)) (a .0)) (now (pointers .entry)) (now (pointers .exit)) ⌝ }
 {
     let mut found = [0u32; 512];
     let count = list(row_of(links, local.0 as usize), &mut found);
-    let mut m = n;
     let mut i: usize = 0;
     while i < count {
-        m = link_local_to_alloc(owner, marks, work, m, LocalId(found[i]), a);
+        link_local_to_alloc(pointers, LocalId(found[i]), a);
         i += 1;
     }
-    if row_contains(harms, 0, local.0) {
-        row_add(marks, 0, a.0);
+    if row_contains(escaping, 0, local.0) {
+        pointers[MARKS + a.0 as usize] = 1;
     }
-    m
 }
 
 // Follows allocation a from its base, and from every local that nobody had.
 fn propagate_pointers_and_mark_escapes(
     links: &[u64],
-    harms: &[u64],
-    owner: &mut [u32],
-    marks: &mut [u64],
-    work: &mut [u32],
+    escaping: &[u64],
+    pointers: &mut [u32],
     base: LocalId,
     a: AllocId,
 )
-    requires { ⌜ (length (now links) ≡ 4096) × (length (now harms) ≡ 8) ⌝ }
-    requires { ⌜ Room (now owner) (now marks) (now work) 0 ⌝ }
+    requires { ⌜ (length (now links) ≡ 4096) × (length (now escaping) ≡ 8) ⌝ }
+    requires { ⌜ PointerRoom (now pointers) × (leftIn (now pointers) ≡ 0) ⌝ }
     requires { ⌜ (base .0 < 512) × (a .0 < 512) ⌝ }
-    ensures { λ _. ⌜ Propagated (now (links .entry)) (now (harms .entry)) (a .0) (base .0) (now (owner .entry)) (now (marks .entry)) (now (work .entry)) (now (owner .exit)) (now (marks .exit)) (now (work .exit)) ⌝ }
+    ensures { λ _. ⌜ PointersFollowed (now (links .entry)) (now (escaping .entry)) (a .0) (base .0) (now (pointers .entry)) (now (pointers .exit)) ⌝ }
 {
-    work[0] = base.0;
-    let mut n: usize = 1;
-    while 0 < n {
-        n -= 1;
-        let local = LocalId(work[n]);
-        n = follow_local(links, harms, owner, marks, work, n, local, a);
+    pointers[WORK] = base.0;
+    pointers[LEFT] = 1;
+    while 0 < pointers[LEFT] {
+        let n = pointers[LEFT] - 1;
+        pointers[LEFT] = n;
+        let local = LocalId(pointers[WORK + n as usize]);
+        follow_local(links, escaping, pointers, local, a);
+    }
+}
+
+// The sites of the allocations, to their part of the table.
+fn store_sites(keys: &[u32], pointers: &mut [u32])
+    requires { ⌜ (length (now keys) ≤ 512) × (now pointers ≡ replicate 2051 0) ⌝ }
+    ensures { λ _. ⌜ SitesStored (now (keys .entry)) (now (pointers .exit)) ⌝ }
+{
+    pointers[ALLOCATIONS] = keys.len() as u32;
+    let mut a: usize = 0;
+    while a < keys.len() {
+        pointers[SITES + a] = keys[a];
+        a += 1;
     }
 }
 
@@ -226,29 +228,19 @@ pub fn discover_allocations(
     words: &[u32],
     keys: &[u32],
     links: &[u64],
-    harms: &[u64],
-    owner: &mut [u32],
-    marks: &mut [u64],
+    escaping: &[u64],
+    pointers: &mut [u32],
 )
-    requires { ⌜ WellFormed (now words) ⌝ }
-    requires { ⌜ (rule12 (now words) ≡ false) × (now keys ≡ allocKeys (now words)) × PointerRows (now words) (now links) (now harms) ⌝ }
-    requires { ⌜ (now owner ≡ replicate 512 0) × (now marks ≡ replicate 8 0) ⌝ }
-    ensures { λ _. ⌜ Discovered (now (words .entry)) (now (owner .exit)) (now (marks .exit)) ⌝ }
+    requires { ⌜ AcceptedStage (now words) (now keys) ⌝ }
+    requires { ⌜ PointerRows (now words) (now links) (now escaping) × (now pointers ≡ replicate 2051 0) ⌝ }
+    ensures { λ _. ⌜ PointerStage (now (words .entry)) (now (pointers .exit)) ⌝ }
 {
-    own_bases(words, keys, owner);
-    let mut work = [0u32; 513];
+    store_sites(keys, pointers);
+    own_bases(words, keys, &mut pointers[OWNERS..MARKS]);
     let mut i: usize = 0;
     while i < keys.len() {
         let base = base_of(words, keys, AllocId(i as u32));
-        propagate_pointers_and_mark_escapes(
-            links,
-            harms,
-            owner,
-            marks,
-            &mut work,
-            base,
-            AllocId(i as u32),
-        );
+        propagate_pointers_and_mark_escapes(links, escaping, pointers, base, AllocId(i as u32));
         i += 1;
     }
 }

@@ -60,23 +60,15 @@ fn kind_words(k: AllocKind) -> KindWords
 }
 
 // The first eight words of an allocation's record.
-pub fn put_head(
-    words: &[u32],
-    site: AllocSite,
-    mark: u32,
-    count: u32,
-    out: &mut [u8],
-    limit: usize,
-) -> usize
+pub fn put_head(words: &[u32], site: AllocSite, mark: u32, count: u32, out: &mut [u8]) -> usize
     requires { ⌜ WellFormed (now words) ⌝ }
     requires { ⌜ (site .op .0 < operations (now words)) × (isAlloc (code (now words) (site .op .0)) ≡ true) ⌝ }
-    requires { ⌜ limit ≤ length (now out) ⌝ }
-    ensures { λ r. ⌜ Puts limit 0 (headWords (now (words .entry)) (site .block .0) (site .op .0) mark count) (now (out .entry)) (now (out .exit)) r ⌝ }
+    ensures { λ r. ⌜ Puts 0 (headWords (now (words .entry)) (site .block .0) (site .op .0) mark count) (now (out .entry)) (now (out .exit)) r ⌝ }
 {
     let b = site.block;
     let o = site.op;
     let base = base_ptr(words, o);
     let k = kind_words(alloc_kind(words, o));
     let head = [b.0, o.0, base.0, k.kind, k.size, k.id, mark, count];
-    put_words(out, limit, 0, &head)
+    put_words(out, 0, &head)
 }

@@ -19,12 +19,12 @@ fn store(out: &mut [u8], at: usize, word: u32)
     out[at + 3] = (word / 16777216 % 256) as u8;
 }
 
-// Word n of an answer, stored where the limit allows; the next number.
-pub fn put_word(out: &mut [u8], limit: usize, n: usize, word: u32) -> usize
-    requires { ⌜ (limit ≤ length (now out)) × (n < 2 ^ 60) ⌝ }
-    ensures { λ r. ⌜ Puts limit n (word ∷ []) (now (out .entry)) (now (out .exit)) r ⌝ }
+// Word n of an answer, stored where the slice has room; the next number.
+pub fn put_word(out: &mut [u8], n: usize, word: u32) -> usize
+    requires { ⌜ n < 2 ^ 60 ⌝ }
+    ensures { λ r. ⌜ Puts n (word ∷ []) (now (out .entry)) (now (out .exit)) r ⌝ }
 {
-    if limit < 4 * n + 4 {
+    if out.len() < 4 * n + 4 {
         return n + 1;
     }
     store(out, 4 * n, word);
@@ -32,27 +32,27 @@ pub fn put_word(out: &mut [u8], limit: usize, n: usize, word: u32) -> usize
 }
 
 // Some words in turn.
-pub fn put_words(out: &mut [u8], limit: usize, n: usize, words: &[u32]) -> usize
-    requires { ⌜ (limit ≤ length (now out)) × (n + length (now words) < 2 ^ 60) ⌝ }
-    ensures { λ r. ⌜ Puts limit n (now (words .entry)) (now (out .entry)) (now (out .exit)) r ⌝ }
+pub fn put_words(out: &mut [u8], n: usize, words: &[u32]) -> usize
+    requires { ⌜ n + length (now words) < 2 ^ 60 ⌝ }
+    ensures { λ r. ⌜ Puts n (now (words .entry)) (now (out .entry)) (now (out .exit)) r ⌝ }
 {
     let mut m = n;
     let mut i: usize = 0;
     while i < words.len() {
-        m = put_word(out, limit, m, words[i]);
+        m = put_word(out, m, words[i]);
         i += 1;
     }
     m
 }
 
 // A triple of words.
-pub fn put_triple(out: &mut [u8], limit: usize, n: usize, a: u32, b: u32, c: u32) -> usize
-    requires { ⌜ (limit ≤ length (now out)) × (n + 3 < 2 ^ 60) ⌝ }
-    ensures { λ r. ⌜ Puts limit n (a ∷ b ∷ c ∷ []) (now (out .entry)) (now (out .exit)) r ⌝ }
+pub fn put_triple(out: &mut [u8], n: usize, a: u32, b: u32, c: u32) -> usize
+    requires { ⌜ n + 3 < 2 ^ 60 ⌝ }
+    ensures { λ r. ⌜ Puts n (a ∷ b ∷ c ∷ []) (now (out .entry)) (now (out .exit)) r ⌝ }
 {
-    let m = put_word(out, limit, n, a);
-    let k = put_word(out, limit, m, b);
-    put_word(out, limit, k, c)
+    let m = put_word(out, n, a);
+    let k = put_word(out, m, b);
+    put_word(out, k, c)
 }
 
 #[repr(C)]
@@ -88,6 +88,7 @@ pub fn words_answer(words: &[u32], out: &mut [u8]) -> Answer
     ensures { λ r. ⌜ made (r .number) (r .length) (now (out .exit)) ≡ answered (bind (now (words .entry)) bytesOf) (now (out .entry)) ⌝ }
 {
     let answer = finish(words.len(), out.len());
-    put_words(out, answer.length as usize, 0, words);
+    let end = answer.length as usize;
+    put_words(&mut out[..end], 0, words);
     answer
 }

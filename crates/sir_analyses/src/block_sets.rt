@@ -1,9 +1,16 @@
-// Sets that are made once for an image: what each operation reads and writes, what each block uses and gives, and the
-// predecessors of each block. Each kind is a lent table with a row for each operation or block.
+// Sets that are made once for an image: what each operation reads and writes, what each block uses and defines, and the
+// predecessors of each block.
+use crate::stages::DEFS;
+use crate::stages::ENDS;
+use crate::stages::READS;
+use crate::stages::USES;
+use crate::stages::WRITES;
+use crate::stages::is_visited;
+use crate::stages::reads;
+use crate::stages::writes;
 use plank_core::index::BlockId;
 use plank_core::index::OpIdx;
 use plank_core::rows::row_add;
-use plank_core::rows::row_contains;
 use plank_core::rows::row_difference_with;
 use plank_core::rows::row_of;
 use plank_core::rows::row_union_with;
@@ -21,14 +28,14 @@ use sir_data::records::tested_local;
 ghost use mathlib.Core.Path.{_≡_};
 ghost use mathlib.Core.Bool.{_&&_, false};
 ghost use Prim.Native.Nat.{ℕ, _+_, _*_, _≤_, _<_};
-ghost use lib.ListN.{length, replicate};
+ghost use lib.ListN.{length, take, replicate};
 ghost use lib.Dec.{eqb};
 ghost use Rattle.plank_core.specs.Lists.{range, mem, _∈_};
 ghost use Rattle.plank_core.specs.DenseIndexSet.{contains};
 ghost use Rattle.sir_data.specs.Records.{blocks, ops, successors, condition};
 ghost use Rattle.sir_data.specs.WellFormed.{WellFormed};
-ghost use Rattle.sir_analyses.specs.Liveness.{has, endReads, useSet, defSet};
-ghost use Rattle.sir_analyses.specs.Visiting.{SeenBlocks};
+ghost use Rattle.sir_analyses.specs.Liveness.{has, endReads, useSet};
+ghost use Rattle.sir_analyses.specs.Stages.{VisitStage, readsIn, writesIn, usesIn, defsIn, Emptied, BlockAdded};
 ghost use Rattle.sir_analyses.specs.Tables.{Adds, EndRows, OperandRows, RunSets, BlockRows, PredecessorRows};
 
 // Adds the locals of a run to a row.
@@ -45,16 +52,24 @@ pub fn add_run(table: &mut [u64], row: usize, run: &[u32])
 }
 
 // What each operation reads and writes: each operand is looked at once.
-pub fn operand_sets(words: &[u32], reads: &mut [u64], writes: &mut [u64])
+pub fn operand_sets(words: &[u32], live: &mut [u64])
     requires { ⌜ WellFormed (now words) ⌝ }
-    requires { ⌜ (now reads ≡ replicate 8192 0) × (now writes ≡ replicate 8192 0) ⌝ }
-    ensures { λ _. ⌜ OperandRows (now (words .entry)) (now (reads .exit)) (now (writes .exit)) ⌝ }
+    requires { ⌜ now live ≡ replicate 24576 0 ⌝ }
+    ensures { λ _. ⌜ OperandRows (now (words .entry)) (readsIn (now (live .exit))) (writesIn (now (live .exit))) × Emptied 16384 (now (live .exit)) ⌝ }
 {
     let count = operation_count(words);
     let mut o: u32 = 0;
     while o < count {
-        add_run(reads, o as usize, op_inputs(words, OpIdx(o)));
-        add_run(writes, o as usize, op_outputs(words, OpIdx(o)));
+        add_run(
+            &mut live[READS..WRITES],
+            o as usize,
+            op_inputs(words, OpIdx(o)),
+        );
+        add_run(
+            &mut live[WRITES..USES],
+            o as usize,
+            op_outputs(words, OpIdx(o)),
+        );
         o += 1;
     }
 }
@@ -95,118 +110,95 @@ pub fn end_sets(words: &[u32], ends: &mut [u64])
     }
 }
 
-// Empties a set.
-fn clear(set: &mut [u64])
-    requires { ⌜ length (now set) ≡ 8 ⌝ }
-    ensures { λ _. ⌜ now (set .exit) ≡ replicate 8 0 ⌝ }
+// Empties two sets.
+fn clear(sets: &mut [u64])
+    requires { ⌜ length (now sets) ≡ 16 ⌝ }
+    ensures { λ _. ⌜ now (sets .exit) ≡ replicate 16 0 ⌝ }
 {
     let mut k: usize = 0;
-    while k < 8 {
-        set[k] = 0;
+    while k < 16 {
+        sets[k] = 0;
         k += 1;
     }
 }
 
-// What the operations of block b read before one of them gives it, and what they give: taken backwards.
-fn run_sets(
-    words: &[u32],
-    b: BlockId,
-    reads: &[u64],
-    writes: &[u64],
-    exposed: &mut [u64],
-    given: &mut [u64],
-)
+// Two sets: what the operations of block b read before one of them defines it, and what they define. Taken backwards.
+fn run_sets(words: &[u32], b: BlockId, live: &[u64], sets: &mut [u64])
     requires { ⌜ WellFormed (now words) ⌝ }
-    requires { ⌜ OperandRows (now words) (now reads) (now writes) ⌝ }
-    requires { ⌜ (b .0 < blocks (now words)) × (length (now exposed) ≡ 8) × (length (now given) ≡ 8) ⌝ }
-    ensures { λ _. ⌜ RunSets (now (words .entry)) (ops (now (words .entry)) (b .0)) (now (exposed .exit)) (now (given .exit)) ⌝ }
+    requires { ⌜ (length (now live) ≡ 24576) × OperandRows (now words) (readsIn (now live)) (writesIn (now live)) ⌝ }
+    requires { ⌜ (b .0 < blocks (now words)) × (length (now sets) ≡ 16) ⌝ }
+    ensures { λ _. ⌜ RunSets (now (words .entry)) (ops (now (words .entry)) (b .0)) (now (sets .exit)) ⌝ }
 {
-    clear(exposed);
-    clear(given);
+    clear(sets);
     let span = block_operations(words, b);
     let first = span.start as usize;
     let mut o = span.end as usize;
     while first < o {
         o -= 1;
-        row_difference_with(exposed, 0, row_of(writes, o));
-        row_union_with(exposed, 0, row_of(reads, o));
-        row_union_with(given, 0, row_of(writes, o));
+        row_difference_with(sets, 0, row_of(writes(live), o));
+        row_union_with(sets, 0, row_of(reads(live), o));
+        row_union_with(sets, 1, row_of(writes(live), o));
     }
 }
 
 // Turns the sets of the range `kept` into those of block b, and answers its range. They are made anew only where that is another
 // one: blocks that follow each other may share a long range.
-fn turn_sets(
-    words: &[u32],
-    b: BlockId,
-    reads: &[u64],
-    writes: &[u64],
-    kept: Span,
-    exposed: &mut [u64],
-    given: &mut [u64],
-) -> Span
+fn turn_sets(words: &[u32], b: BlockId, live: &[u64], kept: Span, sets: &mut [u64]) -> Span
     requires { ⌜ WellFormed (now words) ⌝ }
-    requires { ⌜ OperandRows (now words) (now reads) (now writes) ⌝ }
+    requires { ⌜ (length (now live) ≡ 24576) × OperandRows (now words) (readsIn (now live)) (writesIn (now live)) ⌝ }
     requires { ⌜ b .0 < blocks (now words) ⌝ }
-    requires { ⌜ RunSets (now words) (range (kept .start) (kept .end)) (now exposed) (now given) ⌝ }
+    requires { ⌜ RunSets (now words) (range (kept .start) (kept .end)) (now sets) ⌝ }
     ensures { λ r. ⌜ range (r .start) (r .end) ≡ ops (now (words .entry)) (b .0) ⌝ }
-    ensures { λ _. ⌜ RunSets (now (words .entry)) (ops (now (words .entry)) (b .0)) (now (exposed .exit)) (now (given .exit)) ⌝ }
+    ensures { λ _. ⌜ RunSets (now (words .entry)) (ops (now (words .entry)) (b .0)) (now (sets .exit)) ⌝ }
 {
     let span = block_operations(words, b);
     if span.start == kept.start && span.end == kept.end {
         return kept;
     }
-    run_sets(words, b, reads, writes, exposed, given);
+    run_sets(words, b, live, sets);
     span
 }
 
-// The use and def sets of one block, to rows that are empty, from the sets of its operations: what is read behind them is used
-// where none of them gives it.
-fn block_rows(
-    words: &[u32],
-    b: BlockId,
-    exposed: &[u64],
-    given: &[u64],
-    uses: &mut [u64],
-    defs: &mut [u64],
-)
+// The use set of one block, to a row that is empty, from the sets of its operations: what is read after them is used where none of
+// them defines it.
+fn use_row(words: &[u32], b: BlockId, sets: &[u64], uses: &mut [u64])
     requires { ⌜ WellFormed (now words) ⌝ }
-    requires { ⌜ (b .0 < blocks (now words)) × (length (now uses) ≡ 2048) × (length (now defs) ≡ 2048) ⌝ }
-    requires { ⌜ RunSets (now words) (ops (now words) (b .0)) (now exposed) (now given) ⌝ }
+    requires { ⌜ (b .0 < blocks (now words)) × (length (now uses) ≡ 2048) ⌝ }
+    requires { ⌜ RunSets (now words) (ops (now words) (b .0)) (now sets) ⌝ }
     requires { ⌜ ((v : ℕ) → v < 512 → contains (now uses) (512 * b .0 + v) ≡ false) ⌝ }
     ensures { λ _. ⌜ Adds (now (uses .entry)) (λ r v. eqb r (b .0) && has (useSet (now (words .entry)) (b .0)) v) (now (uses .exit)) ⌝ }
-    ensures { λ _. ⌜ Adds (now (defs .entry)) (λ r v. eqb r (b .0) && has (defSet (now (words .entry)) (b .0)) v) (now (defs .exit)) ⌝ }
 {
     let row = b.0 as usize;
     add_end(words, b, uses);
-    row_difference_with(uses, row, given);
-    row_union_with(uses, row, exposed);
-    row_union_with(defs, row, given);
+    row_difference_with(uses, row, row_of(sets, 1));
+    row_union_with(uses, row, row_of(sets, 0));
+}
+
+// The use and def sets of one block, to rows that are empty, from the sets of its operations.
+fn block_rows(words: &[u32], b: BlockId, sets: &[u64], live: &mut [u64])
+    requires { ⌜ WellFormed (now words) ⌝ }
+    requires { ⌜ (b .0 < blocks (now words)) × (length (now live) ≡ 24576) ⌝ }
+    requires { ⌜ RunSets (now words) (ops (now words) (b .0)) (now sets) ⌝ }
+    requires { ⌜ ((v : ℕ) → v < 512 → contains (usesIn (now live)) (512 * b .0 + v) ≡ false) ⌝ }
+    ensures { λ _. ⌜ BlockAdded (now (words .entry)) (b .0) (now (live .entry)) (now (live .exit)) ⌝ }
+{
+    use_row(words, b, sets, &mut live[USES..DEFS]);
+    row_union_with(&mut live[DEFS..ENDS], b.0 as usize, row_of(sets, 1));
 }
 
 // The use and def sets of all blocks, from what their operations read and write.
-pub fn block_sets(words: &[u32], reads: &[u64], writes: &[u64], uses: &mut [u64], defs: &mut [u64])
+pub fn block_sets(words: &[u32], live: &mut [u64])
     requires { ⌜ WellFormed (now words) ⌝ }
-    requires { ⌜ OperandRows (now words) (now reads) (now writes) ⌝ }
-    requires { ⌜ (now uses ≡ replicate 2048 0) × (now defs ≡ replicate 2048 0) ⌝ }
-    ensures { λ _. ⌜ BlockRows (now (words .entry)) (now (uses .exit)) (now (defs .exit)) ⌝ }
+    requires { ⌜ OperandRows (now words) (readsIn (now live)) (writesIn (now live)) × Emptied 16384 (now live) ⌝ }
+    ensures { λ _. ⌜ BlockRows (now (words .entry)) (usesIn (now (live .exit))) (defsIn (now (live .exit))) × Emptied 20480 (now (live .exit)) × (take 16384 (now (live .exit)) ≡ take 16384 (now (live .entry))) ⌝ }
 {
-    let mut exposed = [0u64; 8];
-    let mut given = [0u64; 8];
+    let mut sets = [0u64; 16];
     let mut kept = Span { start: 0, end: 0 };
     let count = block_count(words);
     let mut b: u32 = 0;
     while b < count {
-        kept = turn_sets(
-            words,
-            BlockId(b),
-            reads,
-            writes,
-            kept,
-            &mut exposed,
-            &mut given,
-        );
-        block_rows(words, BlockId(b), &exposed, &given, uses, defs);
+        kept = turn_sets(words, BlockId(b), live, kept, &mut sets);
+        block_rows(words, BlockId(b), &sets, live);
         b += 1;
     }
 }
@@ -227,16 +219,15 @@ fn add_to_successors(words: &[u32], p: BlockId, preds: &mut [u64])
 }
 
 // The predecessors of each block: the visited blocks that have it among their successors.
-pub fn predecessor_sets(words: &[u32], seen: &[u64], preds: &mut [u64])
-    requires { ⌜ WellFormed (now words) ⌝ }
-    requires { ⌜ SeenBlocks (now words) (now seen) ⌝ }
+pub fn predecessor_sets(words: &[u32], visit: &[u32], preds: &mut [u64])
+    requires { ⌜ VisitStage (now words) (now visit) ⌝ }
     requires { ⌜ now preds ≡ replicate 2048 0 ⌝ }
     ensures { λ _. ⌜ PredecessorRows (now (words .entry)) (now (preds .exit)) ⌝ }
 {
     let count = block_count(words);
     let mut p: u32 = 0;
     while p < count {
-        if row_contains(seen, 1, p) {
+        if is_visited(visit, BlockId(p)) {
             add_to_successors(words, BlockId(p), preds);
         }
         p += 1;

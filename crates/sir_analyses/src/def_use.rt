@@ -1,6 +1,7 @@
 // Uses of a local, in the order in which `DefUse` of the source fills them: per block of the order its operations, its
 // condition, its outputs. How often each operation reads the local is counted once, since operations may lie in many blocks.
 use crate::answers::put_triple;
+use crate::stages::rpo;
 use plank_core::index::BlockId;
 use plank_core::index::LocalId;
 use plank_core::index::OpIdx;
@@ -16,10 +17,10 @@ ghost use lib.ListN.{length};
 ghost use Rattle.plank_core.specs.Lists.{mem};
 ghost use Rattle.sir_data.specs.Records.{blocks, condition};
 ghost use Rattle.sir_data.specs.WellFormed.{WellFormed};
-ghost use Rattle.sir_analyses.specs.Order.{blocksRpo};
 ghost use Rattle.sir_analyses.specs.Liveness.{positions};
 ghost use Rattle.sir_analyses.specs.Uses.{InputCounts, sameUses, operationUses, conditionUses, outputUses, blockUses, usesOf};
 ghost use Rattle.sir_analyses.specs.Writing.{Puts};
+ghost use Rattle.sir_analyses.specs.Stages.{VisitStage};
 
 // How often a local is among some operands.
 fn count_local(run: &[u32], local: LocalId) -> u32
@@ -52,43 +53,36 @@ pub fn input_counts(words: &[u32], local: LocalId, counts: &mut [u32])
     }
 }
 
-// The same use some times over; behind the limit they are only counted.
-fn put_same(out: &mut [u8], limit: usize, n: usize, b: BlockId, o: OpIdx, times: u32) -> usize
-    requires { ⌜ (limit ≤ length (now out)) × (n + 3 * times < 2 ^ 59) ⌝ }
-    ensures { λ r. ⌜ Puts limit n (sameUses (b .0) (o .0) times) (now (out .entry)) (now (out .exit)) r ⌝ }
+// The same use some times over; where the slice has no room they are only counted.
+fn put_same(out: &mut [u8], n: usize, b: BlockId, o: OpIdx, times: u32) -> usize
+    requires { ⌜ n + 3 * times < 2 ^ 59 ⌝ }
+    ensures { λ r. ⌜ Puts n (sameUses (b .0) (o .0) times) (now (out .entry)) (now (out .exit)) r ⌝ }
 {
     let mut m = n;
     let mut i: u32 = 0;
     while i < times {
-        if limit < 4 * m + 4 {
+        if out.len() < 4 * m + 4 {
             return n + 3 * (times as usize);
         }
-        m = put_triple(out, limit, m, b.0, 0, o.0);
+        m = put_triple(out, m, b.0, 0, o.0);
         i += 1;
     }
     m
 }
 
 // The uses by a block's operations.
-fn put_operation_uses(
-    words: &[u32],
-    counts: &[u32],
-    b: BlockId,
-    out: &mut [u8],
-    limit: usize,
-    n: usize,
-) -> usize
+fn put_operation_uses(words: &[u32], counts: &[u32], b: BlockId, n: usize, out: &mut [u8]) -> usize
     requires { ⌜ WellFormed (now words) ⌝ }
     requires { ⌜ (b .0 < blocks (now words)) × (length (now counts) ≡ 1024) ⌝ }
-    requires { ⌜ (limit ≤ length (now out)) × (n + length (operationUses (now words) (now counts) (b .0)) < 2 ^ 59) ⌝ }
-    ensures { λ r. ⌜ Puts limit n (operationUses (now (words .entry)) (now (counts .entry)) (b .0)) (now (out .entry)) (now (out .exit)) r ⌝ }
+    requires { ⌜ n + length (operationUses (now words) (now counts) (b .0)) < 2 ^ 59 ⌝ }
+    ensures { λ r. ⌜ Puts n (operationUses (now (words .entry)) (now (counts .entry)) (b .0)) (now (out .entry)) (now (out .exit)) r ⌝ }
 {
     let span = operations(words, b);
     let last = span.end;
     let mut m = n;
     let mut o = span.start;
     while o < last {
-        m = put_same(out, limit, m, b, OpIdx(o), counts[o as usize]);
+        m = put_same(out, m, b, OpIdx(o), counts[o as usize]);
         o += 1;
     }
     m
@@ -107,38 +101,24 @@ fn is_condition(words: &[u32], b: BlockId, local: LocalId) -> bool
 }
 
 // The use as a block's condition.
-fn put_condition_use(
-    words: &[u32],
-    b: BlockId,
-    local: LocalId,
-    out: &mut [u8],
-    limit: usize,
-    n: usize,
-) -> usize
+fn put_condition_use(words: &[u32], b: BlockId, local: LocalId, n: usize, out: &mut [u8]) -> usize
     requires { ⌜ WellFormed (now words) ⌝ }
     requires { ⌜ b .0 < blocks (now words) ⌝ }
-    requires { ⌜ (limit ≤ length (now out)) × (n + 3 < 2 ^ 59) ⌝ }
-    ensures { λ r. ⌜ Puts limit n (conditionUses (now (words .entry)) (local .0) (b .0)) (now (out .entry)) (now (out .exit)) r ⌝ }
+    requires { ⌜ n + 3 < 2 ^ 59 ⌝ }
+    ensures { λ r. ⌜ Puts n (conditionUses (now (words .entry)) (local .0) (b .0)) (now (out .entry)) (now (out .exit)) r ⌝ }
 {
     if is_condition(words, b, local) {
-        return put_triple(out, limit, n, b.0, 1, 0);
+        return put_triple(out, n, b.0, 1, 0);
     }
     n
 }
 
 // The uses among a block's outputs.
-fn put_output_uses(
-    words: &[u32],
-    b: BlockId,
-    local: LocalId,
-    out: &mut [u8],
-    limit: usize,
-    n: usize,
-) -> usize
+fn put_output_uses(words: &[u32], b: BlockId, local: LocalId, n: usize, out: &mut [u8]) -> usize
     requires { ⌜ WellFormed (now words) ⌝ }
     requires { ⌜ b .0 < blocks (now words) ⌝ }
-    requires { ⌜ (limit ≤ length (now out)) × (n + length (outputUses (now words) (local .0) (b .0)) < 2 ^ 59) ⌝ }
-    ensures { λ r. ⌜ Puts limit n (outputUses (now (words .entry)) (local .0) (b .0)) (now (out .entry)) (now (out .exit)) r ⌝ }
+    requires { ⌜ n + length (outputUses (now words) (local .0) (b .0)) < 2 ^ 59 ⌝ }
+    ensures { λ r. ⌜ Puts n (outputUses (now (words .entry)) (local .0) (b .0)) (now (out .entry)) (now (out .exit)) r ⌝ }
 {
     let run = outputs(words, b);
     let mut m = n;
@@ -148,7 +128,7 @@ fn put_output_uses(
         let place = k;
         k += 1;
         if v == local.0 {
-            m = put_triple(out, limit, m, b.0, 2, place);
+            m = put_triple(out, m, b.0, 2, place);
         }
     }
     m
@@ -160,38 +140,36 @@ fn put_block_uses(
     counts: &[u32],
     b: BlockId,
     local: LocalId,
-    out: &mut [u8],
-    limit: usize,
     n: usize,
+    out: &mut [u8],
 ) -> usize
     requires { ⌜ WellFormed (now words) ⌝ }
     requires { ⌜ (b .0 < blocks (now words)) × (length (now counts) ≡ 1024) ⌝ }
-    requires { ⌜ (limit ≤ length (now out)) × (n + 3 + length (blockUses (now words) (now counts) (local .0) (b .0)) < 2 ^ 59) ⌝ }
-    ensures { λ r. ⌜ Puts limit n (blockUses (now (words .entry)) (now (counts .entry)) (local .0) (b .0)) (now (out .entry)) (now (out .exit)) r ⌝ }
+    requires { ⌜ n + 3 + length (blockUses (now words) (now counts) (local .0) (b .0)) < 2 ^ 59 ⌝ }
+    ensures { λ r. ⌜ Puts n (blockUses (now (words .entry)) (now (counts .entry)) (local .0) (b .0)) (now (out .entry)) (now (out .exit)) r ⌝ }
 {
-    let m = put_operation_uses(words, counts, b, out, limit, n);
-    let k = put_condition_use(words, b, local, out, limit, m);
-    put_output_uses(words, b, local, out, limit, k)
+    let m = put_operation_uses(words, counts, b, n, out);
+    let k = put_condition_use(words, b, local, m, out);
+    put_output_uses(words, b, local, k, out)
 }
 
-// The uses of a local; how many words they take.
+// The uses of a local, from how often each operation reads it; how many words they take.
 pub fn put_uses(
     words: &[u32],
-    rpo: &[u32],
+    visit: &[u32],
     counts: &[u32],
     local: LocalId,
     out: &mut [u8],
-    limit: usize,
 ) -> usize
-    requires { ⌜ WellFormed (now words) ⌝ }
-    requires { ⌜ (now rpo ≡ blocksRpo (now words)) × (length (now counts) ≡ 1024) ⌝ }
-    requires { ⌜ (limit ≤ length (now out)) × (3 + length (usesOf (now words) (now counts) (local .0)) < 2 ^ 59) ⌝ }
-    ensures { λ r. ⌜ Puts limit 0 (usesOf (now (words .entry)) (now (counts .entry)) (local .0)) (now (out .entry)) (now (out .exit)) r ⌝ }
+    requires { ⌜ VisitStage (now words) (now visit) ⌝ }
+    requires { ⌜ (length (now counts) ≡ 1024) × (3 + length (usesOf (now words) (now counts) (local .0)) < 2 ^ 59) ⌝ }
+    ensures { λ r. ⌜ Puts 0 (usesOf (now (words .entry)) (now (counts .entry)) (local .0)) (now (out .entry)) (now (out .exit)) r ⌝ }
 {
+    let order = rpo(visit);
     let mut m: usize = 0;
     let mut i: usize = 0;
-    while i < rpo.len() {
-        m = put_block_uses(words, counts, BlockId(rpo[i]), local, out, limit, m);
+    while i < order.len() {
+        m = put_block_uses(words, counts, BlockId(order[i]), local, m, out);
         i += 1;
     }
     m

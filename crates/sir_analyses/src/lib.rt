@@ -16,3 +16,4 @@ pub mod pointer_links;
 pub mod predecessors;
 pub mod questions;
 pub mod reverse_post_order;
+pub mod stages;

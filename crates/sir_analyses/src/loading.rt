@@ -1,19 +1,17 @@
 // What every question starts from: reading the image, the visit of its functions and blocks, and rule 12.
 use crate::allocation_liveness::find_allocations;
 use crate::allocation_liveness::rule_12;
-use crate::reverse_post_order::blocks_rpo;
-use crate::reverse_post_order::visit;
+use crate::reverse_post_order::compute_visit;
 use sir_data::image::read_image;
 ghost use mathlib.Core.Path.{_≡_};
 ghost use lib.ListN.{length, replicate};
 ghost use Rattle.sir_analyses.specs.Loading.{Loaded};
 
-// The refusal of the image, or 0 and how many words, finished functions and blocks, blocks and allocations stand in the arrays.
+// The refusal of the image, or 0 and how many words, finished functions and blocks, and allocations stand in the arrays.
 pub struct Sizes {
     pub number: u32,
     pub words: usize,
     pub finished: usize,
-    pub blocks: usize,
     pub allocations: usize,
 }
 
@@ -24,7 +22,6 @@ fn no_sizes(number: u32) -> Sizes
         number,
         words: 0,
         finished: 0,
-        blocks: 0,
         allocations: 0,
     }
 }
@@ -32,34 +29,31 @@ fn no_sizes(number: u32) -> Sizes
 pub fn load(
     image: &[u8],
     words: &mut [u32],
-    seen: &mut [u64],
     post: &mut [u32],
-    rpo: &mut [u32],
-    keys: &mut [u32],
+    visit: &mut [u32],
+    sites: &mut [u32],
 ) -> Sizes
-    requires { ⌜ (length (now words) ≡ 14742) × (now seen ≡ replicate 16 0) ⌝ }
-    requires { ⌜ (length (now post) ≡ 320) × (length (now rpo) ≡ 256) × (length (now keys) ≡ 512) ⌝ }
-    ensures { λ r. ⌜ Loaded (now (image .entry)) (now (words .exit)) (now (seen .exit)) (now (post .exit)) (now (rpo .exit)) (now (keys .exit)) (r .number) (r .words) (r .finished) (r .blocks) (r .allocations) ⌝ }
+    requires { ⌜ (length (now words) ≡ 14742) × (length (now post) ≡ 320) ⌝ }
+    requires { ⌜ (now visit ≡ replicate 513 0) × (length (now sites) ≡ 512) ⌝ }
+    ensures { λ r. ⌜ Loaded (now (image .entry)) (now (words .exit)) (now (post .exit)) (now (visit .exit)) (now (sites .exit)) (r .number) (r .words) (r .finished) (r .allocations) ⌝ }
 {
     let number = read_image(image, words);
     if number != 0 {
         return no_sizes(number);
     }
     let n = 126 * (image.len() / 512);
-    let finished = visit(&words[..n], seen, post);
-    let blocks = blocks_rpo(&post[..finished], rpo);
-    let allocations = find_allocations(&words[..n], &rpo[..blocks], keys);
-    if allocations > keys.len() {
+    let finished = compute_visit(&words[..n], post, visit);
+    let allocations = find_allocations(&words[..n], visit, sites);
+    if allocations > sites.len() {
         return no_sizes(12);
     }
-    if rule_12(&words[..n], &keys[..allocations]) {
+    if rule_12(&words[..n], &sites[..allocations]) {
         return no_sizes(12);
     }
     Sizes {
         number: 0,
         words: n,
         finished,
-        blocks,
         allocations,
     }
 }

@@ -1,6 +1,15 @@
 // Live locals at the entry and exit of each block, as `LocalLiveness` of the source has them, over lent tables of sets.
 use crate::block_sets::block_sets;
+use crate::block_sets::end_sets;
+use crate::block_sets::operand_sets;
 use crate::block_sets::predecessor_sets;
+use crate::stages::ENDS;
+use crate::stages::EXITS;
+use crate::stages::LIVE;
+use crate::stages::defs;
+use crate::stages::exits;
+use crate::stages::rpo;
+use crate::stages::uses;
 use plank_core::dense_index_set::DenseIndexSet;
 use plank_core::dense_index_set::is_empty;
 use plank_core::dense_index_set::list;
@@ -20,21 +29,20 @@ ghost use lib.Dec.{eqb};
 ghost use Rattle.plank_core.specs.Lists.{mem, _∈_};
 ghost use Rattle.sir_data.specs.Records.{blocks, outputs};
 ghost use Rattle.sir_data.specs.WellFormed.{WellFormed};
-ghost use Rattle.sir_analyses.specs.Order.{blocksRpo};
-ghost use Rattle.sir_analyses.specs.Liveness.{back, pass, rounds, settled};
-ghost use Rattle.sir_analyses.specs.Visiting.{SeenBlocks};
-ghost use Rattle.sir_analyses.specs.Tables.{SameRows, OperandRows, BlockRows, PredecessorRows, EntryWords, Parted, outputsAt, arrives, Sends, SentOn, Stepped, LiveRows};
+ghost use Rattle.sir_analyses.specs.Liveness.{back, pass, rounds};
+ghost use Rattle.sir_analyses.specs.Stages.{VisitStage, LivenessStage, usesIn, defsIn, exitsIn, Emptied, Passing, PassStep, ExitsFound};
+ghost use Rattle.sir_analyses.specs.Tables.{BlockRows, EntryWords, Parted, outputsAt, arrives, Sends};
 
 // A block's entry set from its exit set: use ∪ (exit − def).
-pub fn entry(uses: &[u64], defs: &[u64], exits: &[u64], b: BlockId) -> DenseIndexSet
-    requires { ⌜ (8 * b .0 + 8 ≤ length (now uses)) × (8 * b .0 + 8 ≤ length (now defs)) × (8 * b .0 + 8 ≤ length (now exits)) ⌝ }
-    ensures { λ r. ⌜ (length (r .words) ≡ 8) × EntryWords (now (uses .entry)) (now (defs .entry)) (now (exits .entry)) (b .0) (r .words) ⌝ }
+pub fn entry(live: &[u64], b: BlockId) -> DenseIndexSet
+    requires { ⌜ (length (now live) ≡ 24576) × (b .0 < 256) ⌝ }
+    ensures { λ r. ⌜ (length (r .words) ≡ 8) × EntryWords (usesIn (now (live .entry))) (defsIn (now (live .entry))) (exitsIn (now (live .entry))) (b .0) (r .words) ⌝ }
 {
     let row = b.0 as usize;
     let mut words = [0u64; 8];
-    row_union_with(&mut words, 0, row_of(exits, row));
-    row_difference_with(&mut words, 0, row_of(defs, row));
-    row_union_with(&mut words, 0, row_of(uses, row));
+    row_union_with(&mut words, 0, row_of(exits(live), row));
+    row_difference_with(&mut words, 0, row_of(defs(live), row));
+    row_union_with(&mut words, 0, row_of(uses(live), row));
     DenseIndexSet { words }
 }
 
@@ -111,58 +119,53 @@ fn send_all(words: &[u32], ids: &[u32], set: &[u64], moved: &[u32], exits: &mut 
     grew
 }
 
+// The tables that a pass goes by: the predecessors of each block, and what each block has sent.
+const PREDS: usize = 0;
+
+const SENT: usize = 2048;
+
+const PASS: usize = 4096;
+
 // One block of a pass: what its entry set has and was not sent before goes to its predecessors' exits. Whether one grew.
-fn send_back(
-    words: &[u32],
-    b: BlockId,
-    uses: &[u64],
-    defs: &[u64],
-    preds: &[u64],
-    sent: &mut [u64],
-    exits: &mut [u64],
-) -> bool
+fn send_back(words: &[u32], b: BlockId, live: &mut [u64], tables: &mut [u64]) -> bool
     requires { ⌜ WellFormed (now words) ⌝ }
     requires { ⌜ b .0 < blocks (now words) ⌝ }
-    requires { ⌜ BlockRows (now words) (now uses) (now defs) × PredecessorRows (now words) (now preds) ⌝ }
-    requires { ⌜ (length (now sent) ≡ 2048) × (length (now exits) ≡ 2048) × SentOn (now words) (now exits) (now sent) ⌝ }
-    ensures { λ r. ⌜ Stepped (now (words .entry)) (λ e. back (now (words .entry)) e (b .0)) (now (exits .entry)) (now (exits .exit)) (now (sent .exit)) r ⌝ }
+    requires { ⌜ Passing (now words) (now live) (now tables) ⌝ }
+    ensures { λ r. ⌜ PassStep (now (words .entry)) (λ e. back (now (words .entry)) e (b .0)) (now (live .entry)) (now (tables .entry)) (now (live .exit)) (now (tables .exit)) r ⌝ }
 {
     let row = b.0 as usize;
-    let all = entry(uses, defs, exits, b);
+    let all = entry(live, b);
     let mut new = all.words;
-    row_difference_with(&mut new, 0, row_of(sent, row));
+    row_difference_with(&mut new, 0, row_of(&tables[SENT..PASS], row));
     if is_empty(&new) {
         return false;
     }
-    row_union_with(sent, row, &new);
+    row_union_with(&mut tables[SENT..PASS], row, &new);
     let mut moved = [0u32; 512];
     let n = part_inputs(words, b, &mut new, &mut moved);
     let mut ids = [0u32; 512];
-    let count = list(row_of(preds, row), &mut ids);
-    send_all(words, &ids[0..count], &new, &moved[0..n], exits)
+    let count = list(row_of(&tables[PREDS..SENT], row), &mut ids);
+    send_all(
+        words,
+        &ids[0..count],
+        &new,
+        &moved[0..n],
+        &mut live[EXITS..LIVE],
+    )
 }
 
 // A pass: the blocks of the order, backwards. Whether an exit grew.
-fn pass_back(
-    words: &[u32],
-    rpo: &[u32],
-    uses: &[u64],
-    defs: &[u64],
-    preds: &[u64],
-    sent: &mut [u64],
-    exits: &mut [u64],
-) -> bool
-    requires { ⌜ WellFormed (now words) ⌝ }
-    requires { ⌜ now rpo ≡ blocksRpo (now words) ⌝ }
-    requires { ⌜ BlockRows (now words) (now uses) (now defs) × PredecessorRows (now words) (now preds) ⌝ }
-    requires { ⌜ (length (now sent) ≡ 2048) × (length (now exits) ≡ 2048) × SentOn (now words) (now exits) (now sent) ⌝ }
-    ensures { λ r. ⌜ Stepped (now (words .entry)) (pass (now (words .entry))) (now (exits .entry)) (now (exits .exit)) (now (sent .exit)) r ⌝ }
+fn pass_back(words: &[u32], visit: &[u32], live: &mut [u64], tables: &mut [u64]) -> bool
+    requires { ⌜ VisitStage (now words) (now visit) ⌝ }
+    requires { ⌜ Passing (now words) (now live) (now tables) ⌝ }
+    ensures { λ r. ⌜ PassStep (now (words .entry)) (pass (now (words .entry))) (now (live .entry)) (now (tables .entry)) (now (live .exit)) (now (tables .exit)) r ⌝ }
 {
+    let order = rpo(visit);
     let mut grew = false;
-    let mut k = rpo.len();
+    let mut k = order.len();
     while 0 < k {
         k -= 1;
-        if send_back(words, BlockId(rpo[k]), uses, defs, preds, sent, exits) {
+        if send_back(words, BlockId(order[k]), live, tables) {
             grew = true;
         }
     }
@@ -170,24 +173,16 @@ fn pass_back(
 }
 
 // Passes until one adds nothing: how many, that one counted. The exits, empty at first, are then the exit sets.
-pub fn liveness(
-    words: &[u32],
-    rpo: &[u32],
-    uses: &[u64],
-    defs: &[u64],
-    preds: &[u64],
-    exits: &mut [u64],
-) -> u32
-    requires { ⌜ WellFormed (now words) ⌝ }
-    requires { ⌜ now rpo ≡ blocksRpo (now words) ⌝ }
-    requires { ⌜ BlockRows (now words) (now uses) (now defs) × PredecessorRows (now words) (now preds) ⌝ }
-    requires { ⌜ now exits ≡ replicate 2048 0 ⌝ }
-    ensures { λ r. ⌜ (r ≡ rounds (now (words .entry))) × (length (now (exits .exit)) ≡ 2048) × SameRows (now (exits .exit)) (settled (now (words .entry)) .1) (blocks (now (words .entry))) ⌝ }
+fn liveness(words: &[u32], visit: &[u32], live: &mut [u64]) -> u32
+    requires { ⌜ VisitStage (now words) (now visit) ⌝ }
+    requires { ⌜ BlockRows (now words) (usesIn (now live)) (defsIn (now live)) × Emptied 22528 (now live) ⌝ }
+    ensures { λ r. ⌜ (r ≡ rounds (now (words .entry))) × ExitsFound (now (words .entry)) (now (live .entry)) (now (live .exit)) ⌝ }
 {
-    let mut sent = [0u64; 2048];
+    let mut tables = [0u64; PASS];
+    predecessor_sets(words, visit, &mut tables[PREDS..SENT]);
     let mut done: u32 = 0;
     loop {
-        let grew = pass_back(words, rpo, uses, defs, preds, &mut sent, exits);
+        let grew = pass_back(words, visit, live, &mut tables);
         done += 1;
         if !grew {
             return done;
@@ -195,25 +190,14 @@ pub fn liveness(
     }
 }
 
-// The use, def and exit sets of the blocks, to tables that are empty at first, and the number of passes.
-pub fn live_sets(
-    words: &[u32],
-    seen: &[u64],
-    rpo: &[u32],
-    reads: &[u64],
-    writes: &[u64],
-    uses: &mut [u64],
-    defs: &mut [u64],
-    exits: &mut [u64],
-) -> u32
-    requires { ⌜ WellFormed (now words) ⌝ }
-    requires { ⌜ SeenBlocks (now words) (now seen) × (now rpo ≡ blocksRpo (now words)) ⌝ }
-    requires { ⌜ OperandRows (now words) (now reads) (now writes) ⌝ }
-    requires { ⌜ (now uses ≡ replicate 2048 0) × (now defs ≡ replicate 2048 0) × (now exits ≡ replicate 2048 0) ⌝ }
-    ensures { λ r. ⌜ (r ≡ rounds (now (words .entry))) × LiveRows (now (words .entry)) (now (uses .exit)) (now (defs .exit)) (now (exits .exit)) ⌝ }
+// All tables of liveness, to an array that is empty at first, and the number of passes.
+pub fn live_sets(words: &[u32], visit: &[u32], live: &mut [u64]) -> u32
+    requires { ⌜ VisitStage (now words) (now visit) ⌝ }
+    requires { ⌜ now live ≡ replicate 24576 0 ⌝ }
+    ensures { λ r. ⌜ (r ≡ rounds (now (words .entry))) × LivenessStage (now (words .entry)) (now (live .exit)) ⌝ }
 {
-    block_sets(words, reads, writes, uses, defs);
-    let mut preds = [0u64; 2048];
-    predecessor_sets(words, seen, &mut preds);
-    liveness(words, rpo, uses, defs, &preds, exits)
+    operand_sets(words, live);
+    block_sets(words, live);
+    end_sets(words, &mut live[ENDS..EXITS]);
+    liveness(words, visit, live)
 }

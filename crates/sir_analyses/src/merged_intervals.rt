@@ -2,11 +2,16 @@
 // where none is.
 use crate::answers::put_words;
 use crate::local_intervals::BLOCK_END;
+use crate::local_intervals::RUN;
 use crate::local_intervals::Scanned;
+use crate::stages::ends;
+use crate::stages::exits;
+use crate::stages::is_visited;
+use crate::stages::reads;
+use crate::stages::writes;
 use plank_core::dense_index_set::intersects;
 use plank_core::index::BlockId;
 use plank_core::index::OpIdx;
-use plank_core::rows::row_contains;
 use plank_core::rows::row_difference_with;
 use plank_core::rows::row_of;
 use plank_core::rows::row_union_with;
@@ -21,12 +26,11 @@ ghost use lib.Dec.{eqb};
 ghost use Rattle.plank_core.specs.Lists.{upto};
 ghost use Rattle.plank_core.specs.DenseIndexSet.{contains, meets};
 ghost use Rattle.sir_data.specs.Records.{blocks, locals};
-ghost use Rattle.sir_data.specs.WellFormed.{WellFormed};
-ghost use Rattle.sir_analyses.specs.Liveness.{Set, settled, endOpen, closing};
+ghost use Rattle.sir_analyses.specs.Liveness.{Set, endOpen, closing};
 ghost use Rattle.sir_analyses.specs.Answers.{intervalWords};
-ghost use Rattle.sir_analyses.specs.Visiting.{SeenBlocks};
+ghost use Rattle.sir_analyses.specs.Stages.{VisitStage, LivenessStage, readsIn, writesIn, endsIn, exitsIn};
 ghost use Rattle.sir_analyses.specs.Writing.{Puts};
-ghost use Rattle.sir_analyses.specs.Tables.{Same, OperandRows, SameRows, EndRows};
+ghost use Rattle.sir_analyses.specs.Tables.{Same};
 ghost use Rattle.sir_analyses.specs.Sweep.{sweepBlock, sweepFrom};
 
 // One operation is passed: where a local is live before it an end is open, and where none is the open one is closed.
@@ -64,28 +68,28 @@ fn put_interval_before(run: &mut [u32], n: usize, b: BlockId, from: u32, to: u32
     n - 3
 }
 
-// The locals that are live behind the operations of block b, to an empty set: those live at its exit, and those read there.
-fn live_behind(exits: &[u64], ends: &[u64], b: BlockId, live: &mut [u64])
-    requires { ⌜ (8 * b .0 + 8 ≤ length (now exits)) × (8 * b .0 + 8 ≤ length (now ends)) × (now live ≡ replicate 8 0) ⌝ }
-    ensures { λ _. ⌜ ((v : ℕ) → v < 512 → contains (now (live .exit)) v ≡ (contains (now (exits .entry)) (512 * b .0 + v) || contains (now (ends .entry)) (512 * b .0 + v))) ⌝ }
+// The locals that are live after the operations of block b, to an empty set: those live at its exit, and those read there.
+fn live_after(live: &[u64], b: BlockId, set: &mut [u64])
+    requires { ⌜ (length (now live) ≡ 24576) × (b .0 < 256) × (now set ≡ replicate 8 0) ⌝ }
+    ensures { λ _. ⌜ ((v : ℕ) → v < 512 → contains (now (set .exit)) v ≡ (contains (exitsIn (now (live .entry))) (512 * b .0 + v) || contains (endsIn (now (live .entry))) (512 * b .0 + v))) ⌝ }
 {
     let row = b.0 as usize;
-    row_union_with(live, 0, row_of(exits, row));
-    row_union_with(live, 0, row_of(ends, row));
+    row_union_with(set, 0, row_of(exits(live), row));
+    row_union_with(set, 0, row_of(ends(live), row));
 }
 
-// The locals that are live before operation o, from those live behind it.
-fn live_before(reads: &[u64], writes: &[u64], o: OpIdx, live: &mut [u64])
-    requires { ⌜ (8 * o .0 + 8 ≤ length (now reads)) × (8 * o .0 + 8 ≤ length (now writes)) × (length (now live) ≡ 8) ⌝ }
-    ensures { λ _. ⌜ ((v : ℕ) → v < 512 → contains (now (live .exit)) v ≡ ((contains (now (live .entry)) v && not (contains (now (writes .entry)) (512 * o .0 + v))) || contains (now (reads .entry)) (512 * o .0 + v))) ⌝ }
+// The locals that are live before operation o, from those live after it.
+fn live_before(live: &[u64], o: OpIdx, set: &mut [u64])
+    requires { ⌜ (length (now live) ≡ 24576) × (o .0 < 1024) × (length (now set) ≡ 8) ⌝ }
+    ensures { λ _. ⌜ ((v : ℕ) → v < 512 → contains (now (set .exit)) v ≡ ((contains (now (set .entry)) v && not (contains (writesIn (now (live .entry))) (512 * o .0 + v))) || contains (readsIn (now (live .entry))) (512 * o .0 + v))) ⌝ }
 {
     let row = o.0 as usize;
-    row_difference_with(live, 0, row_of(writes, row));
-    row_union_with(live, 0, row_of(reads, row));
+    row_difference_with(set, 0, row_of(writes(live), row));
+    row_union_with(set, 0, row_of(reads(live), row));
 }
 
-// The end that is open behind a block's operations: the block's, where one of the locals is live there.
-fn end_behind<'a>(reach: &'a [u64], live: &'a [u64]) -> u32
+// The end that is open after a block's operations: the block's, where one of the locals is live there.
+fn end_after<'a>(reach: &'a [u64], live: &'a [u64]) -> u32
     requires { ⌜ (length (now reach) ≡ 8) × (length (now live) ≡ 8) ⌝ }
     ensures { λ r. ⌜ r ≡ endOpen (meets (now (reach .entry)) (now (live .entry))) ⌝ }
 {
@@ -97,75 +101,50 @@ fn end_behind<'a>(reach: &'a [u64], live: &'a [u64]) -> u32
 
 // The merged intervals of the reach in one block, three words each, to the end of `run`: where they begin. The source's function of
 // this name sorts and joins a list; this one finds them joined, operation by operation.
-fn merge_intervals(
-    words: &[u32],
-    reads: &[u64],
-    writes: &[u64],
-    exits: &[u64],
-    ends: &[u64],
-    reach: &[u64],
-    b: BlockId,
-    run: &mut [u32],
-) -> usize
-    requires { ⌜ WellFormed (now words) ⌝ }
-    requires { ⌜ OperandRows (now words) (now reads) (now writes) ⌝ }
-    requires { ⌜ (length (now exits) ≡ 2048) × SameRows (now exits) (settled (now words) .1) (blocks (now words)) × EndRows (now words) (now ends) ⌝ }
+fn merge_intervals(words: &[u32], live: &[u64], reach: &[u64], b: BlockId, run: &mut [u32]) -> usize
+    requires { ⌜ LivenessStage (now words) (now live) ⌝ }
     requires { ⌜ (b .0 < blocks (now words)) × (length (now reach) ≡ 8) × (length (now run) ≡ 3075) ⌝ }
     ensures { λ r. ⌜ (r ≤ 3075) × ((s : Set) → length s ≡ locals (now (words .entry)) → Same (now (reach .entry)) s → drop r (now (run .exit)) ≡ intervalWords (sweepBlock (now (words .entry)) s (b .0) [])) ⌝ }
 {
-    let mut live = [0u64; 8];
-    live_behind(exits, ends, b, &mut live);
+    let mut set = [0u64; 8];
+    live_after(live, b, &mut set);
     let span = block_operations(words, b);
     let first = span.start;
     let mut o = span.end;
-    let mut till = end_behind(reach, &live);
-    let mut n: usize = 3075;
+    let mut till = end_after(reach, &set);
+    let mut n: usize = RUN;
     while first < o {
         o -= 1;
-        live_before(reads, writes, OpIdx(o), &mut live);
-        let p = pass_op(intersects(reach, &live), OpIdx(o), till);
+        live_before(live, OpIdx(o), &mut set);
+        let p = pass_op(intersects(reach, &set), OpIdx(o), till);
         n = put_interval_before(run, n, b, o + 1, p.closed);
         till = p.till;
     }
     put_interval_before(run, n, b, 0, till)
 }
 
-// The intervals of the visited blocks, by id, behind the first n words of an answer: the next number.
+// The intervals of the visited blocks, by id, after the first n words of an answer: the next number.
 pub fn populate_intervals_from_local_liveness(
     words: &[u32],
-    seen: &[u64],
-    reads: &[u64],
-    writes: &[u64],
-    exits: &[u64],
-    ends: &[u64],
+    visit: &[u32],
+    live: &[u64],
     reach: &[u64],
-    out: &mut [u8],
-    limit: usize,
     n: usize,
+    out: &mut [u8],
 ) -> usize
-    requires { ⌜ WellFormed (now words) ⌝ }
-    requires { ⌜ SeenBlocks (now words) (now seen) × OperandRows (now words) (now reads) (now writes) ⌝ }
-    requires { ⌜ (length (now exits) ≡ 2048) × SameRows (now exits) (settled (now words) .1) (blocks (now words)) × EndRows (now words) (now ends) ⌝ }
-    requires { ⌜ (length (now reach) ≡ 8) × (limit ≤ length (now out)) × (n ≤ 8) ⌝ }
-    ensures { λ r. ⌜ (r ≤ n + 787200) × ((s : Set) → length s ≡ locals (now (words .entry)) → Same (now (reach .entry)) s → Puts limit n (intervalWords (sweepFrom (now (words .entry)) s (upto (blocks (now (words .entry)))))) (now (out .entry)) (now (out .exit)) r) ⌝ }
+    requires { ⌜ VisitStage (now words) (now visit) ⌝ }
+    requires { ⌜ LivenessStage (now words) (now live) ⌝ }
+    requires { ⌜ (length (now reach) ≡ 8) × (n ≤ 8) ⌝ }
+    ensures { λ r. ⌜ (r ≤ n + 787200) × ((s : Set) → length s ≡ locals (now (words .entry)) → Same (now (reach .entry)) s → Puts n (intervalWords (sweepFrom (now (words .entry)) s (upto (blocks (now (words .entry)))))) (now (out .entry)) (now (out .exit)) r) ⌝ }
 {
     let count = block_count(words);
-    let mut run = [0u32; 3075];
+    let mut run = [0u32; RUN];
     let mut m = n;
     let mut b: u32 = 0;
     while b < count {
-        if row_contains(seen, 1, b) {
-            let at = merge_intervals(
-                words,
-                reads,
-                writes,
-                exits,
-                ends,
-                reach,
-                BlockId(b),
-                &mut run,
-            );
-            m = put_words(out, limit, m, &run[at..]);
+        if is_visited(visit, BlockId(b)) {
+            let from = merge_intervals(words, live, reach, BlockId(b), &mut run);
+            m = put_words(out, m, &run[from..]);
         }
         b += 1;
     }

@@ -14,12 +14,11 @@ ghost use Prim.Native.Nat.{_≤_};
 ghost use lib.ListN.{length};
 ghost use Rattle.plank_core.specs.Lists.{bind};
 ghost use Rattle.sir_data.specs.Pages.{bytesOf};
-ghost use Rattle.sir_data.specs.WellFormed.{WellFormed};
-ghost use Rattle.sir_analyses.specs.Order.{blocksRpo};
-ghost use Rattle.sir_analyses.specs.Answers.{orderAnswer, predecessorsAnswer, usesAnswer};
+ghost use Rattle.sir_analyses.specs.Answers.{predecessorsAnswer, usesAnswer};
 ghost use Rattle.sir_analyses.specs.Calls.{made, answered, inWords};
 ghost use Rattle.sir_analyses.specs.Questions.{answerWords};
-ghost use Rattle.sir_analyses.specs.Visiting.{SeenBlocks, orderIn};
+ghost use Rattle.sir_analyses.specs.Stages.{OrderStage, VisitStage};
+ghost use Rattle.sir_analyses.specs.Visiting.{orderIn};
 ghost use Rattle.sir_analyses.specs.declared.questions.Question.{Question};
 
 // The order, from the keys of the visit.
@@ -33,48 +32,46 @@ fn visit_answer(post: &[u32], out: &mut [u8]) -> Answer
 }
 
 // Predecessors: counts, then writes.
-fn predecessors_answer(words: &[u32], seen: &[u64], b: BlockId, out: &mut [u8]) -> Answer
-    requires { ⌜ WellFormed (now words) ⌝ }
-    requires { ⌜ SeenBlocks (now words) (now seen) ⌝ }
+fn predecessors_answer(words: &[u32], visit: &[u32], b: BlockId, out: &mut [u8]) -> Answer
+    requires { ⌜ VisitStage (now words) (now visit) ⌝ }
     ensures { λ r. ⌜ made (r .number) (r .length) (now (out .exit)) ≡ answered (bind (predecessorsAnswer (now (words .entry)) (b .0)) bytesOf) (now (out .entry)) ⌝ }
 {
-    let n = put_predecessors(words, seen, b, out, 0);
+    let n = put_predecessors(words, visit, b, &mut []);
     let answer = finish(n, out.len());
-    put_predecessors(words, seen, b, out, answer.length as usize);
+    let end = answer.length as usize;
+    put_predecessors(words, visit, b, &mut out[..end]);
     answer
 }
 
 // Uses: counts, then writes.
-fn uses_answer(words: &[u32], rpo: &[u32], v: LocalId, out: &mut [u8]) -> Answer
-    requires { ⌜ WellFormed (now words) ⌝ }
-    requires { ⌜ now rpo ≡ blocksRpo (now words) ⌝ }
+fn uses_answer(words: &[u32], visit: &[u32], v: LocalId, out: &mut [u8]) -> Answer
+    requires { ⌜ VisitStage (now words) (now visit) ⌝ }
     ensures { λ r. ⌜ made (r .number) (r .length) (now (out .exit)) ≡ answered (bind (usesAnswer (now (words .entry)) (v .0)) bytesOf) (now (out .entry)) ⌝ }
 {
     let mut counts = [0u32; 1024];
     input_counts(words, v, &mut counts);
-    let n = put_uses(words, rpo, &counts, v, out, 0);
+    let n = put_uses(words, visit, &counts, v, &mut []);
     let answer = finish(n, out.len());
-    put_uses(words, rpo, &counts, v, out, answer.length as usize);
+    let end = answer.length as usize;
+    put_uses(words, visit, &counts, v, &mut out[..end]);
     answer
 }
 
 // The answer to a question of the order.
 pub fn order_answer(
     words: &[u32],
-    seen: &[u64],
     post: &[u32],
-    rpo: &[u32],
+    visit: &[u32],
     question: OrderQuestion,
     out: &mut [u8],
 ) -> Answer
-    requires { ⌜ WellFormed (now words) ⌝ }
-    requires { ⌜ SeenBlocks (now words) (now seen) × (now rpo ≡ blocksRpo (now words)) ⌝ }
-    requires { ⌜ (orderIn (now post) ≡ orderAnswer (now words)) × (length (orderIn (now post)) ≤ 384) ⌝ }
+    requires { ⌜ OrderStage (now words) (now post) ⌝ }
+    requires { ⌜ VisitStage (now words) (now visit) ⌝ }
     ensures { λ r. ⌜ made (r .number) (r .length) (now (out .exit)) ≡ answered (inWords (answerWords (Question.OfOrder question)) (now (words .entry))) (now (out .entry)) ⌝ }
 {
     match question {
         OrderQuestion::Order => visit_answer(post, out),
-        OrderQuestion::Predecessors(b) => predecessors_answer(words, seen, b, out),
-        OrderQuestion::Uses(v) => uses_answer(words, rpo, v, out),
+        OrderQuestion::Predecessors(b) => predecessors_answer(words, visit, b, out),
+        OrderQuestion::Uses(v) => uses_answer(words, visit, v, out),
     }
 }

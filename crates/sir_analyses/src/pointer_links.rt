@@ -1,6 +1,7 @@
 // Where a pointer goes from each local in one step, and which locals mark what reaches them: both are found in one pass over the
 // operations and one over the blocks.
 use crate::block_sets::add_run;
+use crate::stages::rpo;
 use plank_core::index::BlockId;
 use plank_core::index::OpIdx;
 use plank_core::rows::row_add;
@@ -27,6 +28,7 @@ ghost use Rattle.plank_core.specs.DenseIndexSet.{contains};
 ghost use Rattle.sir_data.specs.Records.{blocks, operations, ops, successors, returned};
 ghost use Rattle.sir_data.specs.WellFormed.{WellFormed};
 ghost use Rattle.sir_analyses.specs.Order.{blocksRpo};
+ghost use Rattle.sir_analyses.specs.Stages.{VisitStage};
 ghost use Rattle.sir_analyses.specs.Tables.{Adds};
 ghost use Rattle.sir_analyses.specs.Allocation.{escapesBy};
 ghost use Rattle.sir_analyses.specs.Pointers.{isMet, derivesBy, passesBy, PointerRows};
@@ -47,15 +49,15 @@ fn add_operations(words: &[u32], b: BlockId, met: &mut [u64])
 }
 
 // The operations that are met in visited blocks.
-fn met_operations(words: &[u32], rpo: &[u32], met: &mut [u64])
-    requires { ⌜ WellFormed (now words) ⌝ }
-    requires { ⌜ now rpo ≡ blocksRpo (now words) ⌝ }
+fn met_operations(words: &[u32], visit: &[u32], met: &mut [u64])
+    requires { ⌜ VisitStage (now words) (now visit) ⌝ }
     requires { ⌜ now met ≡ replicate 16 0 ⌝ }
     ensures { λ _. ⌜ (length (now (met .exit)) ≡ 16) × ((o : ℕ) → o < 1024 → contains (now (met .exit)) o ≡ isMet (now (words .entry)) o) ⌝ }
 {
+    let order = rpo(visit);
     let mut i: usize = 0;
-    while i < rpo.len() {
-        add_operations(words, BlockId(rpo[i]), met);
+    while i < order.len() {
+        add_operations(words, BlockId(order[i]), met);
         i += 1;
     }
 }
@@ -144,17 +146,17 @@ fn link_edges(words: &[u32], b: BlockId, links: &mut [u64])
     }
 }
 
-// What the visited blocks link by their edges, and harm by what they return.
-fn link_blocks(words: &[u32], rpo: &[u32], links: &mut [u64], harms: &mut [u64])
-    requires { ⌜ WellFormed (now words) ⌝ }
-    requires { ⌜ now rpo ≡ blocksRpo (now words) ⌝ }
+// What the visited blocks link by their edges, and what they return.
+fn link_blocks(words: &[u32], visit: &[u32], links: &mut [u64], harms: &mut [u64])
+    requires { ⌜ VisitStage (now words) (now visit) ⌝ }
     requires { ⌜ (length (now links) ≡ 4096) × (length (now harms) ≡ 8) ⌝ }
     ensures { λ _. ⌜ Adds (now (links .entry)) (λ v u. any (λ b. any (λ s. passesBy (now (words .entry)) b s v u) (successors (now (words .entry)) b)) (blocksRpo (now (words .entry)))) (now (links .exit)) ⌝ }
     ensures { λ _. ⌜ Adds (now (harms .entry)) (λ r v. any (λ b. eqb r 0 && mem v (returned (now (words .entry)) b)) (blocksRpo (now (words .entry)))) (now (harms .exit)) ⌝ }
 {
+    let order = rpo(visit);
     let mut i: usize = 0;
-    while i < rpo.len() {
-        let b = BlockId(rpo[i]);
+    while i < order.len() {
+        let b = BlockId(order[i]);
         link_edges(words, b, links);
         add_run(harms, 0, returned_outputs(words, b));
         i += 1;
@@ -162,14 +164,13 @@ fn link_blocks(words: &[u32], rpo: &[u32], links: &mut [u64], harms: &mut [u64])
 }
 
 // Both tables of an image: what each local links to, and the locals that are used in an escaping operand or returned.
-pub fn pointer_links(words: &[u32], rpo: &[u32], links: &mut [u64], harms: &mut [u64])
-    requires { ⌜ WellFormed (now words) ⌝ }
-    requires { ⌜ now rpo ≡ blocksRpo (now words) ⌝ }
+pub fn pointer_links(words: &[u32], visit: &[u32], links: &mut [u64], harms: &mut [u64])
+    requires { ⌜ VisitStage (now words) (now visit) ⌝ }
     requires { ⌜ (now links ≡ replicate 4096 0) × (now harms ≡ replicate 8 0) ⌝ }
     ensures { λ _. ⌜ PointerRows (now (words .entry)) (now (links .exit)) (now (harms .exit)) ⌝ }
 {
     let mut met = [0u64; 16];
-    met_operations(words, rpo, &mut met);
+    met_operations(words, visit, &mut met);
     link_operations(words, &met, links, harms);
-    link_blocks(words, rpo, links, harms);
+    link_blocks(words, visit, links, harms);
 }

@@ -1,8 +1,13 @@
 // The order of functions and blocks, as `ReversePostOrder` of the source fills it, over arrays of fixed length.
+use crate::stages::RPO;
+use crate::stages::VISIT;
+use crate::stages::VISITED;
 use plank_core::index::BlockId;
 use plank_core::index::FunctionId;
 use plank_core::index::OpIdx;
 use plank_core::rows::row_add;
+use plank_core::rows::row_contains;
+use sir_data::records::block_count;
 use sir_data::records::block_operations;
 use sir_data::records::entry_block;
 use sir_data::records::init_function;
@@ -12,11 +17,14 @@ use sir_data::records::successor;
 use sir_data::records::successor_count;
 ghost use mathlib.Core.Path.{_≡_};
 ghost use mathlib.Core.List.{_++_, _∷_, []};
-ghost use Prim.Native.Nat.{_+_, _<_, _≤_};
-ghost use lib.ListN.{length, take, replicate};
+ghost use Prim.Native.Nat.{ℕ, _+_, _<_, _≤_};
+ghost use lib.ListN.{length, getD, take, replicate};
+ghost use Rattle.plank_core.specs.Lists.{oneIf};
+ghost use Rattle.plank_core.specs.DenseIndexSet.{contains};
 ghost use Rattle.sir_data.specs.Records.{functions, blocks, operations, optional, callees};
 ghost use Rattle.sir_data.specs.WellFormed.{WellFormed};
 ghost use Rattle.sir_analyses.specs.Order.{visitFunction, visitBlock};
+ghost use Rattle.sir_analyses.specs.Stages.{OrderStage, VisitStage};
 ghost use Rattle.sir_analyses.specs.Visiting.{Held, Went, VisitedAll, blocksOf, blocksIn, entryOf, orderIn, Listed};
 
 // One more than the function that an operation calls, 0 where it calls none.
@@ -174,4 +182,35 @@ pub fn order_words(keys: &[u32], out: &mut [u32]) -> usize
         }
     }
     m
+}
+
+// For each block whether it was seen, to an array that is empty at first.
+fn flag_visited(words: &[u32], seen: &[u64], flags: &mut [u32])
+    requires { ⌜ WellFormed (now words) ⌝ }
+    requires { ⌜ (length (now seen) ≡ 16) × (now flags ≡ replicate 256 0) ⌝ }
+    ensures { λ _. ⌜ (length (now (flags .exit)) ≡ 256) × ((b : ℕ) → b < blocks (now (words .entry)) → getD (now (flags .exit)) b 0 ≡ oneIf (contains (now (seen .entry)) (512 + b))) ⌝ }
+{
+    let count = block_count(words);
+    let mut b: u32 = 0;
+    while b < count {
+        if row_contains(seen, 1, b) {
+            flags[b as usize] = 1;
+        }
+        b += 1;
+    }
+}
+
+// The visit, to an array that is empty at first: how many blocks, their ids in the order's sequence, and which were visited. The keys
+// of what is finished go to `post`: how many.
+pub fn compute_visit(words: &[u32], post: &mut [u32], table: &mut [u32]) -> usize
+    requires { ⌜ WellFormed (now words) ⌝ }
+    requires { ⌜ (length (now post) ≡ 320) × (now table ≡ replicate 513 0) ⌝ }
+    ensures { λ r. ⌜ (r ≤ length (now (post .exit))) × OrderStage (now (words .entry)) (take r (now (post .exit))) × VisitStage (now (words .entry)) (now (table .exit)) ⌝ }
+{
+    let mut seen = [0u64; 16];
+    let finished = visit(words, &mut seen, post);
+    let count = blocks_rpo(&post[..finished], &mut table[RPO..VISITED]);
+    flag_visited(words, &seen, &mut table[VISITED..VISIT]);
+    table[0] = count as u32;
+    finished
 }

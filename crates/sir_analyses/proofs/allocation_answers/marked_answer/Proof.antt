@@ -1,9 +1,15 @@
 -- `marked_answer` meets its contract.
-use mathlib.Core.Path.{refl}
+use mathlib.Core.Path.{sym}
+use lib.Seq.{length-take-le}
+use Rattle.sir_analyses.proofs.Calls.{finish-fits}
+use mathlib.Core.Path.{refl, subst}
+use Prim.Native.Nat.{ℕ}
+use lib.ListN.{length}
 use Rattle.sir_analyses.specs.Answers.{allocationAnswer}
+use Rattle.sir_analyses.specs.Writing.{Finished}
 use Rattle.sir_analyses.proofs.Writing.{puts-as}
 use Rattle.sir_analyses.proofs.AllocationWords.{site-known, marked-answer, marked-long}
-use Rattle.sir_analyses.proofs.Calls.{finished, finish-as, finish-fits}
+use Rattle.sir_analyses.proofs.Calls.{finished}
 use borrow.Author.Needs.{needs}
 use Rattle.sir_analyses.proofs.allocation_answers.marked_answer.Statement.{statement}
 use Rattle.sir_analyses.proofs.allocation_answers.marked_answer.Tie as tie
@@ -11,22 +17,37 @@ use Rattle.sir_analyses.proofs.allocation_answers.marked_answer.Tie as 
 finish-requires : tie.Need-finish-requires
 finish-requires c κs = search needs
 
+slice-relend-prefix-put-head : tie.Need-slice-relend-prefix-put-head
+slice-relend-prefix-put-head c = finish-fits (c .finish .ensures)
+
+slice-aggregate-put-head : tie.Need-slice-aggregate-put-head
+slice-aggregate-put-head c = sym (length-take-le _ _ (finish-fits (c .before .finish .ensures)))
+
 put-head-requires : tie.Need-put-head-requires
-put-head-requires c κs = let s = c .before .before .before .before in
-    (s .pre .0, (site-known (s .args .words .now) (s .pre .0) (s .pre .1 .1), finish-fits (c .before .finish .ensures)))
+put-head-requires c κs =
+    let start = c .before .before .before .before in
+    (start .pre .0, site-known (start .args .words .now) (start .pre .0) (start .pre .1 .1))
 
 same-length : tie.Need-same-length
 same-length c = search needs
 
 returns : tie.Need-returns
 returns c =
-    let at-finish = c .before .before .before .before in
+    let at-put-head = c .before .before in
+    let at-finish = at-put-head .before .before in
     let start = at-finish .before .before .before in
     let w = start .args .words .now in
-    λ a x t.
-    finished (allocationAnswer w a) (start .args .out .now)
-    (finish-as (allocationAnswer w a) (start .args .out .now) (marked-long w (start .pre .0) x t) refl (at-finish .finish .ensures))
-    (puts-as (marked-answer w (start .pre .0) x t) (c .before .before .put-head .ensures))
+    let out = start .args .out .now in
+    let f = at-finish .finish in
+    λ a x t. finished (allocationAnswer w a) out (subst (λ (n : ℕ). Finished n (length out) (f .result .number) (f .result .length)) (marked-long w (start .pre .0) x t) (f .ensures)) (puts-as (marked-answer w (start .pre .0) x t) (at-put-head .put-head .ensures)) refl
 
 pub marked-answer-spec : {M : Type 1} → statement M
-marked-answer-spec = tie.close (tie.spec finish-requires put-head-requires same-length returns)
+marked-answer-spec =
+    tie.close
+    (tie.spec
+    finish-requires
+    slice-relend-prefix-put-head
+    slice-aggregate-put-head
+    put-head-requires
+    same-length
+    returns)

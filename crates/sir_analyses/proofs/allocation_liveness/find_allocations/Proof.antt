@@ -13,30 +13,36 @@ use Rattle.sir_analyses.proofs.allocation_liveness.find_allocations.Sta
 use Rattle.sir_analyses.proofs.allocation_liveness.find_allocations.Tie as tie
 
 abbrev Inv-loop : tie.InvT-loop
-Inv-loop words rpo keys₀ m₀ i₀ keys m i = (i ≤ length rpo) × (m ≤ length keys) × Listing (allocKeys words) 0 keys₀ (bind (drop i rpo) (blockKeys words)) keys m
+Inv-loop words visit keys₀ order m₀ i₀ keys m i = (i ≤ length order) × (m ≤ length keys) × Listing (allocKeys words) 0 keys₀ (bind (drop i order) (blockKeys words)) keys m
 
 abbrev μ-loop : tie.MeasureT-loop
-μ-loop words rpo keys₀ m₀ i₀ keys m i = length rpo - i
+μ-loop words visit keys₀ order m₀ i₀ keys m i = length order - i
+
+rpo-requires : tie.Need-rpo-requires Inv-loop μ-loop
+rpo-requires c κs = (c .before .before .before .pre .long, c .before .before .before .pre .few)
 
 loop-holds : tie.Need-loop-holds Inv-loop μ-loop
-loop-holds c = let S = c .before .before .before in
-    (omega arith, omega arith, listing-as (keys-start (S .args .words .now) (S .args .rpo .now) (S .pre .1)) listing-none)
+loop-holds c =
+    let start = c .before .before .before .before in
+    (omega arith, omega arith, listing-as (keys-start (start .args .words .now) (c .rpo .result .now) (c .rpo .ensures ∙ start .pre .rpo-is)) listing-none)
 
-mul-t6 : tie.Need-mul-t6 Inv-loop μ-loop
-mul-t6 c = omega arith
+mul-t7 : tie.Need-mul-t7 Inv-loop μ-loop
+mul-t7 c = omega arith
 
-shared-slice-read-t9 : tie.Need-shared-slice-read-t9 Inv-loop μ-loop
-shared-slice-read-t9 c = omega arith
+shared-slice-read-t10 : tie.Need-shared-slice-read-t10 Inv-loop μ-loop
+shared-slice-read-t10 c = omega arith
 
 block-allocations-requires : tie.Need-block-allocations-requires Inv-loop μ-loop
 block-allocations-requires c κs =
-    let at-loop = c .before .before .before in
-    let start = at-loop .before .before .before .before in
+    let at-loop-test = c .before .before in
+    let at-loop = at-loop-test .before in
+    let at-rpo = at-loop .before in
+    let start = at-rpo .before .before .before .before in
     let L = at-loop .loop in
     let w = start .args .words .now in
-    let rpo = start .args .rpo .now in
-    let b = getD rpo (L .i) 0 in
-    (start .pre .0, (rpo-below w (start .pre .0) (start .pre .1) b (getD-mem rpo (L .i) 0 (c .before .before .loop-test .taken)), omega (arith, L .inv .1)))
+    let order = at-rpo .rpo .result .now in
+    let b = getD order (L .i) 0 in
+    (start .pre .well-formed, (rpo-below w (start .pre .well-formed) (at-rpo .rpo .ensures ∙ start .pre .rpo-is) b (getD-mem order (L .i) 0 (at-loop-test .loop-test .taken)), omega (arith, L .inv .1)))
 
 same-length : tie.Need-same-length Inv-loop μ-loop
 same-length c =
@@ -49,12 +55,13 @@ returns c =
     let at-block-allocations = c .before .before .before in
     let at-loop-test = at-block-allocations .before .before .before in
     let at-loop = at-loop-test .before in
-    let start = at-loop .before .before .before .before in
+    let at-rpo = at-loop .before in
+    let start = at-rpo .before .before .before .before in
     let L = at-loop .loop in
     let w = start .args .words .now in
-    let rpo = start .args .rpo .now in
-    let e = block-next (blockKeys w) rpo (L .i) (at-loop-test .loop-test .taken) in
-    capped-over (blockKeys w (getD rpo (L .i) 0)) (bind (drop (L .i + 1) rpo) (blockKeys w)) (omega (arith, c .if1 .taken)) (listing-as e (L .inv .2)) (at-block-allocations .block-allocations .ensures)
+    let order = at-rpo .rpo .result .now in
+    let e = block-next (blockKeys w) order (L .i) (at-loop-test .loop-test .taken) in
+    capped-over (blockKeys w (getD order (L .i) 0)) (bind (drop (L .i + 1) order) (blockKeys w)) (omega (arith, c .if1 .taken)) (listing-as e (L .inv .2)) (at-block-allocations .block-allocations .ensures)
 
 add-i : tie.Need-add-i Inv-loop μ-loop
 add-i c = omega arith
@@ -67,22 +74,26 @@ loop-again c =
     let at-block-allocations = c .before .before .before in
     let at-loop-test = at-block-allocations .before .before .before in
     let at-loop = at-loop-test .before in
-    let start = at-loop .before .before .before .before in
+    let at-rpo = at-loop .before in
+    let start = at-rpo .before .before .before .before in
     let L = at-loop .loop in
     let w = start .args .words .now in
-    let rpo = start .args .rpo .now in
-    let e = block-next (blockKeys w) rpo (L .i) (at-loop-test .loop-test .taken) in
+    let order = at-rpo .rpo .result .now in
+    let e = block-next (blockKeys w) order (L .i) (at-loop-test .loop-test .taken) in
     (omega arith, omega (arith, c .if1 .left), listing-more (listing-as e (L .inv .2)) (capped-fits (omega (arith, c .if1 .left)) (at-block-allocations .block-allocations .ensures)))
 
 same-length-2 : tie.Need-same-length-2 Inv-loop μ-loop
 same-length-2 c = c .before .loop .inv .2 .long
 
 returns-2 : tie.Need-returns-2 Inv-loop μ-loop
-returns-2 c = let S = c .before .before .before .before .before in
-    let L = c .before .loop in
-    let w = S .args .words .now in
-    let rpo = S .args .rpo .now in
-    capped-all (L .inv .1) (listing-all (block-end (blockKeys w) rpo (L .i) (c .loop-test .left)) (L .inv .2))
+returns-2 c =
+    let at-loop = c .before in
+    let at-rpo = at-loop .before in
+    let start = at-rpo .before .before .before .before in
+    let L = at-loop .loop in
+    let w = start .args .words .now in
+    let order = at-rpo .rpo .result .now in
+    capped-all (L .inv .1) (listing-all (block-end (blockKeys w) order (L .i) (c .loop-test .left)) (L .inv .2))
 
 pub find-allocations-spec : {M : Type 1} → statement M
 find-allocations-spec =
@@ -90,9 +101,10 @@ find-allocations-spec =
     (tie.spec
     Inv-loop
     μ-loop
+    rpo-requires
     loop-holds
-    mul-t6
-    shared-slice-read-t9
+    mul-t7
+    shared-slice-read-t10
     block-allocations-requires
     same-length
     returns

@@ -8,31 +8,32 @@ use Rattle.sir_analyses.proofs.allocation_words.put_head.Statement.{sta
 use Rattle.sir_analyses.proofs.allocation_words.put_head.Tie as tie
 
 base-ptr-requires : tie.Need-base-ptr-requires
-base-ptr-requires c κs = search needs
+base-ptr-requires c = search needs
 
 alloc-kind-requires : tie.Need-alloc-kind-requires
-alloc-kind-requires c κs = search needs
+alloc-kind-requires c = search needs
 
 kind-words-requires : tie.Need-kind-words-requires
-kind-words-requires c κs = search needs
+kind-words-requires c = search needs
 
 slice-aggregate-put-words : tie.Need-slice-aggregate-put-words
 slice-aggregate-put-words c = search needs
 
 put-words-requires : tie.Need-put-words-requires
-put-words-requires c κs = search needs
+put-words-requires c = search needs
 
 same-length : tie.Need-same-length
 same-length c = search needs
 
 returns : tie.Need-returns
 returns c =
-    let at-kind-words = c .before .before .before .before .before in
+    let at-put-words = c .before .before in
+    let at-kind-words = at-put-words .before .before .before in
     let at-alloc-kind = at-kind-words .before in
     let at-base-ptr = at-alloc-kind .before in
     let start = at-base-ptr .before .before .before .before .before in
     let a = start .args in
-    puts-as (head-made (a .words .now) (a .site .block .0) (a .site .op .0) (a .mark) (a .count) (at-base-ptr .base-ptr .ensures .0) (at-kind-words .kind-words .ensures ∙ ap kindWords (at-alloc-kind .alloc-kind .ensures))) (c .before .before .put-words .ensures)
+    puts-as (head-made (a .words .now) (a .site .block .0) (a .site .op .0) (a .mark) (a .count) (at-base-ptr .base-ptr .ensures .0) (at-kind-words .kind-words .ensures ∙ ap kindWords (at-alloc-kind .alloc-kind .ensures))) (at-put-words .put-words .ensures)
 
 pub put-head-spec : {M : Type 1} → statement M
 put-head-spec =

@@ -14,7 +14,7 @@ add-result : tie.Need-add-result
 add-result c = search needs
 
 returns : tie.Need-returns
-returns c = puts-none _ _ _ _ (c .if1 .taken)
+returns c = puts-none _ _ _ (c .if1 .taken)
 
 mul-store : tie.Need-mul-store
 mul-store c = search needs
@@ -29,7 +29,10 @@ same-length : tie.Need-same-length
 same-length c = search needs
 
 returns-2 : tie.Need-returns-2
-returns-2 c = puts-one _ _ _ _ (c .before .before .before .before .if1 .left) (c .before .before .store .ensures)
+returns-2 c =
+    let at-store = c .before .before in
+    let at-if1 = at-store .before .before in
+    puts-one _ _ _ (at-if1 .if1 .left) (at-store .store .ensures)
 
 pub put-word-spec : {M : Type 1} → statement M
 put-word-spec =

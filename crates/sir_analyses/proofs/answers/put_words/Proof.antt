@@ -11,10 +11,10 @@ use Rattle.sir_analyses.proofs.answers.put_words.Statement.{statement}
 use Rattle.sir_analyses.proofs.answers.put_words.Tie as tie
 
 abbrev Inv-loop : tie.InvT-loop
-Inv-loop out₀ limit n words m₀ i₀ out m i = (i ≤ length words) × Putting limit n words out₀ (drop i words) out m
+Inv-loop out₀ n words m₀ i₀ out m i = (i ≤ length words) × Putting n words out₀ (drop i words) out m
 
 abbrev μ-loop : tie.MeasureT-loop
-μ-loop out₀ limit n words m₀ i₀ out m i = length words - i
+μ-loop out₀ n words m₀ i₀ out m i = length words - i
 
 loop-holds : tie.Need-loop-holds Inv-loop μ-loop
 loop-holds c = (omega arith, putting-none)
@@ -39,7 +39,7 @@ loop-again c = let S = c .before .before .before .before .before .before .before
     let L = c .before .before .before .before .before .before .loop in
     let ws = S .args .words .now in
     let e : drop (L .i) ws ≡ (getD ws (L .i) 0 ∷ []) ++ drop (L .i + 1) ws = rw (add-one, drop-cons ws (L .i) 0 (c .before .before .before .before .before .loop-test .taken)) in
-    (omega arith, putting-more (S .pre .0) (putting-as e (L .inv .1)) (c .before .before .put-word .ensures))
+    (omega arith, putting-more (putting-as e (L .inv .1)) (c .before .before .put-word .ensures))
 
 same-length : tie.Need-same-length Inv-loop μ-loop
 same-length c = c .before .loop .inv .1 .long

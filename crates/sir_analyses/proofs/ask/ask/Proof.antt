@@ -23,9 +23,6 @@ slice-aggregate-load-3 c = search needs
 slice-aggregate-load-4 : tie.Need-slice-aggregate-load-4
 slice-aggregate-load-4 c = search needs
 
-slice-aggregate-load-5 : tie.Need-slice-aggregate-load-5
-slice-aggregate-load-5 c = search needs
-
 load-requires : tie.Need-load-requires
 load-requires c κs = search needs
 
@@ -34,104 +31,82 @@ refuse-requires c κs = search needs
 
 returns : tie.Need-returns
 returns c =
-    let at-seen2 = c .before .before .before .before .before in
-    let at-load = at-seen2 .before .before in
-    let at-words = at-load .before .before .before .before .before in
-    let start = at-words .before .before .before in
+    let at-if1 = c .before in
+    let at-load = at-if1 .before .before .before .before .before in
+    let at-slice-known = at-load .before .before .before .before .before in
+    let start = at-slice-known .before .before in
     let a = start .args in
     let image = a .image .now in
-    (image-refused (ownRules (a .question)) (inWords (answerWords (a .question))) image (a .out .now) (λ z. c .before .if1 .taken (at-load .load .ensures .number-is ∙ z)) (c .refuse .ensures .0 ∙ at-load .load .ensures .number-is) (c .refuse .ensures .1), promise image)
+    (image-refused (ownRules (a .question)) (inWords (answerWords (a .question))) image (a .out .now) (λ z. at-if1 .if1 .taken (at-load .load .ensures .number-is ∙ z)) (c .refuse .ensures .0 ∙ at-load .load .ensures .number-is) (c .refuse .ensures .1), promise image)
 
 array-share-prefix-words : tie.Need-array-share-prefix-words
 array-share-prefix-words c =
-    let at-words2 = c .before .before .before .before .before in
-    let at-load = at-words2 .before in
-    let p = at-load .load .ensures .accepted (sym (at-load .load .ensures .number-is) ∙ c .if1 .left) in
+    let at-load = c .before .before .before .before .before in
+    let p = at-load .load .ensures .prepared (sym (at-load .load .ensures .number-is) ∙ c .if1 .left) in
     p .words-fit
 
 slice-aggregate-answer : tie.Need-slice-aggregate-answer
 slice-aggregate-answer c =
-    let at-seen2 = c .before .before .before .before .before in
-    let at-load = at-seen2 .before .before in
-    let p = at-load .load .ensures .accepted (sym (at-load .load .ensures .number-is) ∙ c .before .if1 .left) in
+    let at-if1 = c .before in
+    let at-load = at-if1 .before .before .before .before .before in
+    let p = at-load .load .ensures .prepared (sym (at-load .load .ensures .number-is) ∙ at-if1 .if1 .left) in
     front-length _ _ (p .words-fit)
-
-slice-aggregate-answer-2 : tie.Need-slice-aggregate-answer-2
-slice-aggregate-answer-2 c = search needs
 
 array-share-prefix-post : tie.Need-array-share-prefix-post
 array-share-prefix-post c =
-    let at-post2 = c .before .before .before .before .before in
-    let at-load = at-post2 .before .before .before in
-    let p = at-load .load .ensures .accepted (sym (at-load .load .ensures .number-is) ∙ c .before .before .if1 .left) in
+    let at-if1 = c .before in
+    let at-load = at-if1 .before .before .before .before .before in
+    let p = at-load .load .ensures .prepared (sym (at-load .load .ensures .number-is) ∙ at-if1 .if1 .left) in
     p .post-fit
 
-slice-aggregate-answer-3 : tie.Need-slice-aggregate-answer-3
-slice-aggregate-answer-3 c =
-    let at-if1 = c .before .before .before in
-    let at-words2 = at-if1 .before .before .before .before .before in
-    let at-load = at-words2 .before in
-    let p = at-load .load .ensures .accepted (sym (at-load .load .ensures .number-is) ∙ at-if1 .if1 .left) in
+slice-aggregate-answer-2 : tie.Need-slice-aggregate-answer-2
+slice-aggregate-answer-2 c =
+    let at-if1 = c .before .before in
+    let at-load = at-if1 .before .before .before .before .before in
+    let p = at-load .load .ensures .prepared (sym (at-load .load .ensures .number-is) ∙ at-if1 .if1 .left) in
     front-length _ _ (p .post-fit)
 
-array-share-prefix-rpo : tie.Need-array-share-prefix-rpo
-array-share-prefix-rpo c =
+slice-aggregate-answer-3 : tie.Need-slice-aggregate-answer-3
+slice-aggregate-answer-3 c = search needs
+
+array-share-prefix-found : tie.Need-array-share-prefix-found
+array-share-prefix-found c =
     let at-if1 = c .before .before .before in
-    let at-words2 = at-if1 .before .before .before .before .before in
-    let at-load = at-words2 .before in
-    let p = at-load .load .ensures .accepted (sym (at-load .load .ensures .number-is) ∙ at-if1 .if1 .left) in
-    p .rpo-fit
+    let at-load = at-if1 .before .before .before .before .before in
+    let p = at-load .load .ensures .prepared (sym (at-load .load .ensures .number-is) ∙ at-if1 .if1 .left) in
+    p .sites-fit
 
 slice-aggregate-answer-4 : tie.Need-slice-aggregate-answer-4
 slice-aggregate-answer-4 c =
     let at-if1 = c .before .before .before .before in
-    let at-words2 = at-if1 .before .before .before .before .before in
-    let at-load = at-words2 .before in
-    let p = at-load .load .ensures .accepted (sym (at-load .load .ensures .number-is) ∙ at-if1 .if1 .left) in
-    front-length _ _ (p .rpo-fit)
-
-array-share-prefix-found : tie.Need-array-share-prefix-found
-array-share-prefix-found c =
-    let at-if1 = c .before .before .before .before in
-    let at-words2 = at-if1 .before .before .before .before .before in
-    let at-load = at-words2 .before in
-    let p = at-load .load .ensures .accepted (sym (at-load .load .ensures .number-is) ∙ at-if1 .if1 .left) in
-    p .keys-fit
-
-slice-aggregate-answer-5 : tie.Need-slice-aggregate-answer-5
-slice-aggregate-answer-5 c =
-    let at-if1 = c .before .before .before .before .before in
-    let at-words2 = at-if1 .before .before .before .before .before in
-    let at-load = at-words2 .before in
-    let p = at-load .load .ensures .accepted (sym (at-load .load .ensures .number-is) ∙ at-if1 .if1 .left) in
-    front-length _ _ (p .keys-fit)
+    let at-load = at-if1 .before .before .before .before .before in
+    let p = at-load .load .ensures .prepared (sym (at-load .load .ensures .number-is) ∙ at-if1 .if1 .left) in
+    front-length _ _ (p .sites-fit)
 
 answer-requires : tie.Need-answer-requires
 answer-requires c κs =
-    let at-words3 = c .before .before .before .before .before in
-    let at-if1 = at-words3 .before in
-    let at-words2 = at-if1 .before .before .before .before .before in
-    let at-load = at-words2 .before in
-    let p = at-load .load .ensures .accepted (sym (at-load .load .ensures .number-is) ∙ at-if1 .if1 .left) in
-    (p .ready, (p .order-is, p .order-fits))
+    let at-if1 = c .before .before .before .before .before in
+    let at-load = at-if1 .before .before .before .before .before in
+    let p = at-load .load .ensures .prepared (sym (at-load .load .ensures .number-is) ∙ at-if1 .if1 .left) in
+    (p .order-stage, p .visit-stage, p .accepted-stage)
 
 same-length : tie.Need-same-length
 same-length c = search needs
 
 returns-2 : tie.Need-returns-2
 returns-2 c =
-    let at-rpo3 = c .before .before .before .before .before in
-    let at-if1 = at-rpo3 .before .before .before .before in
-    let at-words2 = at-if1 .before .before .before .before .before in
-    let at-load = at-words2 .before in
-    let at-words = at-load .before .before .before .before .before in
-    let start = at-words .before .before .before in
+    let at-answer = c .before .before in
+    let at-words3 = at-answer .before .before .before .before .before in
+    let at-if1 = at-words3 .before in
+    let at-load = at-if1 .before .before .before .before .before in
+    let at-slice-known = at-load .before .before .before .before .before in
+    let start = at-slice-known .before .before in
     let a = start .args in
     let image = a .image .now in
     let z : refusal image ≡ 0 = sym (at-load .load .ensures .number-is) ∙ at-if1 .if1 .left in
     let own = ownRules (a .question) in
     let bytes = inWords (answerWords (a .question)) in
-    (c .before .before .answer .ensures ∙ ap (λ (w : List ℕ). call (own w) (bytes w) (a .out .now)) (at-load .load .ensures .accepted z .words-are) ∙ image-accepted own bytes image (a .out .now) z, promise image)
+    (at-answer .answer .ensures ∙ ap (λ (w : List ℕ). call (own w) (bytes w) (a .out .now)) (at-load .load .ensures .prepared z .words-are) ∙ image-accepted own bytes image (a .out .now) z, promise image)
 
 pub ask-spec : {M : Type 1} → statement M
 ask-spec =
@@ -141,19 +116,16 @@ ask-spec =
     slice-aggregate-load-2
     slice-aggregate-load-3
     slice-aggregate-load-4
-    slice-aggregate-load-5
     load-requires
     refuse-requires
     returns
     array-share-prefix-words
     slice-aggregate-answer
-    slice-aggregate-answer-2
     array-share-prefix-post
+    slice-aggregate-answer-2
     slice-aggregate-answer-3
-    array-share-prefix-rpo
-    slice-aggregate-answer-4
     array-share-prefix-found
-    slice-aggregate-answer-5
+    slice-aggregate-answer-4
     answer-requires
     same-length
     returns-2)

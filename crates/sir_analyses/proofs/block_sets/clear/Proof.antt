@@ -10,19 +10,19 @@ use Rattle.sir_analyses.proofs.block_sets.clear.Statement.{statement}
 use Rattle.sir_analyses.proofs.block_sets.clear.Tie as tie
 
 abbrev Inv-loop : tie.InvT-loop
-Inv-loop set₀ k₀ set k = (k ≤ 8) × (length set ≡ length set₀) × (set ≡ replicate k 0 ++ drop k set₀)
+Inv-loop sets₀ k₀ sets k = (k ≤ 16) × (length sets ≡ length sets₀) × (sets ≡ replicate k 0 ++ drop k sets₀)
 
 abbrev μ-loop : tie.MeasureT-loop
-μ-loop set₀ k₀ set k = 8 - k
+μ-loop sets₀ k₀ sets k = 16 - k
 
 loop-holds : tie.Need-loop-holds Inv-loop μ-loop
 loop-holds c = (omega arith, refl, refl)
 
-mul-set : tie.Need-mul-set Inv-loop μ-loop
-mul-set c = omega arith
+mul-sets : tie.Need-mul-sets Inv-loop μ-loop
+mul-sets c = omega arith
 
-slice-write-set : tie.Need-slice-write-set Inv-loop μ-loop
-slice-write-set c = omega arith
+slice-write-sets : tie.Need-slice-write-sets Inv-loop μ-loop
+slice-write-sets c = omega arith
 
 add-k : tie.Need-add-k Inv-loop μ-loop
 add-k c = omega arith
@@ -31,21 +31,23 @@ loop-less : tie.Need-loop-less Inv-loop μ-loop
 loop-less c = omega arith
 
 loop-again : tie.Need-loop-again Inv-loop μ-loop
-loop-again c = let l = c .before .loop in (
-  omega arith,
-  length-set (l .set) (l .k) 0 ∙ l .inv .1,
-  ap (λ (ws : List ℕ). set ws (l .k) 0) (l .inv .2) ∙ fill-more (l .k) 0 (c .before .before .args .set .now) (omega arith),
-)
+loop-again c =
+    let l = c .before .loop in (
+      omega arith,
+      length-set (l .sets) (l .k) 0 ∙ l .inv .1,
+      ap (λ (ws : List ℕ). set ws (l .k) 0) (l .inv .2) ∙ fill-more (l .k) 0 (c .before .before .args .sets .now) (omega arith),
+    )
 
 same-length : tie.Need-same-length Inv-loop μ-loop
 same-length c = omega arith
 
 returns : tie.Need-returns Inv-loop μ-loop
-returns c = let l = c .before .loop in
-    let s₀ = c .before .before .args .set .now in
-    let e : l .k ≡ 8 = omega arith in
-    let d : drop 8 s₀ ≡ [] = rw (c .before .before .pre) at (drop-length s₀) in
-    rw (e, d) at (l .inv .2) ∙ append-nil (replicate 8 0)
+returns c =
+    let l = c .before .loop in
+    let s₀ = c .before .before .args .sets .now in
+    let e : l .k ≡ 16 = omega arith in
+    let d : drop 16 s₀ ≡ [] = rw (c .before .before .pre) at (drop-length s₀) in
+    rw (e, d) at (l .inv .2) ∙ append-nil (replicate 16 0)
 
 pub clear-spec : {M : Type 1} → statement M
 clear-spec =
@@ -54,8 +56,8 @@ clear-spec =
     Inv-loop
     μ-loop
     loop-holds
-    mul-set
-    slice-write-set
+    mul-sets
+    slice-write-sets
     add-k
     loop-less
     loop-again

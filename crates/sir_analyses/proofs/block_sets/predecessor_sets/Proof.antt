@@ -12,30 +12,38 @@ use Rattle.sir_analyses.specs.Order.{isVisited}
 use Rattle.sir_analyses.specs.Tables.{Rows, Adds}
 use Rattle.sir_analyses.proofs.Tables.{adds-as, adds-none, below-more, cleared-long, cleared-row}
 use Rattle.sir_analyses.proofs.BlockSets.{pred-test}
-use borrow.Author.Needs.{needs}
 use native.Mathlib.Omega.{arith}
 use Rattle.sir_analyses.proofs.block_sets.predecessor_sets.Statement.{statement}
 use Rattle.sir_analyses.proofs.block_sets.predecessor_sets.Tie as tie
 
 abbrev Inv-loop : tie.InvT-loop
-Inv-loop words seen preds₀ count p₀ preds p = (p ≤ count) × (length preds ≡ 2048) × Rows preds 256 (λ b i. ltb i p && (isVisited words i && mem b (successors words i)))
+Inv-loop words visit preds₀ count p₀ preds p = (p ≤ count) × (length preds ≡ 2048) × Rows preds 256 (λ b i. ltb i p && (isVisited words i && mem b (successors words i)))
 
 abbrev μ-loop : tie.MeasureT-loop
-μ-loop words seen preds₀ count p₀ preds p = count - p
+μ-loop words visit preds₀ count p₀ preds p = count - p
 
 block-count-requires : tie.Need-block-count-requires Inv-loop μ-loop
-block-count-requires c κs = search needs
+block-count-requires c κs = omega (arith, c .before .before .before .pre .0 .well-formed .sized)
 
 loop-holds : tie.Need-loop-holds Inv-loop μ-loop
-loop-holds c = let a = c .before .before .before .before .args in
-    let e = c .before .before .before .before .pre .1 .1 in
+loop-holds c =
+    let start = c .before .before .before .before in
+    let a = start .args in
+    let e = start .pre .1 in
     (omega arith, cleared-long (a .preds .now) 2048 e, λ b i l h. cleared-row (a .preds .now) 2048 b i e ∙ rw (le-ltb i 0 (omega arith)))
 
-row-contains-requires : tie.Need-row-contains-requires Inv-loop μ-loop
-row-contains-requires c κs = (omega (arith, c .before .before .before .before .before .before .pre .1 .0 .wide), omega (arith, c .before .before .before .before .before .before .pre .0 .sized .blocks-most, c .before .before .block-count .ensures))
+is-visited-requires : tie.Need-is-visited-requires Inv-loop μ-loop
+is-visited-requires c κs =
+    let at-block-count = c .before .before in
+    let start = at-block-count .before .before .before .before in
+    (start .pre .0 .long, omega (arith, start .pre .0 .well-formed .sized .blocks-most, at-block-count .block-count .ensures))
 
 add-to-successors-requires : tie.Need-add-to-successors-requires Inv-loop μ-loop
-add-to-successors-requires c κs = (c .before .before .before .before .before .before .before .before .before .pre .0, (omega (arith, c .before .before .before .before .before .block-count .ensures), c .before .before .before .before .loop .inv .1))
+add-to-successors-requires c κs =
+    let at-loop = c .before .before .before .before in
+    let at-block-count = at-loop .before in
+    let start = at-block-count .before .before .before .before in
+    (start .pre .0 .well-formed, (omega (arith, at-block-count .block-count .ensures), at-loop .loop .inv .1))
 
 add-p : tie.Need-add-p Inv-loop μ-loop
 add-p c = omega arith
@@ -44,11 +52,15 @@ loop-less : tie.Need-loop-less Inv-loop μ-loop
 loop-less c = omega arith
 
 loop-again : tie.Need-loop-again Inv-loop μ-loop
-loop-again c = let s = c .before .before .before .before .before .before .before .before in
-    let w = s .args .words .now in
-    let l = c .before .before .before .loop in
-    let h : l .p < blocks w = omega (arith, c .before .before .before .before .block-count .ensures) in
-    let seen : c .before .row-contains .result ≡ isVisited w (l .p) = c .before .row-contains .ensures ∙ s .pre .1 .0 .visited-is (l .p) h in
+loop-again c =
+    let at-is-visited = c .before in
+    let at-loop = at-is-visited .before .before in
+    let at-block-count = at-loop .before in
+    let start = at-block-count .before .before .before .before in
+    let w = start .args .words .now in
+    let l = at-loop .loop in
+    let h : l .p < blocks w = omega (arith, at-block-count .block-count .ensures) in
+    let seen : at-is-visited .is-visited .result ≡ isVisited w (l .p) = at-is-visited .is-visited .ensures ∙ start .pre .0 .visited-is (l .p) h in
     let a : Adds (l .preds) (λ b i. eqb i (l .p) && (isVisited w (l .p) && mem b (successors w (l .p)))) (c .if1 .preds) =
     ⊎-elim
     (λ x. rw (x .5) (adds-as (λ b i k. rw (sym seen ∙ x .0 .taken)) (x .2 .ensures)))
@@ -60,16 +72,22 @@ loop-again c = let s = c .before .before .before .before .before .before .before
     )
 
 same-length : tie.Need-same-length Inv-loop μ-loop
-same-length c = omega (arith, cleared-long (c .before .before .before .before .before .before .args .preds .now) 2048 (c .before .before .before .before .before .before .pre .1 .1))
+same-length c =
+    let at-shared-slice-known = c .before .before .before .before .before in
+    let start = at-shared-slice-known .before in
+    omega (arith, cleared-long (start .args .preds .now) 2048 (start .pre .1))
 
 returns : tie.Need-returns Inv-loop μ-loop
-returns c = let s = c .before .before .before .before .before .before in
-    let w = s .args .words .now in
-    let l = c .before .loop in
-    let e : l .p ≡ blocks w = omega (arith, c .before .before .block-count .ensures) in
+returns c =
+    let at-loop = c .before in
+    let at-block-count = at-loop .before in
+    let start = at-block-count .before .before .before .before in
+    let w = start .args .words .now in
+    let l = at-loop .loop in
+    let e : l .p ≡ blocks w = omega (arith, at-block-count .block-count .ensures) in
     record {
       preds-long = l .inv .1;
-      preceded = λ b i k n. l .inv .2 b i (omega (arith, s .pre .0 .sized .blocks-most)) n ∙ ap (λ (m : ℕ). ltb i m && (isVisited w i && mem b (successors w i))) e ∙ pred-test (s .pre .0) i b;
+      preceded = λ b i k n. l .inv .2 b i (omega (arith, start .pre .0 .well-formed .sized .blocks-most)) n ∙ ap (λ (m : ℕ). ltb i m && (isVisited w i && mem b (successors w i))) e ∙ pred-test (start .pre .0 .well-formed) i b;
     }
 
 pub predecessor-sets-spec : {M : Type 1} → statement M
@@ -80,7 +98,7 @@ predecessor-sets-spec =
     μ-loop
     block-count-requires
     loop-holds
-    row-contains-requires
+    is-visited-requires
     add-to-successors-requires
     add-p
     loop-less

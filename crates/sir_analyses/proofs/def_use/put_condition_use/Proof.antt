@@ -16,11 +16,25 @@ same-length : tie.Need-same-length
 same-length c = search needs
 
 returns : tie.Need-returns
-returns c = let S = c .before .before .before .before .before .before .before .before in puts-as (sym (condition-use (S .args .words .now) (S .args .local .0) (S .args .b .0) (sym (c .before .before .before .before .before .is-condition .ensures) ∙ c .before .before .before .before .if1 .taken))) (c .before .before .put-triple .ensures)
+returns c =
+    let at-put-triple = c .before .before in
+    let at-if1 = at-put-triple .before .before in
+    let at-is-condition = at-if1 .before in
+    let start = at-is-condition .before .before .before in
+    puts-as (sym (condition-use (start .args .words .now) (start .args .local .0) (start .args .b .0) (sym (at-is-condition .is-condition .ensures) ∙ at-if1 .if1 .taken))) (at-put-triple .put-triple .ensures)
 
 returns-2 : tie.Need-returns-2
-returns-2 c = let S = c .before .before .before .before in puts-as (sym (no-condition-use (S .args .words .now) (S .args .local .0) (S .args .b .0) (sym (c .before .is-condition .ensures) ∙ c .if1 .left))) puts-nothing
+returns-2 c =
+    let at-is-condition = c .before in
+    let start = at-is-condition .before .before .before in
+    puts-as (sym (no-condition-use (start .args .words .now) (start .args .local .0) (start .args .b .0) (sym (at-is-condition .is-condition .ensures) ∙ c .if1 .left))) puts-nothing
 
 pub put-condition-use-spec : {M : Type 1} → statement M
 put-condition-use-spec =
-    tie.close (tie.spec is-condition-requires put-triple-requires same-length returns returns-2)
+    tie.close
+    (tie.spec
+    is-condition-requires
+    put-triple-requires
+    same-length
+    returns
+    returns-2)

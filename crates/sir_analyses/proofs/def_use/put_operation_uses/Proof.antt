@@ -12,10 +12,10 @@ use Rattle.sir_analyses.proofs.def_use.put_operation_uses.Statement.{st
 use Rattle.sir_analyses.proofs.def_use.put_operation_uses.Tie as tie
 
 abbrev Inv-loop : tie.InvT-loop
-Inv-loop words counts b out₀ limit n last m₀ o₀ out m o = Putting limit n (operationsLeft words counts (b .0) o₀ last) out₀ (operationsLeft words counts (b .0) o last) out m
+Inv-loop words counts b n out₀ last m₀ o₀ out m o = Putting n (operationsLeft words counts (b .0) o₀ last) out₀ (operationsLeft words counts (b .0) o last) out m
 
 abbrev μ-loop : tie.MeasureT-loop
-μ-loop words counts b out₀ limit n last m₀ o₀ out m o = last - o
+μ-loop words counts b n out₀ last m₀ o₀ out m o = last - o
 
 operations-requires : tie.Need-operations-requires Inv-loop μ-loop
 operations-requires c κs = search needs
@@ -25,44 +25,50 @@ loop-holds c = putting-none
 
 cast-put-same : tie.Need-cast-put-same Inv-loop μ-loop
 cast-put-same c =
-    let at-operations = c .before .before .before in
+    let at-loop-test = c .before in
+    let at-loop = at-loop-test .before in
+    let at-operations = at-loop .before in
     let start = at-operations .before .before .before .before in
-    let L = c .before .before .loop in
+    let L = at-loop .loop in
     let r = start .pre .0 .in-range .ops-range (start .args .b .0) (start .pre .1 .0 .0) in
-    let h : L .o < operations (start .args .words .now) = omega (arith, r, at-operations .operations .ensures, c .before .loop-test .taken) in
+    let h : L .o < operations (start .args .words .now) = omega (arith, r, at-operations .operations .ensures, at-loop-test .loop-test .taken) in
     let m = start .pre .0 .sized .operations-most in
     omega (arith, start .pre .1 .0 .1)
 
 mul-put-same : tie.Need-mul-put-same Inv-loop μ-loop
 mul-put-same c =
-    let at-operations = c .before .before .before in
+    let at-loop-test = c .before in
+    let at-loop = at-loop-test .before in
+    let at-operations = at-loop .before in
     let start = at-operations .before .before .before .before in
-    let L = c .before .before .loop in
+    let L = at-loop .loop in
     let r = start .pre .0 .in-range .ops-range (start .args .b .0) (start .pre .1 .0 .0) in
-    let h : L .o < operations (start .args .words .now) = omega (arith, r, at-operations .operations .ensures, c .before .loop-test .taken) in
+    let h : L .o < operations (start .args .words .now) = omega (arith, r, at-operations .operations .ensures, at-loop-test .loop-test .taken) in
     let m = start .pre .0 .sized .operations-most in
     omega (arith, start .pre .1 .0 .1)
 
 shared-slice-read-put-same : tie.Need-shared-slice-read-put-same Inv-loop μ-loop
 shared-slice-read-put-same c =
-    let at-loop = c .before .before .before in
+    let at-loop-test = c .before .before in
+    let at-loop = at-loop-test .before in
     let at-operations = at-loop .before in
     let start = at-operations .before .before .before .before in
     let L = at-loop .loop in
     let r = start .pre .0 .in-range .ops-range (start .args .b .0) (start .pre .1 .0 .0) in
-    let h : L .o < operations (start .args .words .now) = omega (arith, r, at-operations .operations .ensures, c .before .before .loop-test .taken) in
+    let h : L .o < operations (start .args .words .now) = omega (arith, r, at-operations .operations .ensures, at-loop-test .loop-test .taken) in
     let m = start .pre .0 .sized .operations-most in
     omega (arith, start .pre .1 .0 .1)
 
 put-same-requires : tie.Need-put-same-requires Inv-loop μ-loop
 put-same-requires c κs =
-    let at-loop = c .before .before .before in
+    let at-loop-test = c .before .before in
+    let at-loop = at-loop-test .before in
     let at-operations = at-loop .before in
     let start = at-operations .before .before .before .before in
     let L = at-loop .loop in
-    let e = operation-next (start .args .words .now) (start .args .counts .now) (start .args .b .0) (L .o) (at-operations .operations .result .end) (c .before .before .loop-test .taken) in
-    let q = putting-count (sameUses (start .args .b .0) (L .o) (getD (start .args .counts .now) (L .o) 0)) (operationsLeft (start .args .words .now) (start .args .counts .now) (start .args .b .0) (L .o + 1) (at-operations .operations .result .end)) {k = 2 ^ 59} (omega (arith, ap length (span-is (start .args .words .now) (start .args .counts .now) (start .args .b .0) _ _ (at-operations .operations .ensures .0) (at-operations .operations .ensures .1)), start .pre .1 .1 .1)) (putting-as e (L .inv)) in
-    (omega (arith, start .pre .1 .1 .0, L .inv .long), omega (arith, q, same-uses-length (start .args .b .0) (L .o) (getD (start .args .counts .now) (L .o) 0)))
+    let e = operation-next (start .args .words .now) (start .args .counts .now) (start .args .b .0) (L .o) (at-operations .operations .result .end) (at-loop-test .loop-test .taken) in
+    let q = putting-count (sameUses (start .args .b .0) (L .o) (getD (start .args .counts .now) (L .o) 0)) (operationsLeft (start .args .words .now) (start .args .counts .now) (start .args .b .0) (L .o + 1) (at-operations .operations .result .end)) {k = 2 ^ 59} (omega (arith, ap length (span-is (start .args .words .now) (start .args .counts .now) (start .args .b .0) _ _ (at-operations .operations .ensures .0) (at-operations .operations .ensures .1)), start .pre .1 .1)) (putting-as e (L .inv)) in
+    omega (arith, q, same-uses-length (start .args .b .0) (L .o) (getD (start .args .counts .now) (L .o) 0))
 
 add-o : tie.Need-add-o Inv-loop μ-loop
 add-o c =
@@ -81,23 +87,25 @@ loop-less c = omega arith
 
 loop-again : tie.Need-loop-again Inv-loop μ-loop
 loop-again c =
-    let at-loop-test = c .before .before .before .before .before in
+    let at-put-same = c .before .before in
+    let at-loop-test = at-put-same .before .before .before in
     let at-loop = at-loop-test .before in
     let at-operations = at-loop .before in
     let start = at-operations .before .before .before .before in
     let L = at-loop .loop in
     let e = operation-next (start .args .words .now) (start .args .counts .now) (start .args .b .0) (L .o) (at-operations .operations .result .end) (at-loop-test .loop-test .taken) in
-    putting-more (start .pre .1 .1 .0) (putting-as e (L .inv)) (c .before .before .put-same .ensures)
+    putting-more (putting-as e (L .inv)) (at-put-same .put-same .ensures)
 
 same-length : tie.Need-same-length Inv-loop μ-loop
 same-length c = c .before .loop .inv .long
 
 returns : tie.Need-returns Inv-loop μ-loop
 returns c =
-    let at-shared-slice-known = c .before .before .before .before .before in
-    let start = at-shared-slice-known .before in
-    let L = c .before .loop in
-    puts-as (span-is (start .args .words .now) (start .args .counts .now) (start .args .b .0) _ _ (c .before .before .operations .ensures .0) (c .before .before .operations .ensures .1)) (putting-all (operation-end (start .args .words .now) (start .args .counts .now) (start .args .b .0) (L .o) _ (c .loop-test .left)) (L .inv))
+    let at-loop = c .before in
+    let at-operations = at-loop .before in
+    let start = at-operations .before .before .before .before in
+    let L = at-loop .loop in
+    puts-as (span-is (start .args .words .now) (start .args .counts .now) (start .args .b .0) _ _ (at-operations .operations .ensures .0) (at-operations .operations .ensures .1)) (putting-all (operation-end (start .args .words .now) (start .args .counts .now) (start .args .b .0) (L .o) _ (c .loop-test .left)) (L .inv))
 
 pub put-operation-uses-spec : {M : Type 1} → statement M
 put-operation-uses-spec =

@@ -9,25 +9,25 @@ use Rattle.sir_analyses.proofs.def_use.put_same.Statement.{statement}
 use Rattle.sir_analyses.proofs.def_use.put_same.Tie as tie
 
 abbrev Inv-loop : tie.InvT-loop
-Inv-loop out₀ limit n b o times m₀ i₀ out m i = (i ≤ times) × Putting limit n (sameUses (b .0) (o .0) times) out₀ (sameLeft (b .0) (o .0) i times) out m
+Inv-loop out₀ n b o times m₀ i₀ out m i = (i ≤ times) × Putting n (sameUses (b .0) (o .0) times) out₀ (sameLeft (b .0) (o .0) i times) out m
 
 abbrev μ-loop : tie.MeasureT-loop
-μ-loop out₀ limit n b o times m₀ i₀ out m i = times - i
+μ-loop out₀ n b o times m₀ i₀ out m i = times - i
 
 loop-holds : tie.Need-loop-holds Inv-loop μ-loop
 loop-holds c = (omega arith, putting-as (same-start (c .before .args .b .0) (c .before .args .o .0) (c .before .args .times)) putting-none)
 
 mul-if1 : tie.Need-mul-if1 Inv-loop μ-loop
-mul-if1 c = let S = c .before .before .before in
+mul-if1 c =
     let L = c .before .loop in
-    let e = same-uses-length (S .args .b .0) (S .args .o .0) (S .args .times) in
-    omega (arith, putting-count (S .args .b .0 ∷ 0 ∷ S .args .o .0 ∷ []) (sameLeft (S .args .b .0) (S .args .o .0) (L .i + 1) (S .args .times)) {k = 2 ^ 59} (omega (arith, S .pre .1, e)) (putting-as (same-next (S .args .b .0) (S .args .o .0) (L .i) (S .args .times) (c .loop-test .taken)) (L .inv .1)))
+    let e = same-uses-length (c .before .before .before .args .b .0) (c .before .before .before .args .o .0) (c .before .before .before .args .times) in
+    omega (arith, putting-count (c .before .before .before .args .b .0 ∷ 0 ∷ c .before .before .before .args .o .0 ∷ []) (sameLeft (c .before .before .before .args .b .0) (c .before .before .before .args .o .0) (L .i + 1) (c .before .before .before .args .times)) {k = 2 ^ 59} (omega (arith, c .before .before .before .pre, e)) (putting-as (same-next (c .before .before .before .args .b .0) (c .before .before .before .args .o .0) (L .i) (c .before .before .before .args .times) (c .loop-test .taken)) (L .inv .1)))
 
 add-if1 : tie.Need-add-if1 Inv-loop μ-loop
-add-if1 c = let S = c .before .before .before in
+add-if1 c =
     let L = c .before .loop in
-    let e = same-uses-length (S .args .b .0) (S .args .o .0) (S .args .times) in
-    omega (arith, putting-count (S .args .b .0 ∷ 0 ∷ S .args .o .0 ∷ []) (sameLeft (S .args .b .0) (S .args .o .0) (L .i + 1) (S .args .times)) {k = 2 ^ 59} (omega (arith, S .pre .1, e)) (putting-as (same-next (S .args .b .0) (S .args .o .0) (L .i) (S .args .times) (c .loop-test .taken)) (L .inv .1)))
+    let e = same-uses-length (c .before .before .before .args .b .0) (c .before .before .before .args .o .0) (c .before .before .before .args .times) in
+    omega (arith, putting-count (c .before .before .before .args .b .0 ∷ 0 ∷ c .before .before .before .args .o .0 ∷ []) (sameLeft (c .before .before .before .args .b .0) (c .before .before .before .args .o .0) (L .i + 1) (c .before .before .before .args .times)) {k = 2 ^ 59} (omega (arith, c .before .before .before .pre, e)) (putting-as (same-next (c .before .before .before .args .b .0) (c .before .before .before .args .o .0) (L .i) (c .before .before .before .args .times) (c .loop-test .taken)) (L .inv .1)))
 
 mul-result : tie.Need-mul-result Inv-loop μ-loop
 mul-result c = omega arith
@@ -39,13 +39,19 @@ same-length : tie.Need-same-length Inv-loop μ-loop
 same-length c = c .before .before .loop .inv .1 .long
 
 returns : tie.Need-returns Inv-loop μ-loop
-returns c = let S = c .before .before .before .before in putting-past (c .if1 .taken) (omega (arith, same-uses-length (S .args .b .0) (S .args .o .0) (S .args .times))) (c .before .before .loop .inv .1)
+returns c =
+    let at-loop = c .before .before in
+    let start = at-loop .before .before in
+    putting-past (c .if1 .taken) (omega (arith, same-uses-length (start .args .b .0) (start .args .o .0) (start .args .times))) (at-loop .loop .inv .1)
 
 put-triple-requires : tie.Need-put-triple-requires Inv-loop μ-loop
-put-triple-requires c κs = let S = c .before .before .before .before .before in
-    let L = c .before .before .before .loop in
-    let e = same-uses-length (S .args .b .0) (S .args .o .0) (S .args .times) in
-    (omega (arith, S .pre .0, L .inv .1 .long), omega (arith, putting-count (S .args .b .0 ∷ 0 ∷ S .args .o .0 ∷ []) (sameLeft (S .args .b .0) (S .args .o .0) (L .i + 1) (S .args .times)) {k = 2 ^ 59} (omega (arith, S .pre .1, e)) (putting-as (same-next (S .args .b .0) (S .args .o .0) (L .i) (S .args .times) (c .before .before .loop-test .taken)) (L .inv .1))))
+put-triple-requires c κs =
+    let at-loop-test = c .before .before in
+    let at-loop = at-loop-test .before in
+    let start = at-loop .before .before in
+    let L = at-loop .loop in
+    let e = same-uses-length (start .args .b .0) (start .args .o .0) (start .args .times) in
+    omega (arith, putting-count (start .args .b .0 ∷ 0 ∷ start .args .o .0 ∷ []) (sameLeft (start .args .b .0) (start .args .o .0) (L .i + 1) (start .args .times)) {k = 2 ^ 59} (omega (arith, start .pre, e)) (putting-as (same-next (start .args .b .0) (start .args .o .0) (L .i) (start .args .times) (at-loop-test .loop-test .taken)) (L .inv .1)))
 
 add-i : tie.Need-add-i Inv-loop μ-loop
 add-i c = omega arith
@@ -54,17 +60,21 @@ loop-less : tie.Need-loop-less Inv-loop μ-loop
 loop-less c = omega arith
 
 loop-again : tie.Need-loop-again Inv-loop μ-loop
-loop-again c = let S = c .before .before .before .before .before .before .before .before in
-    let L = c .before .before .before .before .before .before .loop in
-    (omega arith, putting-more (S .pre .0) (putting-as (same-next (S .args .b .0) (S .args .o .0) (L .i) (S .args .times) (c .before .before .before .before .before .loop-test .taken)) (L .inv .1)) (c .before .before .put-triple .ensures))
+loop-again c =
+    let at-put-triple = c .before .before in
+    let at-loop-test = at-put-triple .before .before .before in
+    let at-loop = at-loop-test .before in
+    let start = at-loop .before .before in
+    let L = at-loop .loop in
+    (omega arith, putting-more (putting-as (same-next (start .args .b .0) (start .args .o .0) (L .i) (start .args .times) (at-loop-test .loop-test .taken)) (L .inv .1)) (at-put-triple .put-triple .ensures))
 
 same-length-2 : tie.Need-same-length-2 Inv-loop μ-loop
 same-length-2 c = c .before .loop .inv .1 .long
 
 returns-2 : tie.Need-returns-2 Inv-loop μ-loop
-returns-2 c = let S = c .before .before .before in
+returns-2 c =
     let L = c .before .loop in
-    putting-all (same-end (S .args .b .0) (S .args .o .0) (L .i) (S .args .times) (c .loop-test .left)) (L .inv .1)
+    putting-all (same-end (c .before .before .before .args .b .0) (c .before .before .before .args .o .0) (L .i) (c .before .before .before .args .times) (c .loop-test .left)) (L .inv .1)
 
 pub put-same-spec : {M : Type 1} → statement M
 put-same-spec =

@@ -1,5 +1,5 @@
 -- `put_uses` meets its contract. The invariant: the blocks left are to be put.
-use mathlib.Core.Path.{sym, ap}
+use mathlib.Core.Path.{sym, ap, _∙_}
 use mathlib.Core.List.{List}
 use Prim.Native.Nat.{ℕ, _+_, _-_, _^_, _≤_}
 use native.Mathlib.Omega.{arith}
@@ -14,13 +14,20 @@ use Rattle.sir_analyses.proofs.def_use.put_uses.Statement.{statement}
 use Rattle.sir_analyses.proofs.def_use.put_uses.Tie as tie
 
 abbrev Inv-loop : tie.InvT-loop
-Inv-loop words rpo counts local out₀ limit m₀ i₀ out m i = (i ≤ length rpo) × Putting limit 0 (usesOf words counts (local .0)) out₀ (bind (drop i rpo) (blockUses words counts (local .0))) out m
+Inv-loop words visit counts local out₀ order m₀ i₀ out m i = (i ≤ length order) × Putting 0 (usesOf words counts (local .0)) out₀ (bind (drop i order) (blockUses words counts (local .0))) out m
 
 abbrev μ-loop : tie.MeasureT-loop
-μ-loop words rpo counts local out₀ limit m₀ i₀ out m i = length rpo - i
+μ-loop words visit counts local out₀ order m₀ i₀ out m i = length order - i
+
+rpo-requires : tie.Need-rpo-requires Inv-loop μ-loop
+rpo-requires c κs =
+    let start = c .before .before .before .before in
+    (start .pre .0 .long, start .pre .0 .few)
 
 loop-holds : tie.Need-loop-holds Inv-loop μ-loop
-loop-holds c = let S = c .before .before .before .before in (omega arith, putting-as (ap (λ (l : List ℕ). bind l (blockUses (S .args .words .now) (S .args .counts .now) (S .args .local .0))) (sym (S .pre .1 .0 .0))) putting-none)
+loop-holds c =
+    let start = c .before .before .before .before .before in
+    (omega arith, putting-as (ap (λ (l : List ℕ). bind l (blockUses (start .args .words .now) (start .args .counts .now) (start .args .local .0))) (sym (c .rpo .ensures ∙ start .pre .0 .rpo-is))) putting-none)
 
 mul-t9 : tie.Need-mul-t9 Inv-loop μ-loop
 mul-t9 c = omega arith
@@ -29,14 +36,18 @@ shared-slice-read-t12 : tie.Need-shared-slice-read-t12 Inv-loop μ-loop
 shared-slice-read-t12 c = omega arith
 
 put-block-uses-requires : tie.Need-put-block-uses-requires Inv-loop μ-loop
-put-block-uses-requires c κs = let S = c .before .before .before .before .before .before .before .before in
-    let L = c .before .before .before .loop in
-    let w = S .args .words .now in
-    let rpo = S .args .rpo .now in
-    let g = blockUses w (S .args .counts .now) (S .args .local .0) in
-    let e = block-next g rpo (L .i) (c .before .before .loop-test .taken) in
-    let q = putting-count (g (getD rpo (L .i) 0)) (bind (drop (L .i + 1) rpo) g) {k = 2 ^ 59 - 3} (omega (arith, S .pre .1 .1 .1)) (putting-as e (L .inv .1)) in
-    (S .pre .0, ((rpo-below w (S .pre .0) (S .pre .1 .0 .0) (getD rpo (L .i) 0) (getD-mem rpo (L .i) 0 (c .before .before .loop-test .taken)), S .pre .1 .0 .1), (omega (arith, S .pre .1 .1 .0, L .inv .1 .long), omega (arith, q))))
+put-block-uses-requires c κs =
+    let at-loop-test = c .before .before in
+    let at-loop = at-loop-test .before in
+    let at-rpo = at-loop .before in
+    let start = at-rpo .before .before .before .before .before in
+    let L = at-loop .loop in
+    let w = start .args .words .now in
+    let order = at-rpo .rpo .result .now in
+    let g = blockUses w (start .args .counts .now) (start .args .local .0) in
+    let e = block-next g order (L .i) (at-loop-test .loop-test .taken) in
+    let q = putting-count (g (getD order (L .i) 0)) (bind (drop (L .i + 1) order) g) {k = 2 ^ 59 - 3} (omega (arith, start .pre .1 .1)) (putting-as e (L .inv .1)) in
+    (start .pre .0 .well-formed, ((rpo-below w (start .pre .0 .well-formed) (at-rpo .rpo .ensures ∙ start .pre .0 .rpo-is) (getD order (L .i) 0) (getD-mem order (L .i) 0 (at-loop-test .loop-test .taken)), start .pre .1 .0), omega (arith, q)))
 
 add-i : tie.Need-add-i Inv-loop μ-loop
 add-i c = omega arith
@@ -45,19 +56,28 @@ loop-less : tie.Need-loop-less Inv-loop μ-loop
 loop-less c = omega arith
 
 loop-again : tie.Need-loop-again Inv-loop μ-loop
-loop-again c = let S = c .before .before .before .before .before .before .before .before .before .before .before in
-    let L = c .before .before .before .before .before .before .loop in
-    let w = S .args .words .now in
-    let rpo = S .args .rpo .now in
-    let g = blockUses w (S .args .counts .now) (S .args .local .0) in
-    let e = block-next g rpo (L .i) (c .before .before .before .before .before .loop-test .taken) in
-    (omega arith, putting-more (S .pre .1 .1 .0) (putting-as e (L .inv .1)) (c .before .before .put-block-uses .ensures))
+loop-again c =
+    let at-put-block-uses = c .before .before in
+    let at-loop-test = at-put-block-uses .before .before .before in
+    let at-loop = at-loop-test .before in
+    let at-rpo = at-loop .before in
+    let start = at-rpo .before .before .before .before .before in
+    let L = at-loop .loop in
+    let w = start .args .words .now in
+    let order = at-rpo .rpo .result .now in
+    let g = blockUses w (start .args .counts .now) (start .args .local .0) in
+    let e = block-next g order (L .i) (at-loop-test .loop-test .taken) in
+    (omega arith, putting-more (putting-as e (L .inv .1)) (at-put-block-uses .put-block-uses .ensures))
 
 same-length : tie.Need-same-length Inv-loop μ-loop
 same-length c = c .before .loop .inv .1 .long
 
 returns : tie.Need-returns Inv-loop μ-loop
-returns c = let S = c .before .before .before .before .before .before in putting-all (block-end (blockUses (S .args .words .now) (S .args .counts .now) (S .args .local .0)) (S .args .rpo .now) (c .before .loop .i) (c .loop-test .left)) (c .before .loop .inv .1)
+returns c =
+    let at-loop = c .before in
+    let at-rpo = at-loop .before in
+    let start = at-rpo .before .before .before .before .before in
+    putting-all (block-end (blockUses (start .args .words .now) (start .args .counts .now) (start .args .local .0)) (at-rpo .rpo .result .now) (at-loop .loop .i) (c .loop-test .left)) (at-loop .loop .inv .1)
 
 pub put-uses-spec : {M : Type 1} → statement M
 put-uses-spec =
@@ -65,6 +85,7 @@ put-uses-spec =
     (tie.spec
     Inv-loop
     μ-loop
+    rpo-requires
     loop-holds
     mul-t9
     shared-slice-read-t12

@@ -1,57 +1,81 @@
 -- `live_sets` meets its contract.
-use Rattle.sir_analyses.proofs.SetAnswers.{exit-members, entry-members}
+use Rattle.sir_analyses.proofs.Tables.{cleared-long}
+use Rattle.sir_analyses.proofs.LivenessTables.{empty-part, ended, live-stage}
+use Rattle.sir_analyses.specs.Stages.{part}
 use borrow.Author.Needs.{needs}
+use native.Mathlib.Omega.{arith}
 use Rattle.sir_analyses.proofs.local_liveness.live_sets.Statement.{statement}
 use Rattle.sir_analyses.proofs.local_liveness.live_sets.Tie as tie
 
+operand-sets-requires : tie.Need-operand-sets-requires
+operand-sets-requires c κs =
+    let start = c .before .before .before .before in
+    (start .pre .0 .well-formed, start .pre .1)
+
 block-sets-requires : tie.Need-block-sets-requires
-block-sets-requires c κs = search needs
+block-sets-requires c κs =
+    let at-operand-sets = c .before .before .before in
+    let start = at-operand-sets .before .before .before .before .before in
+    (start .pre .0 .well-formed, at-operand-sets .operand-sets .ensures)
 
-slice-aggregate-predecessor-sets : tie.Need-slice-aggregate-predecessor-sets
-slice-aggregate-predecessor-sets c = search needs
+sub-end-sets : tie.Need-sub-end-sets
+sub-end-sets c = search needs
 
-predecessor-sets-requires : tie.Need-predecessor-sets-requires
-predecessor-sets-requires c κs = search needs
+part-end-sets-start : tie.Need-part-end-sets-start
+part-end-sets-start c = search needs
 
-slice-aggregate-liveness : tie.Need-slice-aggregate-liveness
-slice-aggregate-liveness c = search needs
+part-end-sets-end : tie.Need-part-end-sets-end
+part-end-sets-end c = omega (arith, c .before .before .block-sets .ensures .1 .long)
+
+end-sets-requires : tie.Need-end-sets-requires
+unfolding part
+end-sets-requires c κs =
+    let at-block-sets = c .before .before .before in
+    let at-operand-sets-arg = at-block-sets .before .before .before .before .before in
+    let start = at-operand-sets-arg .before .before .before .before in
+    (start .pre .0 .well-formed, empty-part 20480 20480 2048 _ (at-block-sets .block-sets .ensures .1) (omega arith) (omega arith))
 
 liveness-requires : tie.Need-liveness-requires
-liveness-requires c κs = (c .before .before .before .before .before .before .before .before .before .before .before .before .before .before .before .before .before .before .before .before .before .before .pre .0, (c .before .before .before .before .before .before .before .before .before .before .before .before .before .before .before .before .before .before .before .before .before .before .pre .1 .0 .1, ((c .before .before .before .before .before .before .before .before .before .before .before .block-sets .ensures, c .before .before .before .before .before .predecessor-sets .ensures), c .before .before .before .before .before .before .before .before .before .before .before .before .before .before .before .before .before .before .before .before .before .before .pre .1 .1 .1 .2)))
+unfolding part
+liveness-requires c κs =
+    let at-end-sets = c .before .before .before in
+    let at-block-sets = at-end-sets .before .before .before .before in
+    let at-operand-sets = at-block-sets .before .before .before .before in
+    let start = at-operand-sets .before .before .before .before .before in
+    let e = ended (at-operand-sets .operand-sets .ensures .1) (at-block-sets .block-sets .ensures) (at-end-sets .end-sets .ensures) in (start .pre .0, (e .0, e .1))
 
 same-length : tie.Need-same-length
-same-length c = search needs
-
-same-length-2 : tie.Need-same-length-2
-same-length-2 c = search needs
-
-same-length-3 : tie.Need-same-length-3
-same-length-3 c = search needs
+unfolding part
+same-length c =
+    let at-liveness = c .before .before in
+    let at-end-sets = at-liveness .before .before .before .before in
+    let at-block-sets = at-end-sets .before .before .before .before in
+    let at-operand-sets = at-block-sets .before .before .before .before in
+    let start = at-operand-sets .before .before .before .before .before in
+    omega (arith, at-liveness .liveness .ensures .1 .long, ended (at-operand-sets .operand-sets .ensures .1) (at-block-sets .block-sets .ensures) (at-end-sets .end-sets .ensures) .1 .long, cleared-long (start .args .live .now) 24576 (start .pre .1))
 
 returns : tie.Need-returns
-returns c = let e = c .before .before .liveness .ensures in
-    let good = c .before .before .before .before .before .before .before .before .before .before .before .before .before .before .before .before .before .before .before .before .before .before .before .before .before .pre .0 in
-    let rows = c .before .before .before .before .before .before .before .before .before .before .before .before .before .before .block-sets .ensures in (
-      e .0,
-      record {
-        block-rows = rows;
-        exits-long = e .1;
-        exit-rows = e .2;
-        exit-is = λ b l. exit-members good b l _ (e .2);
-        entry-is = λ b l v ws h. rw v (entry-members good b l _ (e .2) ws rows h);
-      },
-    )
+unfolding part
+returns c =
+    let at-liveness = c .before .before in
+    let at-end-sets = at-liveness .before .before .before .before in
+    let at-block-sets = at-end-sets .before .before .before .before in
+    let at-operand-sets = at-block-sets .before .before .before .before in
+    let start = at-operand-sets .before .before .before .before .before in
+    let good = start .pre .0 .well-formed in
+    let e = ended (at-operand-sets .operand-sets .ensures .1) (at-block-sets .block-sets .ensures) (at-end-sets .end-sets .ensures) in
+    (at-liveness .liveness .ensures .0, live-stage good (e .1 .long) (e .2 (at-operand-sets .operand-sets .ensures .0)) (e .0) (e .3) (at-liveness .liveness .ensures .1))
 
 pub live-sets-spec : {M : Type 1} → statement M
 live-sets-spec =
     tie.close
     (tie.spec
+    operand-sets-requires
     block-sets-requires
-    slice-aggregate-predecessor-sets
-    predecessor-sets-requires
-    slice-aggregate-liveness
+    sub-end-sets
+    part-end-sets-start
+    part-end-sets-end
+    end-sets-requires
     liveness-requires
     same-length
-    same-length-2
-    same-length-3
     returns)

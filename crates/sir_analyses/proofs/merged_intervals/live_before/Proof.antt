@@ -1,4 +1,6 @@
 -- `live_before` meets its contract.
+use Rattle.sir_analyses.specs.Stages.{readsIn, writesIn}
+use Rattle.sir_analyses.proofs.Parts.{length-part}
 use mathlib.Core.Path.{ap, _∙_}
 use lib.ListN.{length}
 use Rattle.plank_core.specs.laws.DenseIndexSet.{length-row}
@@ -11,35 +13,67 @@ use Rattle.sir_analyses.proofs.merged_intervals.live_before.Tie as tie
 cast-row : tie.Need-cast-row
 cast-row c = search needs
 
+writes-requires : tie.Need-writes-requires
+writes-requires c κs =
+    let start = c .before .before .before .before in
+    start .pre .0
+
 row-of-requires : tie.Need-row-of-requires
-row-of-requires c κs = search needs
+row-of-requires c κs =
+    let start = c .before .before .before .before .before in
+    omega (arith, ap length (c .writes .ensures) ∙ length-part 8192 8192 (start .args .live .now) (omega (arith, start .pre .0)), start .pre)
 
 row-difference-with-requires : tie.Need-row-difference-with-requires
-row-difference-with-requires c κs = let s = c .before .before .before .before .before .before in
-    (omega (arith, s .pre), ap length (c .row-of .ensures) ∙ length-row (s .args .writes .now) (s .args .o .0) (s .pre .1))
+row-difference-with-requires c κs =
+    let at-writes = c .before in
+    let start = at-writes .before .before .before .before .before in
+    (omega (arith, start .pre), ap length (c .row-of .ensures) ∙ length-row (at-writes .writes .result .now) (start .args .o .0) (omega (arith, ap length (at-writes .writes .ensures) ∙ length-part 8192 8192 (start .args .live .now) (omega (arith, start .pre .0)), start .pre)))
+
+reads-requires : tie.Need-reads-requires
+reads-requires c κs =
+    let at-writes = c .before .before .before .before .before in
+    let start = at-writes .before .before .before .before .before in
+    start .pre .0
 
 row-of-requires-2 : tie.Need-row-of-requires-2
-row-of-requires-2 c κs = search needs
+row-of-requires-2 c κs =
+    let at-row-of = c .before .before .before .before .before in
+    let at-shared-slice-known = at-row-of .before .before .before .before .before in
+    let start = at-shared-slice-known .before in
+    omega (arith, ap length (c .reads .ensures) ∙ length-part 0 8192 (start .args .live .now) (omega (arith, start .pre .0)), start .pre)
 
 row-union-with-requires : tie.Need-row-union-with-requires
-row-union-with-requires c κs = let s = c .before .before .before .before .before .before .before .before .before .before .before in
-    (omega (arith, s .pre, c .before .before .before .before .row-difference-with .kept), ap length (c .row-of2 .ensures) ∙ length-row (s .args .reads .now) (s .args .o .0) (s .pre .0))
+row-union-with-requires c κs =
+    let at-reads = c .before in
+    let at-row-difference-with = at-reads .before .before .before .before in
+    let at-slice-known = at-row-difference-with .before .before .before .before .before in
+    let start = at-slice-known .before .before in
+    (omega (arith, start .pre, at-row-difference-with .row-difference-with .kept), ap length (c .row-of2 .ensures) ∙ length-row (at-reads .reads .result .now) (start .args .o .0) (omega (arith, ap length (at-reads .reads .ensures) ∙ length-part 0 8192 (start .args .live .now) (omega (arith, start .pre .0)), start .pre)))
 
 same-length : tie.Need-same-length
 same-length c = search needs
 
 returns : tie.Need-returns
-returns c = let s = c .before .before .before .before .before .before .before .before .before .before .before .before .before .before in
-    λ v h. rw (c .before .before .row-union-with .ensures .1, c .before .before .before .row-of2 .ensures, c .before .before .before .before .before .before .before .row-difference-with .ensures, c .before .before .before .before .before .before .before .before .row-of .ensures)
-    (exchanged (s .args .reads .now) (s .args .writes .now) (s .args .o .0) (s .args .live .now) (s .pre .2) v h)
+returns c =
+    let at-row-union-with = c .before .before in
+    let at-row-of2 = at-row-union-with .before in
+    let at-reads = at-row-of2 .before in
+    let at-row-difference-with = at-reads .before .before .before .before in
+    let at-row-of = at-row-difference-with .before in
+    let at-writes = at-row-of .before in
+    let start = at-writes .before .before .before .before .before in
+    λ v h. rw (at-row-union-with .row-union-with .ensures .1, at-row-of2 .row-of2 .ensures, at-reads .reads .ensures, at-row-difference-with .row-difference-with .ensures, at-row-of .row-of .ensures, at-writes .writes .ensures)
+    (exchanged (readsIn (start .args .live .now)) (writesIn (start .args .live .now)) (start .args .o .0) (start .args .set .now) (start .pre .2) v h)
 
 pub live-before-spec : {M : Type 1} → statement M
 live-before-spec =
     tie.close
     (tie.spec
     cast-row
+    writes-requires
     row-of-requires
     row-difference-with-requires
+    reads-requires
     row-of-requires-2
     row-union-with-requires
     same-length

@@ -34,33 +34,36 @@ same-length c = search needs
 
 returns : tie.Need-returns
 returns c =
-    let at-enum-told = c .before .before .before .before in
-    let at-shared-slice-known2 = at-enum-told .before .before .before .before .before in
-    let start = at-shared-slice-known2 .before .before in
+    let at-visit-answer = c .before .before in
+    let at-enum-told = at-visit-answer .before .before in
+    let at-shared-slice-known = at-enum-told .before .before .before .before .before in
+    let start = at-shared-slice-known .before in
     let a = start .args in
-    c .before .before .visit-answer .ensures ∙ ap (λ (l : List ℕ). answered (bind l bytesOf) (a .out .now)) (start .pre .1 .1 .0) ∙ answered-as Question.OfOrder (a .words .now) (at-enum-told .enum-told .given .1) (a .out .now)
+    at-visit-answer .visit-answer .ensures ∙ ap (λ (l : List ℕ). answered (bind l bytesOf) (a .out .now)) (start .pre .0 .order-is) ∙ answered-as Question.OfOrder (a .words .now) (at-enum-told .enum-told .given .1) (a .out .now)
 
 same-length-2 : tie.Need-same-length-2
 same-length-2 c = search needs
 
 returns-2 : tie.Need-returns-2
 returns-2 c =
-    let at-question = c .before .before .before .before .before in
-    let at-shared-slice-known2 = at-question .before .before .before .before .before in
-    let start = at-shared-slice-known2 .before .before in
+    let at-predecessors-answer = c .before .before in
+    let at-question = at-predecessors-answer .before .before .before in
+    let at-shared-slice-known = at-question .before .before .before .before .before in
+    let start = at-shared-slice-known .before in
     let a = start .args in
-    c .before .before .predecessors-answer .ensures ∙ answered-as Question.OfOrder (a .words .now) (at-question .question .given .1) (a .out .now)
+    at-predecessors-answer .predecessors-answer .ensures ∙ answered-as Question.OfOrder (a .words .now) (at-question .question .given .1) (a .out .now)
 
 same-length-3 : tie.Need-same-length-3
 same-length-3 c = search needs
 
 returns-3 : tie.Need-returns-3
 returns-3 c =
-    let at-question2 = c .before .before .before .before .before in
-    let at-shared-slice-known2 = at-question2 .before .before .before .before .before in
-    let start = at-shared-slice-known2 .before .before in
+    let at-uses-answer = c .before .before in
+    let at-question2 = at-uses-answer .before .before .before in
+    let at-shared-slice-known = at-question2 .before .before .before .before .before in
+    let start = at-shared-slice-known .before in
     let a = start .args in
-    c .before .before .uses-answer .ensures ∙ answered-as Question.OfOrder (a .words .now) (at-question2 .question2 .given .1) (a .out .now)
+    at-uses-answer .uses-answer .ensures ∙ answered-as Question.OfOrder (a .words .now) (at-question2 .question2 .given .1) (a .out .now)
 
 pub order-answer-spec : {M : Type 1} → statement M
 order-answer-spec =

@@ -1,4 +1,5 @@
 -- `met_operations` meets its contract. The invariant: the operations of the first i blocks are added.
+use mathlib.Core.Path.{_∙_}
 use mathlib.Core.Path.{refl, _∙_}
 use Prim.Native.Nat.{_+_, _-_, _*_, _≤_}
 use lib.ListN.{length, getD, take}
@@ -14,25 +15,32 @@ use Rattle.sir_analyses.proofs.pointer_links.met_operations.Statement.{
 use Rattle.sir_analyses.proofs.pointer_links.met_operations.Tie as tie
 
 abbrev Inv-loop : tie.InvT-loop
-Inv-loop words rpo met₀ i₀ met i = (i ≤ length rpo) × Adds met₀ (λ r n. any (λ b. mem (512 * r + n) (ops words b)) (take i rpo)) met
+Inv-loop words visit met₀ order i₀ met i = (i ≤ length order) × Adds met₀ (λ r n. any (λ b. mem (512 * r + n) (ops words b)) (take i order)) met
 
 abbrev μ-loop : tie.MeasureT-loop
-μ-loop words rpo met₀ i₀ met i = length rpo - i
+μ-loop words visit met₀ order i₀ met i = length order - i
+
+rpo-requires : tie.Need-rpo-requires Inv-loop μ-loop
+rpo-requires c κs = (c .before .before .before .pre .0 .long, c .before .before .before .pre .0 .few)
 
 loop-holds : tie.Need-loop-holds Inv-loop μ-loop
 loop-holds c = (omega arith, adds-none (λ r n h. refl))
 
-mul-t5 : tie.Need-mul-t5 Inv-loop μ-loop
-mul-t5 c = omega arith
+mul-t6 : tie.Need-mul-t6 Inv-loop μ-loop
+mul-t6 c = omega arith
 
-shared-slice-read-t9 : tie.Need-shared-slice-read-t9 Inv-loop μ-loop
-shared-slice-read-t9 c = omega arith
+shared-slice-read-t10 : tie.Need-shared-slice-read-t10 Inv-loop μ-loop
+shared-slice-read-t10 c = omega arith
 
 add-operations-requires : tie.Need-add-operations-requires Inv-loop μ-loop
-add-operations-requires c κs = let s = c .before .before .before .before .before .before .before in
-    let l = c .before .before .before .loop in
-    let rpo = s .args .rpo .now in
-    (s .pre .0, (rpo-below (s .args .words .now) (s .pre .0) (s .pre .1 .0) (getD rpo (l .i) 0) (getD-mem rpo (l .i) 0 (c .before .before .loop-test .taken)), l .inv .1 .long ∙ cleared-long (s .args .met .now) 16 (s .pre .1 .1)))
+add-operations-requires c κs =
+    let at-loop-test = c .before .before in
+    let at-loop = at-loop-test .before in
+    let at-rpo = at-loop .before in
+    let start = at-rpo .before .before .before .before in
+    let l = at-loop .loop in
+    let order = at-rpo .rpo .result .now in
+    (start .pre .0 .well-formed, (rpo-below (start .args .words .now) (start .pre .0 .well-formed) (at-rpo .rpo .ensures ∙ start .pre .0 .rpo-is) (getD order (l .i) 0) (getD-mem order (l .i) 0 (at-loop-test .loop-test .taken)), l .inv .1 .long ∙ cleared-long (start .args .met .now) 16 (start .pre .1)))
 
 add-i : tie.Need-add-i Inv-loop μ-loop
 add-i c = omega arith
@@ -41,16 +49,25 @@ loop-less : tie.Need-loop-less Inv-loop μ-loop
 loop-less c = omega arith
 
 loop-again : tie.Need-loop-again Inv-loop μ-loop
-loop-again c = let s = c .before .before .before .before .before .before .before .before .before .before in
-    let l = c .before .before .before .before .before .before .loop in
-    let w = s .args .words .now in
-    (omega arith, adds-listed (λ b r n. mem (512 * r + n) (ops w b)) (s .args .rpo .now) (l .i) (c .before .before .before .before .before .loop-test .taken) (l .inv .1) (c .before .before .add-operations .ensures))
+loop-again c =
+    let at-add-operations = c .before .before in
+    let at-loop-test = at-add-operations .before .before .before in
+    let at-loop = at-loop-test .before in
+    let at-rpo = at-loop .before in
+    let start = at-rpo .before .before .before .before in
+    let l = at-loop .loop in
+    let w = start .args .words .now in
+    (omega arith, adds-listed (λ b r n. mem (512 * r + n) (ops w b)) (at-rpo .rpo .result .now) (l .i) (at-loop-test .loop-test .taken) (l .inv .1) (at-add-operations .add-operations .ensures))
 
 same-length : tie.Need-same-length Inv-loop μ-loop
 same-length c = c .before .loop .inv .1 .long
 
 returns : tie.Need-returns Inv-loop μ-loop
-returns c = let s = c .before .before .before .before .before in met-all (s .args .words .now) (c .before .loop .i) (s .pre .1 .1) (s .pre .1 .0) (c .loop-test .left) (c .before .loop .inv .1)
+returns c =
+    let at-loop = c .before in
+    let at-rpo = at-loop .before in
+    let start = at-rpo .before .before .before .before in
+    met-all (start .args .words .now) (at-loop .loop .i) (start .pre .1) (at-rpo .rpo .ensures ∙ start .pre .0 .rpo-is) (c .loop-test .left) (at-loop .loop .inv .1)
 
 pub met-operations-spec : {M : Type 1} → statement M
 met-operations-spec =
@@ -58,9 +75,10 @@ met-operations-spec =
     (tie.spec
     Inv-loop
     μ-loop
+    rpo-requires
     loop-holds
-    mul-t5
-    shared-slice-read-t9
+    mul-t6
+    shared-slice-read-t10
     add-operations-requires
     add-i
     loop-less

@@ -16,13 +16,21 @@ slice-aggregate-link-operations : tie.Need-slice-aggregate-link-operations
 slice-aggregate-link-operations c = search needs
 
 link-operations-requires : tie.Need-link-operations-requires
-link-operations-requires c κs = let s = c .before .before .before .before .before .before .before .before .before .before in
-    (s .pre .0, (c .before .before .before .before .met-operations .ensures, (cleared-long (s .args .links .now) 4096 (s .pre .1 .1 .0), cleared-long (s .args .harms .now) 8 (s .pre .1 .1 .1))))
+link-operations-requires c κs =
+    let at-met-operations = c .before .before .before .before in
+    let at-shared-slice-known = at-met-operations .before .before .before .before .before in
+    let start = at-shared-slice-known .before in
+    (start .pre .0 .well-formed, (at-met-operations .met-operations .ensures, (cleared-long (start .args .links .now) 4096 (start .pre .1 .0), cleared-long (start .args .harms .now) 8 (start .pre .1 .1))))
 
 link-blocks-requires : tie.Need-link-blocks-requires
-link-blocks-requires c κs = let s = c .before .before .before .before .before .before .before .before .before .before .before .before .before .before .before .before .before in
-    let r = c .before .before .before .before .before .before .link-operations .ensures in
-    (s .pre .0, (s .pre .1 .0, (r .0 .long ∙ cleared-long (s .args .links .now) 4096 (s .pre .1 .1 .0), r .1 .long ∙ cleared-long (s .args .harms .now) 8 (s .pre .1 .1 .1))))
+link-blocks-requires c κs =
+    let at-links = c .before .before .before .before .before in
+    let at-link-operations = at-links .before in
+    let at-met-operations = at-link-operations .before .before .before .before .before in
+    let at-shared-slice-known = at-met-operations .before .before .before .before .before in
+    let start = at-shared-slice-known .before in
+    let r = at-link-operations .link-operations .ensures in
+    (start .pre .0, (r .0 .long ∙ cleared-long (start .args .links .now) 4096 (start .pre .1 .0), r .1 .long ∙ cleared-long (start .args .harms .now) 8 (start .pre .1 .1)))
 
 same-length : tie.Need-same-length
 same-length c = search needs
@@ -31,10 +39,16 @@ same-length-2 : tie.Need-same-length-2
 same-length-2 c = search needs
 
 returns : tie.Need-returns
-returns c = let s = c .before .before .before .before .before .before .before .before .before .before .before .before .before .before .before .before .before .before .before .before .before .before in
-    let r = c .before .before .before .before .before .before .before .before .before .before .before .link-operations .ensures in
-    let b = c .before .before .before .before .link-blocks .ensures in
-    pointer-rows (s .args .words .now) (s .pre .0) (s .pre .1 .1 .0) (s .pre .1 .1 .1) (r .0) (r .1) (b .0) (b .1)
+returns c =
+    let at-link-blocks = c .before .before .before .before in
+    let at-slice-known3 = at-link-blocks .before .before .before .before .before in
+    let at-link-operations = at-slice-known3 .before .before in
+    let at-met-operations = at-link-operations .before .before .before .before .before in
+    let at-shared-slice-known = at-met-operations .before .before .before .before .before in
+    let start = at-shared-slice-known .before in
+    let r = at-link-operations .link-operations .ensures in
+    let b = at-link-blocks .link-blocks .ensures in
+    pointer-rows (start .args .words .now) (start .pre .0 .well-formed) (start .pre .1 .0) (start .pre .1 .1) (r .0) (r .1) (b .0) (b .1)
 
 pub pointer-links-spec : {M : Type 1} → statement M
 pointer-links-spec =

@@ -7,18 +7,18 @@ use Rattle.plank_core.specs.laws.Loops.{range-all}
 use Rattle.sir_data.specs.Records.{blocks}
 use Rattle.sir_analyses.specs.Order.{isVisited, edgesFrom, predecessors}
 use Rattle.sir_analyses.proofs.Writing.{Putting, putting-none, putting-as, putting-count, putting-more, putting-all}
-use Rattle.sir_analyses.proofs.Edges.{predecessorsLeft, visited-next, unvisited-next, none-left}
+use Rattle.sir_analyses.proofs.Edges.{predecessors-most, predecessorsLeft, visited-next, unvisited-next, none-left}
 use Rattle.sir_analyses.proofs.predecessors.put_predecessors.Statement.{statement}
 use Rattle.sir_analyses.proofs.predecessors.put_predecessors.Tie as tie
 
 abbrev Inv-loop : tie.InvT-loop
-Inv-loop words seen b out₀ limit count m₀ p₀ out m p = (p ≤ count) × Putting limit 0 (predecessors words (b .0)) out₀ (predecessorsLeft words (b .0) p count) out m
+Inv-loop words visit b out₀ count m₀ p₀ out m p = (p ≤ count) × Putting 0 (predecessors words (b .0)) out₀ (predecessorsLeft words (b .0) p count) out m
 
 abbrev μ-loop : tie.MeasureT-loop
-μ-loop words seen b out₀ limit count m₀ p₀ out m p = count - p
+μ-loop words visit b out₀ count m₀ p₀ out m p = count - p
 
 block-count-requires : tie.Need-block-count-requires Inv-loop μ-loop
-block-count-requires c κs = omega arith
+block-count-requires c κs = omega (arith, c .before .before .before .pre .well-formed .sized)
 
 loop-holds : tie.Need-loop-holds Inv-loop μ-loop
 loop-holds c = (omega arith, putting-as (rw (c .block-count .ensures, range-all)) putting-none)
@@ -26,49 +26,74 @@ loop-holds c = (omega arith, putting-as (rw (c .block-count .ensures, range-all)
 add-p : tie.Need-add-p Inv-loop μ-loop
 add-p c = omega arith
 
-row-contains-requires : tie.Need-row-contains-requires Inv-loop μ-loop
-row-contains-requires c κs = let S = c .before .before .before .before .before .before in (omega (arith, S .pre .1 .0 .wide), omega (arith, c .before .before .block-count .ensures, S .pre .0 .sized .blocks-most, c .loop-test .taken))
+is-visited-requires : tie.Need-is-visited-requires Inv-loop μ-loop
+is-visited-requires c κs =
+    let at-block-count = c .before .before in
+    let start = at-block-count .before .before .before .before in
+    (start .pre .long, omega (arith, at-block-count .block-count .ensures, start .pre .well-formed .sized .blocks-most, c .loop-test .taken))
 
 put-edges-requires : tie.Need-put-edges-requires Inv-loop μ-loop
-put-edges-requires c κs = let S = c .before .before .before .before .before .before .before .before .before in
-    let L = c .before .before .before .before .loop in
-    let w = S .args .words .now in
-    let h : L .p < blocks w = omega (arith, c .before .before .before .before .before .block-count .ensures, c .before .before .before .loop-test .taken) in
-    let n = c .before .before .before .before .before .block-count .result in
-    let t : isVisited w (L .p) ≡ true = sym (S .pre .1 .0 .visited-is (L .p) h) ∙ sym (c .before .before .row-contains .ensures) ∙ c .before .if1 .taken in
-    let e = visited-next w (S .args .b .0) (L .p) n (c .before .before .before .loop-test .taken) t in
-    (S .pre .0, (h, (omega (arith, S .pre .1 .1 .0, L .inv .1 .long), putting-count (edgesFrom w (L .p) (S .args .b .0)) (predecessorsLeft w (S .args .b .0) (L .p + 1) n) (omega (arith, S .pre .1 .1 .1)) (putting-as e (L .inv .1)))))
+put-edges-requires c κs =
+    let at-if1 = c .before in
+    let at-is-visited = at-if1 .before in
+    let at-loop-test = at-is-visited .before in
+    let at-loop = at-loop-test .before in
+    let at-block-count = at-loop .before in
+    let start = at-block-count .before .before .before .before in
+    let L = at-loop .loop in
+    let w = start .args .words .now in
+    let h : L .p < blocks w = omega (arith, at-block-count .block-count .ensures, at-loop-test .loop-test .taken) in
+    let n = at-block-count .block-count .result in
+    let t : isVisited w (L .p) ≡ true = sym (start .pre .visited-is (L .p) h) ∙ sym (at-is-visited .is-visited .ensures) ∙ at-if1 .if1 .taken in
+    let e = visited-next w (start .args .b .0) (L .p) n (at-loop-test .loop-test .taken) t in
+    (start .pre .well-formed, (h, putting-count (edgesFrom w (L .p) (start .args .b .0)) (predecessorsLeft w (start .args .b .0) (L .p + 1) n) (omega (arith, predecessors-most w (start .pre .well-formed) (start .args .b .0))) (putting-as e (L .inv .1))))
 
 loop-less : tie.Need-loop-less Inv-loop μ-loop
 loop-less c = omega arith
 
 loop-again : tie.Need-loop-again Inv-loop μ-loop
-loop-again c = let S = c .before .before .before .before .before .before .before .before .before .before .before .before in
-    let L = c .before .before .before .before .before .before .before .loop in
-    let w = S .args .words .now in
-    let h : L .p < blocks w = omega (arith, c .before .before .before .before .before .before .before .before .block-count .ensures, c .before .before .before .before .before .before .loop-test .taken) in
-    let n = c .before .before .before .before .before .before .before .before .block-count .result in
-    let t : isVisited w (L .p) ≡ true = sym (S .pre .1 .0 .visited-is (L .p) h) ∙ sym (c .before .before .before .before .before .row-contains .ensures) ∙ c .before .before .before .before .if1 .taken in
-    let e = visited-next w (S .args .b .0) (L .p) n (c .before .before .before .before .before .before .loop-test .taken) t in
-    (omega arith, putting-more (S .pre .1 .1 .0) (putting-as e (L .inv .1)) (c .before .before .put-edges .ensures))
+loop-again c =
+    let at-put-edges = c .before .before in
+    let at-if1 = at-put-edges .before .before in
+    let at-is-visited = at-if1 .before in
+    let at-loop-test = at-is-visited .before in
+    let at-loop = at-loop-test .before in
+    let at-block-count = at-loop .before in
+    let start = at-block-count .before .before .before .before in
+    let L = at-loop .loop in
+    let w = start .args .words .now in
+    let h : L .p < blocks w = omega (arith, at-block-count .block-count .ensures, at-loop-test .loop-test .taken) in
+    let n = at-block-count .block-count .result in
+    let t : isVisited w (L .p) ≡ true = sym (start .pre .visited-is (L .p) h) ∙ sym (at-is-visited .is-visited .ensures) ∙ at-if1 .if1 .taken in
+    let e = visited-next w (start .args .b .0) (L .p) n (at-loop-test .loop-test .taken) t in
+    (omega arith, putting-more (putting-as e (L .inv .1)) (at-put-edges .put-edges .ensures))
 
 loop-less-2 : tie.Need-loop-less-2 Inv-loop μ-loop
 loop-less-2 c = omega arith
 
 loop-again-2 : tie.Need-loop-again-2 Inv-loop μ-loop
-loop-again-2 c = let S = c .before .before .before .before .before .before .before .before in
-    let L = c .before .before .before .loop in
-    let w = S .args .words .now in
-    let h : L .p < blocks w = omega (arith, c .before .before .before .before .block-count .ensures, c .before .before .loop-test .taken) in
-    let n = c .before .before .before .before .block-count .result in
-    let t : isVisited w (L .p) ≡ false = sym (S .pre .1 .0 .visited-is (L .p) h) ∙ sym (c .before .row-contains .ensures) ∙ c .if1 .left in
-    (omega arith, putting-as (unvisited-next w (S .args .b .0) (L .p) n (c .before .before .loop-test .taken) t) (L .inv .1))
+loop-again-2 c =
+    let at-is-visited = c .before in
+    let at-loop-test = at-is-visited .before in
+    let at-loop = at-loop-test .before in
+    let at-block-count = at-loop .before in
+    let start = at-block-count .before .before .before .before in
+    let L = at-loop .loop in
+    let w = start .args .words .now in
+    let h : L .p < blocks w = omega (arith, at-block-count .block-count .ensures, at-loop-test .loop-test .taken) in
+    let n = at-block-count .block-count .result in
+    let t : isVisited w (L .p) ≡ false = sym (start .pre .visited-is (L .p) h) ∙ sym (at-is-visited .is-visited .ensures) ∙ c .if1 .left in
+    (omega arith, putting-as (unvisited-next w (start .args .b .0) (L .p) n (at-loop-test .loop-test .taken) t) (L .inv .1))
 
 same-length : tie.Need-same-length Inv-loop μ-loop
 same-length c = c .before .loop .inv .1 .long
 
 returns : tie.Need-returns Inv-loop μ-loop
-returns c = putting-all (none-left (c .before .before .before .before .before .before .args .words .now) (c .before .before .before .before .before .before .args .b .0) (c .before .loop .p) (c .before .before .block-count .result) (c .loop-test .left)) (c .before .loop .inv .1)
+returns c =
+    let at-loop = c .before in
+    let at-block-count = at-loop .before in
+    let start = at-block-count .before .before .before .before in
+    putting-all (none-left (start .args .words .now) (start .args .b .0) (at-loop .loop .p) (at-block-count .block-count .result) (c .loop-test .left)) (at-loop .loop .inv .1)
 
 pub put-predecessors-spec : {M : Type 1} → statement M
 put-predecessors-spec =
@@ -79,7 +104,7 @@ put-predecessors-spec =
     block-count-requires
     loop-holds
     add-p
-    row-contains-requires
+    is-visited-requires
     put-edges-requires
     loop-less
     loop-again
