@@ -2,9 +2,11 @@ pub mod OrderLaws
 pub mod Visiting
 pub mod Parts
 pub mod Writing
+pub mod Scattering
 pub mod Keys
 pub mod Loads
 pub mod Calls
+pub mod AllAnswers
 pub mod Asked
 pub mod Edges
 pub mod UseWords

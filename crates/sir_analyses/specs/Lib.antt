@@ -1,6 +1,7 @@
 pub mod Order
 pub mod Visiting
 pub mod Writing
+pub mod Scatter
 pub mod Liveness
 pub mod Uses
 pub mod Tables
@@ -14,6 +15,7 @@ pub mod SourceIntervals
 pub mod Kinds
 pub mod Discovery
 pub mod Answers
+pub mod All
 pub mod Calls
 pub mod Stages
 pub mod Loading

@@ -16,4 +16,5 @@ pub mod pointer_links;
 pub mod predecessors;
 pub mod questions;
 pub mod reverse_post_order;
+pub mod scatter;
 pub mod stages;
