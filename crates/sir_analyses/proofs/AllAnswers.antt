@@ -2,18 +2,19 @@
 use mathlib.Core.Path.{_≡_, refl, sym, ap, _∙_}
 use mathlib.Core.Bool.{Bool, true, false}
 use mathlib.Core.List.{List, _++_}
-use Prim.Native.Nat.{ℕ, zero, suc, _+_, _*_, _≤_, _<_}
+use Prim.Native.Nat.{ℕ, zero, suc, _+_, _-_, _*_, _^_, _≤_, _<_}
 use native.Mathlib.Nat.{mul-suc}
 use native.Mathlib.Omega.{arith}
-use lib.ListN.{length, getD, drop}
+use lib.ListN.{length, getD, take, drop, replicate, length-replicate}
+use lib.Seq.{length-take-le}
 use lib.Dec.{ltb}
 use borrow.Author.Tests.{ltb-false}
 use Rattle.plank_core.specs.Lists.{bind}
 use Rattle.sir_data.specs.Pages.{bytesOf}
 use Rattle.sir_analyses.specs.Calls.{made, answered}
 use Rattle.sir_analyses.specs.Writing.{Finished}
-use Rattle.sir_analyses.specs.Scatter.{Pieces, piecesOf, Direction, inOrder, moved, Segments, segments, Scatters, Below, base, at, Placed, allOf, Counts}
-use Rattle.sir_analyses.specs.laws.Scatter.{cursor-after, all-long, scattered}
+use Rattle.sir_analyses.specs.Scatter.{Pieces, piecesOf, Direction, forward, backward, inOrder, moved, Inside, Segments, segments, Scatters, Fits, Below, base, at, origin, Placed, allOf, Counts}
+use Rattle.sir_analyses.specs.laws.Scatter.{cursor-after, length-in-order, base-within, all-long, scattered}
 use Rattle.sir_analyses.proofs.Writing.{length-bytes}
 
 -- a cursor after a call
@@ -28,17 +29,75 @@ base-bound f k (suc n) h =
     let e : (k + 1) * suc n ≡ (k + 1) * n + (k + 1) = mul-suc (k + 1) n in
     omega (arith, base-bound f k n (λ v l. h v (omega arith)), h n (omega arith))
 
+-- at most 512 ids, and numbers for the length of each answer
+pub record Small (n : ℕ) (ans : ℕ → List ℕ) : Type 0 where
+  pub ids : n ≤ 512
+  pub words : (v : ℕ) → v < n → length (ans v) < 2 ^ 32
+
+origin-fits : (d : Direction) (f : ℕ → ℕ) (v m : ℕ) → base f v + 1 + f v ≤ m → Inside d 0 m (origin d f v) (f v)
+unfolding base
+origin-fits forward f v m l = omega arith
+origin-fits backward f v m l = omega arith
+
 module _ {n : ℕ} {ans : ℕ → List ℕ} {counts : List ℕ} (k : Counts n ans counts) where
   pub counts-total : base (at counts) (length counts) ≡ length (allOf ans n)
   counts-total = ap (base (at counts)) (k .wide) ∙ sym (all-long (at counts) ans n (k .count-is) n (omega arith))
 
+  counts-most : Small n ans → base (at counts) (length counts) ≤ 2 ^ 41
+  counts-most s = rw (k .wide) (omega (arith, s .ids, base-bound (at counts) (2 ^ 32 - 1) n (λ v l. omega (arith, k .count-is v l, s .words v l))))
+
+  -- there are numbers for their sum
+  pub counts-fit : Small n ans → base (at counts) (length counts) < 2 ^ 60
+  counts-fit s = omega (arith, counts-most s)
+
+  -- and bytes for their lengths
+  pub lengths-fit : {m : ℕ} → Small n ans → m ≡ 4 * length (allOf ans n) → (base (at counts) (length counts) < 2 ^ 60) × ((4 * base (at counts) (length counts) ≤ m) × ((v : ℕ) → v < length counts → at counts v < 2 ^ 32))
+  lengths-fit s l = (counts-fit s, (omega (arith, counts-total), λ v h. omega (arith, k .count-is v (omega (arith, k .wide)), s .words v (omega (arith, k .wide)))))
+
+  pub counts-finished : {r room number len : ℕ} → r ≡ base (at counts) (length counts) → Finished r room number len → Finished (length (allOf ans n)) room number len
+  counts-finished e f = rw (e ∙ counts-total) at f
+
+  -- pieces for the segments of their size
+  pub placed-fits : (d : Direction) {ps : Pieces} {cursors out : List ℕ} → ((v : ℕ) → v < n → piecesOf v (inOrder d ps) ≡ ans v)
+      → length cursors ≡ n → Placed d (at counts) (length cursors) cursors out → Small n ans → Fits d ps cursors
+  placed-fits d {ps} {cursors} pieces wide placed s = record {
+    inside = λ v h.
+        let e : length (piecesOf v ps) ≡ at counts v = sym (length-in-order d v ps) ∙ ap length (pieces v (omega arith)) ∙ sym (k .count-is v (omega arith)) in
+        rw (placed .cursor-is v h, e) (origin-fits d (at counts) v (2 ^ 59) (omega (arith, counts-most s, base-within (at counts) v (length counts) (omega (arith, k .wide)))));
+  }
+
   -- lengths stored, cursors set and all pieces put
   pub counts-written : (d : Direction) {ps : Pieces} {cursors out cursors′ out′ : List ℕ} → Below n ps → ((v : ℕ) → v < n → piecesOf v (inOrder d ps) ≡ ans v)
-      → length cursors ≡ n → Placed d (at counts) (length cursors) cursors out → length out ≡ 4 * base (at counts) (length counts) → Scatters d ps cursors out cursors′ out′ → out′ ≡ bind (allOf ans n) bytesOf
+      → length cursors ≡ n → Placed d (at counts) (length cursors) cursors out → length out ≡ 4 * length (allOf ans n) → Scatters d ps cursors out cursors′ out′ → out′ ≡ bind (allOf ans n) bytesOf
   counts-written d {ps} {cursors} {out} known pieces wide placed long s =
       ap (λ (s : Segments). s .out) (s .left)
-      ∙ scattered d (at counts) ans ps (segments cursors out) (rw wide known) (λ v h. (k .count-is v (omega arith), pieces v (omega arith))) placed (long ∙ ap (λ (i : ℕ). 4 * base (at counts) i) (k .wide ∙ sym wide))
+      ∙ scattered d (at counts) ans ps (segments cursors out) (rw wide known) (λ v h. (k .count-is v (omega arith), pieces v (omega arith))) placed (long ∙ ap (λ (i : ℕ). 4 * i) (sym counts-total ∙ ap (base (at counts)) (k .wide ∙ sym wide)))
       ∙ ap (λ (i : ℕ). bind (allOf ans i) bytesOf) wide
+
+-- pieces for cursors that stand at 0
+pub zero-fits : {n : ℕ} {ans : ℕ → List ℕ} {ps : Pieces} {cursors : List ℕ} → length cursors ≡ n → ((v : ℕ) → getD cursors v 0 ≡ 0) → ((v : ℕ) → v < n → piecesOf v ps ≡ ans v) → Small n ans → Fits forward ps cursors
+zero-fits wide z pieces s = record { inside = λ v h. (omega arith, omega (arith, z v, ap length (pieces v (omega arith)), s .words v (omega arith))) }
+
+-- the first n of an array of zeros
+abbrev pub zeros : ℕ → ℕ → List ℕ
+zeros n m = take n (replicate m 0)
+
+pub zero-long : (n m : ℕ) → n ≤ m → length (zeros n m) ≡ n
+zero-long n m h = length-take-le n (replicate m 0) (rw length-replicate h)
+
+pub zero-prefix : (n m v : ℕ) → getD (zeros n m) v 0 ≡ 0
+zero-prefix zero m v = refl
+zero-prefix (suc n) zero v = refl
+zero-prefix (suc n) (suc m) zero = refl
+zero-prefix (suc n) (suc m) (suc v) = zero-prefix n m v
+
+-- cursors that stood at 0 have counted
+pub counted-all : {n : ℕ} {ans : ℕ → List ℕ} {ps : Pieces} {cursors out cursors′ out′ : List ℕ} → length cursors ≡ n → ((v : ℕ) → getD cursors v 0 ≡ 0) → ((v : ℕ) → v < n → piecesOf v ps ≡ ans v)
+    → length cursors′ ≡ length cursors → Scatters forward ps cursors out cursors′ out′ → Counts n ans cursors′
+counted-all wide z pieces kept s = record {
+  wide = kept ∙ wide;
+  count-is = λ v h. scatters-cursor v (omega arith) s ∙ omega (arith, z v, ap length (pieces v h));
+}
 
 -- ---- 14, or the answer
 

@@ -9,6 +9,7 @@ pub mod Calls
 pub mod AllAnswers
 pub mod Asked
 pub mod Edges
+pub mod EdgePieces
 pub mod UseWords
 pub mod OrderOnce
 pub mod PredecessorLaws

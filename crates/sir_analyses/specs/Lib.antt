@@ -2,6 +2,7 @@ pub mod Order
 pub mod Visiting
 pub mod Writing
 pub mod Scatter
+pub mod Pieces
 pub mod Liveness
 pub mod Uses
 pub mod Tables
