@@ -75,8 +75,16 @@ module _ {n : ℕ} {ans : ℕ → List ℕ} {counts : List ℕ} (k : Counts n an
       ∙ ap (λ (i : ℕ). bind (allOf ans i) bytesOf) wide
 
 -- pieces for cursors that stand at 0
-pub zero-fits : {n : ℕ} {ans : ℕ → List ℕ} {ps : Pieces} {cursors : List ℕ} → length cursors ≡ n → ((v : ℕ) → getD cursors v 0 ≡ 0) → ((v : ℕ) → v < n → piecesOf v ps ≡ ans v) → Small n ans → Fits forward ps cursors
-zero-fits wide z pieces s = record { inside = λ v h. (omega arith, omega (arith, z v, ap length (pieces v (omega arith)), s .words v (omega arith))) }
+pub zero-room : {ps : Pieces} {cursors : List ℕ} → ((v : ℕ) → getD cursors v 0 ≡ 0) → ((v : ℕ) → v < length cursors → length (piecesOf v ps) ≤ 2 ^ 59) → Fits forward ps cursors
+zero-room z m = record { inside = λ v h. (omega arith, omega (arith, z v, m v h)) }
+
+pub zero-fits : {n : ℕ} {ans : ℕ → List ℕ} {ps : Pieces} {cursors : List ℕ} → length cursors ≡ n → ((v : ℕ) → getD cursors v 0 ≡ 0) → ((v : ℕ) → v < n → length (piecesOf v ps) ≡ length (ans v)) → Small n ans → Fits forward ps cursors
+zero-fits wide z same s = zero-room z (λ v h. omega (arith, same v (omega arith), s .words v (omega arith)))
+
+pub zero-at : (m v : ℕ) → _≡_ {A = ℕ} (getD (replicate m 0) v 0) 0
+zero-at zero v = refl
+zero-at (suc m) zero = refl
+zero-at (suc m) (suc v) = zero-at m v
 
 -- the first n of an array of zeros
 abbrev pub zeros : ℕ → ℕ → List ℕ
@@ -92,11 +100,11 @@ zero-prefix (suc n) (suc m) zero = refl
 zero-prefix (suc n) (suc m) (suc v) = zero-prefix n m v
 
 -- cursors that stood at 0 have counted
-pub counted-all : {n : ℕ} {ans : ℕ → List ℕ} {ps : Pieces} {cursors out cursors′ out′ : List ℕ} → length cursors ≡ n → ((v : ℕ) → getD cursors v 0 ≡ 0) → ((v : ℕ) → v < n → piecesOf v ps ≡ ans v)
+pub counted-all : {n : ℕ} {ans : ℕ → List ℕ} {ps : Pieces} {cursors out cursors′ out′ : List ℕ} → length cursors ≡ n → ((v : ℕ) → getD cursors v 0 ≡ 0) → ((v : ℕ) → v < n → length (piecesOf v ps) ≡ length (ans v))
     → length cursors′ ≡ length cursors → Scatters forward ps cursors out cursors′ out′ → Counts n ans cursors′
-counted-all wide z pieces kept s = record {
+counted-all wide z same kept s = record {
   wide = kept ∙ wide;
-  count-is = λ v h. scatters-cursor v (omega arith) s ∙ omega (arith, z v, ap length (pieces v h));
+  count-is = λ v h. scatters-cursor v (omega arith) s ∙ omega (arith, z v, same v h);
 }
 
 -- ---- 14, or the answer

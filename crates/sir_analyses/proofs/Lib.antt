@@ -9,11 +9,13 @@ pub mod Calls
 pub mod AllAnswers
 pub mod Asked
 pub mod Edges
+pub mod PieceLaws
 pub mod EdgePieces
 pub mod UseWords
 pub mod OrderOnce
 pub mod PredecessorLaws
 pub mod OrderProof
+pub mod UsePieces
 pub mod SetLaws
 pub mod RowLaws
 pub mod FlowLaws

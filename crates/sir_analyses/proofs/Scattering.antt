@@ -5,13 +5,26 @@ use mathlib.Core.List.{List, [], _∷_, _++_, append-nil}
 use mathlib.Core.Logic.{inl}
 use Prim.Native.Nat.{ℕ, _+_, _*_, _^_, _≤_, _<_}
 use native.Mathlib.Omega.{arith}
-use lib.ListN.{length, getD, set}
+use lib.ListN.{length, getD, set, length-replicate}
 use lib.Seq.{getD-set-same, getD-set-other}
 use Rattle.plank_core.specs.laws.Lists.{below-next}
 use borrow.Author.Tests.{eq-eqb}
 use Rattle.sir_analyses.specs.Writing.{wordsPut}
-use Rattle.sir_analyses.specs.Scatter.{Pieces, piecesOf, Direction, moved, place, Inside, Segments, segments, piecePut, scatter, Scatters, Fits, at, base, origin, toward, Stands, Placed}
+use Rattle.sir_analyses.specs.Scatter.{Pieces, piecesOf, Direction, forward, moved, place, Inside, Segments, segments, piecePut, scatter, Scatters, Fits, at, base, origin, toward, Stands, Placed}
+use Rattle.sir_analyses.specs.Pieces.{blanks}
+use Rattle.sir_analyses.specs.laws.Writing.{puts-past}
 use Rattle.sir_analyses.specs.laws.Scatter.{foldl-append, scatter-cursors, scatter-out, room-first, room-rest, stands-put, stands-other, base-most, base-within, base-next}
+
+-- ---- room for the first of some pieces, and for the rest after them
+
+pub fits-as : {d : Direction} {ps qs : Pieces} {cursors : List ℕ} → ps ≡ qs → Fits d ps cursors → Fits d qs cursors
+fits-as e f = rw e at f
+
+pub fits-first : {d : Direction} (ps qs : Pieces) {cursors : List ℕ} → Fits d (ps ++ qs) cursors → Fits d ps cursors
+fits-first {d} ps qs f = room-first d ps qs f
+
+pub fits-rest : {d : Direction} {ps : Pieces} (qs : Pieces) {cursors out cursors′ out′ : List ℕ} → Fits d (ps ++ qs) cursors → Scatters d ps cursors out cursors′ out′ → Fits d qs cursors′
+fits-rest {d} {ps} qs {cursors} {out} f s = rw (ap (λ (s : Segments). s .cursors) (s .left)) (room-rest d ps qs (segments cursors out) f)
 
 -- ---- some pieces are put, the rest are to come
 
@@ -29,14 +42,14 @@ module _ {d : Direction} {full : Pieces} {cursors₀ out₀ : List ℕ} where
   scattering-as e k = rw e at k
 
   pub scattering-fits : (ps rest : Pieces) {cursors out : List ℕ} → Scattering d full cursors₀ out₀ (ps ++ rest) cursors out → Fits d ps cursors
-  scattering-fits ps rest k = room-first d ps rest (k .fits)
+  scattering-fits ps rest k = fits-first ps rest (k .fits)
 
   pub scattering-more : {ps : Pieces} (rest : Pieces) {cursors out cursors′ out′ : List ℕ} → Scattering d full cursors₀ out₀ (ps ++ rest) cursors out → Scatters d ps cursors out cursors′ out′ → Scattering d full cursors₀ out₀ rest cursors′ out′
   scattering-more {ps} rest {cursors} {out} {cursors′} {out′} k p =
       let s : Segments = segments cursors out in
       record {
         left = ap (scatter d rest) (p .left) ∙ sym (foldl-append (piecePut d) s ps rest) ∙ k .left;
-        fits = rw (ap (λ (s : Segments). s .cursors) (p .left)) (room-rest d ps rest s (k .fits));
+        fits = fits-rest rest (k .fits) p;
         wide = ap (λ (s : Segments). length (s .cursors)) (p .left) ∙ scatter-cursors d ps s ∙ k .wide;
         long = ap (λ (s : Segments). length (s .out)) (p .left) ∙ scatter-out d ps s ∙ k .long;
       }
@@ -54,6 +67,14 @@ fits-one d v xs cursors h f =
 pub scatters-one : (d : Direction) (v : ℕ) (xs cursors out : List ℕ) {cursors′ out′ : List ℕ} → cursors′ ≡ set cursors v (moved d (getD cursors v 0) (length xs)) → out′ ≡ wordsPut (length out) (place d (getD cursors v 0) (length xs)) xs out
     → Scatters d ((v, xs) ∷ []) cursors out cursors′ out′
 scatters-one d v xs cursors out e f = record { left = ap₂ segments e f }
+
+-- words that are only counted
+pub blanks-long : (n : ℕ) → length (blanks n) ≡ n
+blanks-long n = length-replicate n 0
+
+pub scatters-blank : (v n : ℕ) (cursors : List ℕ) → Scatters forward ((v, blanks n) ∷ []) cursors [] (set cursors v (getD cursors v 0 + n)) []
+scatters-blank v n cursors =
+    scatters-one forward v (blanks n) cursors [] (ap (λ (i : ℕ). set cursors v (getD cursors v 0 + i)) (sym (blanks-long n))) (sym (puts-past 0 (getD cursors v 0) (blanks n) [] (omega arith)))
 
 pub scatters-nothing : {d : Direction} {cursors out : List ℕ} → Scatters d [] cursors out cursors out
 scatters-nothing = record { left = refl }

@@ -7,6 +7,7 @@ ghost use mathlib.Core.List.{_∷_, []};
 ghost use mathlib.Core.Bool.{cond};
 ghost use Prim.Native.Nat.{ℕ, _+_, _*_, _<_, _≤_, _^_};
 ghost use lib.ListN.{length};
+ghost use Rattle.sir_analyses.specs.Pieces.{piecesAt, blanks, Known};
 ghost use Rattle.sir_analyses.specs.Scatter.{forward, backward, Fits, Scatters, base, at, toward, Placed};
 
 // Some words after what the segment of an id has.
@@ -16,6 +17,40 @@ pub fn append(cursors: &mut [usize], id: u32, words: &[u32], out: &mut [u8])
 {
     let start = cursors[id as usize];
     cursors[id as usize] = put_words(out, start, words);
+}
+
+// The same words after what the segment of each of some ids has.
+pub fn append_each(cursors: &mut [usize], ids: &[u32], words: &[u32], out: &mut [u8])
+    requires { ⌜ Known (length (now cursors)) (now ids) ⌝ }
+    requires { ⌜ Fits forward (piecesAt (λ k. now words) (now ids) 0) (now cursors) ⌝ }
+    ensures { λ _. ⌜ Scatters forward (piecesAt (λ k. now (words .entry)) (now (ids .entry)) 0) (now (cursors .entry)) (now (out .entry)) (now (cursors .exit)) (now (out .exit)) ⌝ }
+{
+    let mut i: usize = 0;
+    while i < ids.len() {
+        append(cursors, ids[i], words, out);
+        i += 1;
+    }
+}
+
+// Moves the cursor of an id past n words, which are only counted.
+pub fn advance(cursors: &mut [usize], id: u32, n: usize)
+    requires { ⌜ (id < length (now cursors)) × Fits forward ((id, blanks n) ∷ []) (now cursors) ⌝ }
+    ensures { λ _. ⌜ Scatters forward ((id, blanks n) ∷ []) (now (cursors .entry)) [] (now (cursors .exit)) [] ⌝ }
+{
+    cursors[id as usize] += n;
+}
+
+// Moves the cursor of each of some ids past n words, which are only counted.
+pub fn advance_each(cursors: &mut [usize], ids: &[u32], n: usize)
+    requires { ⌜ Known (length (now cursors)) (now ids) ⌝ }
+    requires { ⌜ Fits forward (piecesAt (λ k. blanks n) (now ids) 0) (now cursors) ⌝ }
+    ensures { λ _. ⌜ Scatters forward (piecesAt (λ k. blanks n) (now (ids .entry)) 0) (now (cursors .entry)) [] (now (cursors .exit)) [] ⌝ }
+{
+    let mut i: usize = 0;
+    while i < ids.len() {
+        advance(cursors, ids[i], n);
+        i += 1;
+    }
 }
 
 // Some words in front of what the segment of an id has.

@@ -3,18 +3,18 @@ use mathlib.Core.List.{_∷_, []}
 use Prim.Native.Nat.{_+_, _-_, _≤_, _<_}
 use native.Mathlib.Omega.{arith}
 use borrow.Author.Needs.{needs}
-use lib.ListN.{length, getD}
+use lib.ListN.{length, getD, drop}
 use Rattle.plank_core.specs.laws.Lists.{getD-mem}
 use Rattle.sir_data.specs.Records.{blocks, successors}
 use Rattle.sir_analyses.specs.Scatter.{forward}
-use Rattle.sir_analyses.specs.Pieces.{edgePieces}
+use Rattle.sir_analyses.specs.Pieces.{piecesAt, edgePieces}
 use Rattle.sir_analyses.proofs.Scattering.{Scattering, scattering-none, scattering-as, scattering-fits, scattering-more, scattering-all}
-use Rattle.sir_analyses.proofs.EdgePieces.{edgePiecesLeft, edge-piece-next, edge-piece-end}
+use Rattle.sir_analyses.proofs.PieceLaws.{piece-next, piece-end}
 use Rattle.sir_analyses.proofs.all_predecessors.scan_edges.Statement.{statement}
 use Rattle.sir_analyses.proofs.all_predecessors.scan_edges.Tie as tie
 
 abbrev Inv-loop : tie.InvT-loop
-Inv-loop words p cursors₀ out₀ piece count i₀ cursors out i = (i ≤ count) × Scattering forward (edgePieces words (p .0)) cursors₀ out₀ (edgePiecesLeft words (p .0) i) cursors out
+Inv-loop words p cursors₀ out₀ piece count i₀ cursors out i = (i ≤ count) × Scattering forward (edgePieces words (p .0)) cursors₀ out₀ (piecesAt (λ k. p .0 ∷ []) (drop i (successors words (p .0))) i) cursors out
 
 abbrev μ-loop : tie.MeasureT-loop
 μ-loop words p cursors₀ out₀ piece count i₀ cursors out i = count - i
@@ -44,9 +44,9 @@ append-requires c κs =
     let i = loop .loop .i in
     let h : i < length (successors w p) = omega (arith, count .successor-count .ensures) in
     let r = at-successor .successor .result .0 in
-    let e = edge-piece-next w p i r h (at-successor .successor .ensures) in
+    let e = piece-next (λ k. p ∷ []) (successors w p) i r h (at-successor .successor .ensures) in
     let l : r < blocks w = rw (at-successor .successor .ensures) (s .pre .0 .in-range .successor p (getD (successors w p) i 0) (s .pre .1 .0 .0) (getD-mem (successors w p) i 0 h)) in
-    (omega (arith, s .pre .1 .0 .1, loop .loop .inv .1 .wide), scattering-fits ((r, p ∷ []) ∷ []) (edgePiecesLeft w p (i + 1)) (scattering-as e (loop .loop .inv .1)))
+    (omega (arith, s .pre .1 .0 .1, loop .loop .inv .1 .wide), scattering-fits ((r, p ∷ []) ∷ []) (piecesAt (λ k. p ∷ []) (drop (i + 1) (successors w p)) (i + 1)) (scattering-as e (loop .loop .inv .1)))
 
 add-i : tie.Need-add-i Inv-loop μ-loop
 add-i c = omega arith
@@ -65,8 +65,8 @@ loop-again c =
     let p = s .args .p .0 in
     let i = loop .loop .i in
     let h : i < length (successors w p) = omega (arith, count .successor-count .ensures) in
-    let e = edge-piece-next w p i (at-successor .successor .result .0) h (at-successor .successor .ensures) in
-    (omega arith, scattering-more (edgePiecesLeft w p (i + 1)) (scattering-as e (loop .loop .inv .1)) (at-append .append .ensures))
+    let e = piece-next (λ k. p ∷ []) (successors w p) i (at-successor .successor .result .0) h (at-successor .successor .ensures) in
+    (omega arith, scattering-more (piecesAt (λ k. p ∷ []) (drop (i + 1) (successors w p)) (i + 1)) (scattering-as e (loop .loop .inv .1)) (at-append .append .ensures))
 
 same-length : tie.Need-same-length Inv-loop μ-loop
 same-length c = c .before .loop .inv .1 .wide
@@ -77,7 +77,7 @@ same-length-2 c = c .before .loop .inv .1 .long
 returns : tie.Need-returns Inv-loop μ-loop
 returns c =
     let a = c .before .before .before .before .before .before .args in
-    scattering-all (edge-piece-end (a .words .now) (a .p .0) (c .before .loop .i) (omega (arith, c .before .before .successor-count .ensures))) (c .before .loop .inv .1)
+    scattering-all (piece-end (λ k. a .p .0 ∷ []) (successors (a .words .now) (a .p .0)) (c .before .loop .i) (omega (arith, c .before .before .successor-count .ensures))) (c .before .loop .inv .1)
 
 pub scan-edges-spec : {M : Type 1} → statement M
 scan-edges-spec =
