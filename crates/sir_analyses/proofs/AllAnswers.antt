@@ -13,7 +13,7 @@ use Rattle.plank_core.specs.Lists.{bind}
 use Rattle.sir_data.specs.Pages.{bytesOf}
 use Rattle.sir_analyses.specs.Calls.{made, answered}
 use Rattle.sir_analyses.specs.Writing.{Finished}
-use Rattle.sir_analyses.specs.Scatter.{Pieces, piecesOf, Direction, forward, backward, inOrder, moved, Inside, Segments, segments, Scatters, Fits, Below, base, at, origin, Placed, allOf, Counts}
+use Rattle.sir_analyses.specs.Scatter.{Pieces, piecesOf, Direction, forward, backward, inOrder, moved, Inside, Segments, segments, Scatters, Fits, Below, base, numberAt, origin, Placed, allOf, Counts}
 use Rattle.sir_analyses.specs.laws.Scatter.{cursor-after, length-in-order, base-within, all-long, scattered}
 use Rattle.sir_analyses.proofs.Writing.{length-bytes}
 
@@ -29,9 +29,9 @@ base-bound f k (suc n) h =
     let e : (k + 1) * suc n ≡ (k + 1) * n + (k + 1) = mul-suc (k + 1) n in
     omega (arith, base-bound f k n (λ v l. h v (omega arith)), h n (omega arith))
 
--- at most 512 ids, and numbers for the length of each answer
+-- not too many ids, and a number of 32 bits for the length of each answer
 pub record Small (n : ℕ) (ans : ℕ → List ℕ) : Type 0 where
-  pub ids : n ≤ 512
+  pub ids : n ≤ 2 ^ 16
   pub words : (v : ℕ) → v < n → length (ans v) < 2 ^ 32
 
 origin-fits : (d : Direction) (f : ℕ → ℕ) (v m : ℕ) → base f v + 1 + f v ≤ m → Inside d 0 m (origin d f v) (f v)
@@ -40,38 +40,38 @@ origin-fits forward f v m l = omega arith
 origin-fits backward f v m l = omega arith
 
 module _ {n : ℕ} {ans : ℕ → List ℕ} {counts : List ℕ} (k : Counts n ans counts) where
-  pub counts-total : base (at counts) (length counts) ≡ length (allOf ans n)
-  counts-total = ap (base (at counts)) (k .wide) ∙ sym (all-long (at counts) ans n (k .count-is) n (omega arith))
+  pub counts-total : base (numberAt counts) (length counts) ≡ length (allOf ans n)
+  counts-total = ap (base (numberAt counts)) (k .wide) ∙ sym (all-long (numberAt counts) ans n (k .count-is) n (omega arith))
 
-  counts-most : Small n ans → base (at counts) (length counts) ≤ 2 ^ 41
-  counts-most s = rw (k .wide) (omega (arith, s .ids, base-bound (at counts) (2 ^ 32 - 1) n (λ v l. omega (arith, k .count-is v l, s .words v l))))
+  counts-most : Small n ans → base (numberAt counts) (length counts) ≤ 2 ^ 48
+  counts-most s = rw (k .wide) (omega (arith, s .ids, base-bound (numberAt counts) (2 ^ 32 - 1) n (λ v l. omega (arith, k .count-is v l, s .words v l))))
 
   -- there are numbers for their sum
-  pub counts-fit : Small n ans → base (at counts) (length counts) < 2 ^ 60
+  pub counts-fit : Small n ans → base (numberAt counts) (length counts) < 2 ^ 60
   counts-fit s = omega (arith, counts-most s)
 
   -- and bytes for their lengths
-  pub lengths-fit : {m : ℕ} → Small n ans → m ≡ 4 * length (allOf ans n) → (base (at counts) (length counts) < 2 ^ 60) × ((4 * base (at counts) (length counts) ≤ m) × ((v : ℕ) → v < length counts → at counts v < 2 ^ 32))
+  pub lengths-fit : {m : ℕ} → Small n ans → m ≡ 4 * length (allOf ans n) → (base (numberAt counts) (length counts) < 2 ^ 60) × ((4 * base (numberAt counts) (length counts) ≤ m) × ((v : ℕ) → v < length counts → numberAt counts v < 2 ^ 32))
   lengths-fit s l = (counts-fit s, (omega (arith, counts-total), λ v h. omega (arith, k .count-is v (omega (arith, k .wide)), s .words v (omega (arith, k .wide)))))
 
-  pub counts-finished : {r room number len : ℕ} → r ≡ base (at counts) (length counts) → Finished r room number len → Finished (length (allOf ans n)) room number len
+  pub counts-finished : {r room number len : ℕ} → r ≡ base (numberAt counts) (length counts) → Finished r room number len → Finished (length (allOf ans n)) room number len
   counts-finished e f = rw (e ∙ counts-total) at f
 
   -- pieces for the segments of their size
   pub placed-fits : (d : Direction) {ps : Pieces} {cursors out : List ℕ} → ((v : ℕ) → v < n → piecesOf v (inOrder d ps) ≡ ans v)
-      → length cursors ≡ n → Placed d (at counts) (length cursors) cursors out → Small n ans → Fits d ps cursors
+      → length cursors ≡ n → Placed d (numberAt counts) (length cursors) cursors out → Small n ans → Fits d ps cursors
   placed-fits d {ps} {cursors} pieces wide placed s = record {
     inside = λ v h.
-        let e : length (piecesOf v ps) ≡ at counts v = sym (length-in-order d v ps) ∙ ap length (pieces v (omega arith)) ∙ sym (k .count-is v (omega arith)) in
-        rw (placed .cursor-is v h, e) (origin-fits d (at counts) v (2 ^ 59) (omega (arith, counts-most s, base-within (at counts) v (length counts) (omega (arith, k .wide)))));
+        let e : length (piecesOf v ps) ≡ numberAt counts v = sym (length-in-order d v ps) ∙ ap length (pieces v (omega arith)) ∙ sym (k .count-is v (omega arith)) in
+        rw (placed .cursor-is v h, e) (origin-fits d (numberAt counts) v (2 ^ 59) (omega (arith, counts-most s, base-within (numberAt counts) v (length counts) (omega (arith, k .wide)))));
   }
 
   -- lengths stored, cursors set and all pieces put
   pub counts-written : (d : Direction) {ps : Pieces} {cursors out cursors′ out′ : List ℕ} → Below n ps → ((v : ℕ) → v < n → piecesOf v (inOrder d ps) ≡ ans v)
-      → length cursors ≡ n → Placed d (at counts) (length cursors) cursors out → length out ≡ 4 * length (allOf ans n) → Scatters d ps cursors out cursors′ out′ → out′ ≡ bind (allOf ans n) bytesOf
+      → length cursors ≡ n → Placed d (numberAt counts) (length cursors) cursors out → length out ≡ 4 * length (allOf ans n) → Scatters d ps cursors out cursors′ out′ → out′ ≡ bind (allOf ans n) bytesOf
   counts-written d {ps} {cursors} {out} known pieces wide placed long s =
       ap (λ (s : Segments). s .out) (s .left)
-      ∙ scattered d (at counts) ans ps (segments cursors out) (rw wide known) (λ v h. (k .count-is v (omega arith), pieces v (omega arith))) placed (long ∙ ap (λ (i : ℕ). 4 * i) (sym counts-total ∙ ap (base (at counts)) (k .wide ∙ sym wide)))
+      ∙ scattered d (numberAt counts) ans ps (segments cursors out) (rw wide known) (λ v h. (k .count-is v (omega arith), pieces v (omega arith))) placed (long ∙ ap (λ (i : ℕ). 4 * i) (sym counts-total ∙ ap (base (numberAt counts)) (k .wide ∙ sym wide)))
       ∙ ap (λ (i : ℕ). bind (allOf ans i) bytesOf) wide
 
 -- pieces for cursors that stand at 0
@@ -105,6 +105,17 @@ pub counted-all : {n : ℕ} {ans : ℕ → List ℕ} {ps : Pieces} {cursors out 
 counted-all wide z same kept s = record {
   wide = kept ∙ wide;
   count-is = λ v h. scatters-cursor v (omega arith) s ∙ omega (arith, z v, same v h);
+}
+
+-- the same for cursors that went back from 2 ^ 59
+pub top-fits : {n : ℕ} {ans : ℕ → List ℕ} {ps : Pieces} {cursors : List ℕ} → length cursors ≡ n → ((v : ℕ) → v < length cursors → getD cursors v 0 ≡ 2 ^ 59) → ((v : ℕ) → v < n → length (piecesOf v ps) ≡ length (ans v)) → Small n ans → Fits backward ps cursors
+top-fits wide t same s = record { inside = λ v h. (omega (arith, t v h, same v (omega arith), s .words v (omega arith)), omega (arith, t v h)) }
+
+pub passed-all : {n : ℕ} {ans : ℕ → List ℕ} {ps : Pieces} {cursors out cursors′ out′ counts : List ℕ} → length cursors ≡ n → ((v : ℕ) → v < length cursors → getD cursors v 0 ≡ 2 ^ 59) → ((v : ℕ) → v < n → length (piecesOf v ps) ≡ length (ans v))
+    → Small n ans → Scatters backward ps cursors out cursors′ out′ → length counts ≡ length cursors → ((v : ℕ) → v < length counts → numberAt counts v ≡ 2 ^ 59 - numberAt cursors′ v) → Counts n ans counts
+passed-all wide t same small s kept p = record {
+  wide = kept ∙ wide;
+  count-is = λ v h. omega (arith, p v (omega arith), scatters-cursor v (omega arith) s, t v (omega arith), same v h, small .words v h);
 }
 
 -- ---- 14, or the answer

@@ -10,7 +10,7 @@ use lib.Seq.{getD-set-same, getD-set-other}
 use Rattle.plank_core.specs.laws.Lists.{below-next}
 use borrow.Author.Tests.{eq-eqb}
 use Rattle.sir_analyses.specs.Writing.{wordsPut}
-use Rattle.sir_analyses.specs.Scatter.{Pieces, piecesOf, Direction, forward, moved, place, Inside, Segments, segments, piecePut, scatter, Scatters, Fits, at, base, origin, toward, Stands, Placed}
+use Rattle.sir_analyses.specs.Scatter.{Pieces, piecesOf, Direction, forward, moved, place, Inside, Segments, segments, piecePut, scatter, Scatters, Fits, numberAt, base, origin, toward, Stands, Placed}
 use Rattle.sir_analyses.specs.Pieces.{blanks}
 use Rattle.sir_analyses.specs.laws.Writing.{puts-past}
 use Rattle.sir_analyses.specs.laws.Scatter.{foldl-append, scatter-cursors, scatter-out, room-first, room-rest, stands-put, stands-other, base-most, base-within, base-next}
@@ -92,7 +92,7 @@ pub record Placing (d : Direction) (f : ℕ → ℕ) (v start : ℕ) (cursors ou
   pub start-is : start ≡ base f v
   pub rest : (u : ℕ) → v ≤ u → getD cursors u 0 ≡ f u
 
-pub placing-none : (d : Direction) (cursors out : List ℕ) → Placing d (at cursors) 0 0 cursors out
+pub placing-none : (d : Direction) (cursors out : List ℕ) → Placing d (numberAt cursors) 0 0 cursors out
 unfolding base
 placing-none d cursors out = record {
   placed = record { cursor-is = λ v h. absurd (omega arith); length-stands = λ v h. absurd (omega arith) };

@@ -65,7 +65,7 @@ module _ (w : List ℕ) (good : WellFormed w) where
       (below-at (locals w) (λ k. b ∷ 2 ∷ k ∷ []) (outputs w b) 0 (λ v i. good .in-range .output b v l i))))
 
   pub uses-small : Small (locals w) (usesAnswer w)
-  uses-small = record { ids = good .sized .locals-most; words = λ v l. omega (arith, ap length (uses-are w good v (counts v)), uses-most w good v (counts v)) }
+  uses-small = record { ids = omega (arith, good .sized .locals-most); words = λ v l. omega (arith, ap length (uses-are w good v (counts v)), uses-most w good v (counts v)) }
     where
       often : ℕ → ℕ → ℕ
       often v o = length (positions v (ins w o) 0)

@@ -82,8 +82,8 @@ Below n ps = (p : ℕ × List ℕ) → List·Memᴰ p ps → p .0 < n
 -- ---- the segments of all ids, each with its length before it
 
 -- number v of a list
-abbrev pub at : List ℕ → ℕ → ℕ
-at xs v = getD xs v 0
+abbrev pub numberAt : List ℕ → ℕ → ℕ
+numberAt xs v = getD xs v 0
 
 -- where the segment of id v starts, if that of u has 1 + f u words
 unfoldable pub base : (ℕ → ℕ) → ℕ → ℕ

@@ -5,10 +5,10 @@ use crate::answers::put_words;
 ghost use mathlib.Core.Path.{_≡_};
 ghost use mathlib.Core.List.{_∷_, []};
 ghost use mathlib.Core.Bool.{cond};
-ghost use Prim.Native.Nat.{ℕ, _+_, _*_, _<_, _≤_, _^_};
+ghost use Prim.Native.Nat.{ℕ, _+_, _-_, _*_, _<_, _≤_, _^_};
 ghost use lib.ListN.{length};
 ghost use Rattle.sir_analyses.specs.Pieces.{piecesAt, blanks, Known};
-ghost use Rattle.sir_analyses.specs.Scatter.{forward, backward, Fits, Scatters, base, at, toward, Placed};
+ghost use Rattle.sir_analyses.specs.Scatter.{forward, backward, Fits, Scatters, base, numberAt, toward, Placed};
 
 // Some words after what the segment of an id has.
 pub fn append(cursors: &mut [usize], id: u32, words: &[u32], out: &mut [u8])
@@ -63,10 +63,22 @@ pub fn prepend(cursors: &mut [usize], id: u32, words: &[u32], out: &mut [u8])
     put_words(out, start, words);
 }
 
+// From cursors that went back from 2 ^ 59 to the numbers of words that they passed.
+pub fn passed_words(cursors: &mut [usize])
+    requires { ⌜ ((v : ℕ) → v < length (now cursors) → numberAt (now cursors) v ≤ 2 ^ 59) ⌝ }
+    ensures { λ _. ⌜ ((v : ℕ) → v < length (now (cursors .exit)) → numberAt (now (cursors .exit)) v ≡ 2 ^ 59 - numberAt (now (cursors .entry)) v) ⌝ }
+{
+    let mut v: usize = 0;
+    while v < cursors.len() {
+        cursors[v] = 576460752303423488 - cursors[v];
+        v += 1;
+    }
+}
+
 // How many words all segments take, each with its length before it.
 pub fn total_words(counts: &[usize]) -> usize
-    requires { ⌜ base (at (now counts)) (length (now counts)) < 2 ^ 60 ⌝ }
-    ensures { λ r. ⌜ r ≡ base (at (now (counts .entry))) (length (now (counts .entry))) ⌝ }
+    requires { ⌜ base (numberAt (now counts)) (length (now counts)) < 2 ^ 60 ⌝ }
+    ensures { λ r. ⌜ r ≡ base (numberAt (now (counts .entry))) (length (now (counts .entry))) ⌝ }
 {
     let mut n: usize = 0;
     let mut v: usize = 0;
@@ -90,10 +102,10 @@ fn origin(start: usize, n: usize, ends: bool) -> usize
 
 // From the counts to the segments: stores each length, and sets each cursor to the start or the end of its segment.
 pub fn put_lengths(cursors: &mut [usize], ends: bool, out: &mut [u8])
-    requires { ⌜ base (at (now cursors)) (length (now cursors)) < 2 ^ 60 ⌝ }
-    requires { ⌜ 4 * base (at (now cursors)) (length (now cursors)) ≤ length (now out) ⌝ }
-    requires { ⌜ ((v : ℕ) → v < length (now cursors) → at (now cursors) v < 2 ^ 32) ⌝ }
-    ensures { λ _. ⌜ Placed (toward ends) (at (now (cursors .entry))) (length (now (cursors .exit))) (now (cursors .exit)) (now (out .exit)) ⌝ }
+    requires { ⌜ base (numberAt (now cursors)) (length (now cursors)) < 2 ^ 60 ⌝ }
+    requires { ⌜ 4 * base (numberAt (now cursors)) (length (now cursors)) ≤ length (now out) ⌝ }
+    requires { ⌜ ((v : ℕ) → v < length (now cursors) → numberAt (now cursors) v < 2 ^ 32) ⌝ }
+    ensures { λ _. ⌜ Placed (toward ends) (numberAt (now (cursors .entry))) (length (now (cursors .exit))) (now (cursors .exit)) (now (out .exit)) ⌝ }
 {
     let mut start: usize = 0;
     let mut v: usize = 0;

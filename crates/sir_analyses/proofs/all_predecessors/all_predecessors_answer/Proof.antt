@@ -4,7 +4,6 @@ use Prim.Native.Nat.{_≤_}
 use native.Mathlib.Omega.{arith}
 use borrow.Author.Needs.{needs}
 use Rattle.sir_analyses.proofs.AllAnswers.{zero-long, zero-prefix}
-use borrow.Author.Needs.{needs}
 use Rattle.sir_analyses.proofs.all_predecessors.all_predecessors_answer.Statement.{
   statement,
 }
@@ -26,7 +25,8 @@ slice-aggregate-fill-predecessors c =
 
 fill-predecessors-requires : tie.Need-fill-predecessors-requires
 fill-predecessors-requires c κs =
-    let s = c .before .before .before .before .before .before in
+    let past = c .before .before .before in
+    let s = past .before .before .before in
     let n = c .before .before .block-count .result in
     let h : n ≤ 256 = omega (arith, s .pre .0 .sized .blocks-most) in
     (s .pre .0, (s .pre .1, (zero-long n 256 h ∙ c .before .before .block-count .ensures, λ v. zero-prefix n 256 v)))

@@ -5,7 +5,6 @@ use native.Mathlib.Omega.{arith}
 use borrow.Author.Needs.{needs}
 use Rattle.sir_analyses.proofs.EdgePieces.{predecessor-pieces, predecessors-small}
 use Rattle.sir_analyses.proofs.AllAnswers.{zero-fits, counted-all}
-use borrow.Author.Needs.{needs}
 use Rattle.sir_analyses.proofs.all_predecessors.count_predecessors.Statement.{statement}
 use Rattle.sir_analyses.proofs.all_predecessors.count_predecessors.Tie as tie
 
@@ -24,7 +23,8 @@ same-length c = search needs
 returns : tie.Need-returns
 returns c =
     let at-scan = c .before .before .before in
-    let s = at-scan .before .before .before .before .before .before in
+    let past = at-scan .before .before .before in
+    let s = past .before .before .before in
     counted-all (s .pre .1 .1 .0) (s .pre .1 .1 .1) (λ v h. ap length (predecessor-pieces (s .args .words .now) v)) (omega arith) (at-scan .scan-predecessors .ensures)
 
 pub count-predecessors-spec : {M : Type 1} → statement M

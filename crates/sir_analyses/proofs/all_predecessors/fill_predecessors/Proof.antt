@@ -12,7 +12,6 @@ use Rattle.sir_analyses.specs.Calls.{made}
 use Rattle.sir_analyses.specs.Scatter.{allOf}
 use Rattle.sir_analyses.proofs.EdgePieces.{predecessors-small}
 use Rattle.sir_analyses.proofs.AllAnswers.{counts-finished, counts-fit, not-answered, answer-room, whole-answered}
-use borrow.Author.Needs.{needs}
 use Rattle.sir_analyses.proofs.all_predecessors.fill_predecessors.Statement.{statement}
 use Rattle.sir_analyses.proofs.all_predecessors.fill_predecessors.Tie as tie
 
@@ -22,13 +21,15 @@ count-predecessors-requires c κs = search needs
 total-words-requires : tie.Need-total-words-requires
 total-words-requires c κs =
     let at-count = c .before .before .before in
-    let s = at-count .before .before .before .before .before .before in
+    let past = at-count .before .before .before in
+    let s = past .before .before .before in
     counts-fit (at-count .count-predecessors .ensures) (predecessors-small (s .args .words .now) (s .pre .0))
 
 finish-requires : tie.Need-finish-requires
 finish-requires c κs =
     let at-count = c .before .before .before .before in
-    let s = at-count .before .before .before .before .before .before in
+    let past = at-count .before .before .before in
+    let s = past .before .before .before in
     omega (arith, c .total-words .ensures, counts-fit (at-count .count-predecessors .ensures) (predecessors-small (s .args .words .now) (s .pre .0)))
 
 same-length : tie.Need-same-length
@@ -38,7 +39,8 @@ returns : tie.Need-returns
 returns c =
     let at-finish = c .before .before in
     let at-count = at-finish .before .before .before .before .before in
-    let s = at-count .before .before .before .before .before .before in
+    let past = at-count .before .before .before in
+    let s = past .before .before .before in
     let w = s .args .words .now in
     let f = counts-finished (at-count .count-predecessors .ensures) (at-finish .before .total-words .ensures) (at-finish .finish .ensures) in
     not-answered (allOf (predecessors w) (blocks w)) (s .args .out .now) f (c .if1 .taken)
@@ -47,7 +49,8 @@ slice-relend-prefix-write-predecessors : tie.Need-slice-relend-prefix-write-pred
 slice-relend-prefix-write-predecessors c =
     let at-finish = c .before .before .before in
     let at-count = at-finish .before .before .before .before .before in
-    let s = at-count .before .before .before .before .before .before in
+    let past = at-count .before .before .before in
+    let s = past .before .before .before in
     let w = s .args .words .now in
     let f = counts-finished (at-count .count-predecessors .ensures) (at-finish .before .total-words .ensures) (at-finish .finish .ensures) in
     answer-room (allOf (predecessors w) (blocks w)) (s .args .out .now) f (c .before .if1 .left) .1
@@ -56,7 +59,8 @@ slice-aggregate-write-predecessors : tie.Need-slice-aggregate-write-predecessors
 slice-aggregate-write-predecessors c =
     let at-finish = c .before .before .before .before in
     let at-count = at-finish .before .before .before .before .before in
-    let s = at-count .before .before .before .before .before .before in
+    let past = at-count .before .before .before in
+    let s = past .before .before .before in
     let w = s .args .words .now in
     let f = counts-finished (at-count .count-predecessors .ensures) (at-finish .before .total-words .ensures) (at-finish .finish .ensures) in
     sym (length-take-le (at-finish .finish .result .length) (s .args .out .now) (answer-room (allOf (predecessors w) (blocks w)) (s .args .out .now) f (c .before .before .if1 .left) .1))
@@ -65,7 +69,8 @@ write-predecessors-requires : tie.Need-write-predecessors-requires
 write-predecessors-requires c κs =
     let at-finish = c .before .before .before .before in
     let at-count = at-finish .before .before .before .before .before in
-    let s = at-count .before .before .before .before .before .before in
+    let past = at-count .before .before .before in
+    let s = past .before .before .before in
     let w = s .args .words .now in
     let k = at-count .count-predecessors .ensures in
     let r = answer-room (allOf (predecessors w) (blocks w)) (s .args .out .now) (counts-finished k (at-finish .before .total-words .ensures) (at-finish .finish .ensures)) (c .before .before .if1 .left) in
@@ -82,7 +87,8 @@ returns-2 c =
     let at-write = c .before .before .before .before in
     let at-finish = at-write .before .before .before .before .before in
     let at-count = at-finish .before .before .before .before .before in
-    let s = at-count .before .before .before .before .before .before in
+    let past = at-count .before .before .before in
+    let s = past .before .before .before in
     let w = s .args .words .now in
     let f = counts-finished (at-count .count-predecessors .ensures) (at-finish .before .total-words .ensures) (at-finish .finish .ensures) in
     let a = at-finish .finish .result in

@@ -27,7 +27,8 @@ loop-holds c = (omega arith, scattering-none (c .before .before .before .before 
 
 successor-requires : tie.Need-successor-requires Inv-loop μ-loop
 successor-requires c κs =
-    let s = c .before .before .before .before .before .before in
+    let past = c .before .before .before in
+    let s = past .before .before .before in
     (s .pre .0 .sized, (s .pre .0 .in-range, (s .pre .1 .0 .0, omega (arith, c .before .before .successor-count .ensures))))
 
 slice-aggregate-append : tie.Need-slice-aggregate-append Inv-loop μ-loop
@@ -76,7 +77,8 @@ same-length-2 c = c .before .loop .inv .1 .long
 
 returns : tie.Need-returns Inv-loop μ-loop
 returns c =
-    let a = c .before .before .before .before .before .before .args in
+    let past = c .before .before .before in
+    let a = past .before .before .before .args in
     scattering-all (piece-end (λ k. a .p .0 ∷ []) (successors (a .words .now) (a .p .0)) (c .before .loop .i) (omega (arith, c .before .before .successor-count .ensures))) (c .before .loop .inv .1)
 
 pub scan-edges-spec : {M : Type 1} → statement M

@@ -30,7 +30,8 @@ add-p c = omega arith
 
 row-contains-requires : tie.Need-row-contains-requires Inv-loop μ-loop
 row-contains-requires c κs =
-    let s = c .before .before .before .before .before .before .before in
+    let past = c .before .before .before in
+    let s = past .before .before .before .before in
     (omega (arith, s .pre .1 .0 .wide), omega (arith, c .before .before .block-count .ensures, s .pre .0 .sized .blocks-most, c .loop-test .taken))
 
 scan-edges-requires : tie.Need-scan-edges-requires Inv-loop μ-loop

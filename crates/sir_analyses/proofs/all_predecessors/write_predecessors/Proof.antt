@@ -7,19 +7,21 @@ use Rattle.sir_data.specs.Records.{blocks}
 use Rattle.sir_analyses.specs.Scatter.{forward}
 use Rattle.sir_analyses.proofs.EdgePieces.{predecessor-pieces, predecessors-small, predecessors-below}
 use Rattle.sir_analyses.proofs.AllAnswers.{lengths-fit, placed-fits, counts-written}
-use borrow.Author.Needs.{needs}
 use Rattle.sir_analyses.proofs.all_predecessors.write_predecessors.Statement.{statement}
 use Rattle.sir_analyses.proofs.all_predecessors.write_predecessors.Tie as tie
 
 put-lengths-requires : tie.Need-put-lengths-requires
 put-lengths-requires c κs =
-    let s = c .before .before .before .before .before .before in
+    let past = c .before .before .before in
+    let s = past .before .before .before in
     lengths-fit (s .pre .1 .1 .0) (predecessors-small (s .args .words .now) (s .pre .0)) (s .pre .1 .1 .1)
 
 scan-predecessors-requires : tie.Need-scan-predecessors-requires
 scan-predecessors-requires c κs =
-    let at-lengths = c .before .before .before .before .before .before in
-    let s = at-lengths .before .before .before .before .before .before .before in
+    let past = c .before .before .before in
+    let at-lengths = past .before .before .before in
+    let past = at-lengths .before .before .before in
+    let s = past .before .before .before .before in
     let w = s .args .words .now in
     let k = s .pre .1 .1 .0 in
     let wide : length (at-lengths .put-lengths .last .0) ≡ blocks w = omega (arith, k .wide) in
@@ -34,8 +36,10 @@ same-length-2 c = search needs
 returns : tie.Need-returns
 returns c =
     let at-scan = c .before .before .before .before in
-    let at-lengths = at-scan .before .before .before .before .before .before .before in
-    let s = at-lengths .before .before .before .before .before .before .before in
+    let past = at-scan .before .before .before in
+    let at-lengths = past .before .before .before .before in
+    let past = at-lengths .before .before .before in
+    let s = past .before .before .before .before in
     let w = s .args .words .now in
     let k = s .pre .1 .1 .0 in
     counts-written k forward (predecessors-below w (s .pre .0)) (λ v h. predecessor-pieces w v) (omega (arith, k .wide)) (at-lengths .put-lengths .ensures) (omega (arith, s .pre .1 .1 .1)) (at-scan .scan-predecessors .ensures)

@@ -4,7 +4,6 @@ use Prim.Native.Nat.{_≤_}
 use native.Mathlib.Omega.{arith}
 use borrow.Author.Needs.{needs}
 use Rattle.sir_analyses.proofs.AllAnswers.{zero-long, zero-prefix}
-use borrow.Author.Needs.{needs}
 use Rattle.sir_analyses.proofs.all_uses.all_uses_answer.Statement.{
   statement,
 }
@@ -26,7 +25,8 @@ slice-aggregate-fill-uses c =
 
 fill-uses-requires : tie.Need-fill-uses-requires
 fill-uses-requires c κs =
-    let s = c .before .before .before .before .before .before in
+    let past = c .before .before .before in
+    let s = past .before .before .before in
     let n = c .before .before .local-count .result in
     let h : n ≤ 512 = omega (arith, s .pre .0 .sized .locals-most) in
     (s .pre .0, (s .pre .1, (zero-long n 512 h ∙ c .before .before .local-count .ensures, λ v. zero-prefix n 512 v)))

@@ -31,7 +31,8 @@ loop-holds c =
 
 op-inputs-requires : tie.Need-op-inputs-requires Inv-loop μ-loop
 op-inputs-requires c κs =
-    let s = c .before .before .before .before .before .before .before in
+    let past = c .before .before .before in
+    let s = past .before .before .before .before in
     (s .pre .0 .sized, (s .pre .0 .in-range, omega (arith, c .before .before .before .operation-count .ensures, c .before .loop-test .taken)))
 
 cast-advance-each : tie.Need-cast-advance-each Inv-loop μ-loop
@@ -43,13 +44,15 @@ mul-advance-each c = omega arith
 shared-slice-read-advance-each : tie.Need-shared-slice-read-advance-each Inv-loop μ-loop
 shared-slice-read-advance-each c =
     let test = c .before .before .before in
-    let s = test .before .before .before .before .before .before in
+    let past = test .before .before .before in
+    let s = past .before .before .before in
     omega (arith, s .pre .1 .0 .0 .wide, s .pre .0 .sized .operations-most, test .before .before .operation-count .ensures, test .loop-test .taken)
 
 mul-advance-each-2 : tie.Need-mul-advance-each-2 Inv-loop μ-loop
 mul-advance-each-2 c =
     let test = c .before .before .before in
-    let s = test .before .before .before .before .before .before in
+    let past = test .before .before .before in
+    let s = past .before .before .before in
     let o = test .before .loop .o in
     omega (arith, s .pre .1 .0 .0 .times-is o (omega (arith, test .before .before .operation-count .ensures, test .loop-test .taken)), ones-most (s .args .words .now) (s .pre .0) o)
 
@@ -95,7 +98,8 @@ same-length c = c .before .loop .inv .1 .wide
 
 returns : tie.Need-returns Inv-loop μ-loop
 returns c =
-    let a = c .before .before .before .before .before .before .args in
+    let past = c .before .before .before in
+    let a = past .before .before .before .args in
     let g : ℕ → Pieces = λ o. piecesAt (λ k. blanks (3 * getD (a .times .now) o 0)) (ins (a .words .now) o) 0 in
     scattering-all (range-end g (c .before .loop .o) (c .before .before .operation-count .result) (c .loop-test .left)) (c .before .loop .inv .1)
 

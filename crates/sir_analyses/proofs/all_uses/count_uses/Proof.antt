@@ -8,7 +8,6 @@ use Rattle.sir_analyses.specs.Pieces.{endPieces, inputPieces}
 use Rattle.sir_analyses.proofs.Scattering.{scatters-then, fits-first, fits-rest}
 use Rattle.sir_analyses.proofs.UsePieces.{uses-small, uses-counted}
 use Rattle.sir_analyses.proofs.AllAnswers.{zero-fits, zero-at, counted-all}
-use borrow.Author.Needs.{needs}
 use Rattle.sir_analyses.proofs.all_uses.count_uses.Statement.{statement}
 use Rattle.sir_analyses.proofs.all_uses.count_uses.Tie as tie
 
@@ -26,7 +25,8 @@ slice-aggregate-count-inputs c = search needs
 count-inputs-requires : tie.Need-count-inputs-requires
 count-inputs-requires c κs =
     let k = c .before .before .before .operation-times .ensures in
-    let s = c .before .before .before .before .before .before .before .before in
+    let past = c .before .before .before .before in
+    let s = past .before .before .before .before in
     let w = s .args .words .now in
     let wide = s .pre .1 .1 .0 in
     let fit = zero-fits wide (s .pre .1 .1 .1) (λ v h. uses-counted w (s .pre .0) k v) (uses-small w (s .pre .0)) in

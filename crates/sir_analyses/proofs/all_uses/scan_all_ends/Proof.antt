@@ -68,7 +68,8 @@ same-length-2 c = c .before .loop .inv .1 .long
 
 returns : tie.Need-returns Inv-loop μ-loop
 returns c =
-    let s = c .before .before .before .before .before .before in
+    let past = c .before .before .before in
+    let s = past .before .before .before in
     let g = endPieces (s .args .words .now) in
     scatters-as (ap (λ (l : List ℕ). bind l g) (s .pre .1 .0 .0)) (scattering-all (block-end g (s .args .rpo .now) (c .before .loop .i) (c .loop-test .left)) (c .before .loop .inv .1))
 

@@ -8,7 +8,6 @@ use Rattle.sir_data.specs.Cases.{testedLocals}
 use Rattle.sir_data.specs.Records.{condition}
 use Rattle.sir_analyses.specs.Pieces.{piecesAt}
 use Rattle.sir_analyses.proofs.Scattering.{scatters-nothing, scatters-as, fits-as}
-use borrow.Author.Needs.{needs}
 use Rattle.sir_analyses.proofs.all_uses.scan_condition.Statement.{statement}
 use Rattle.sir_analyses.proofs.all_uses.scan_condition.Tie as tie
 

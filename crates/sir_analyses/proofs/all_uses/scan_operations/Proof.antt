@@ -30,7 +30,8 @@ loop-holds c =
 op-inputs-requires : tie.Need-op-inputs-requires Inv-loop μ-loop
 op-inputs-requires c κs =
     let span = c .before .before .before .operations in
-    let s = c .before .before .before .before .before .before .before in
+    let past = c .before .before .before in
+    let s = past .before .before .before .before in
     let r = s .pre .0 .in-range .ops-range (s .args .b .0) (s .pre .1 .0 .0) in
     (s .pre .0 .sized, (s .pre .0 .in-range, omega (arith, r .1, span .ensures .1, c .before .loop-test .taken)))
 
@@ -82,7 +83,8 @@ same-length-2 c = c .before .loop .inv .long
 returns : tie.Need-returns Inv-loop μ-loop
 returns c =
     let span = c .before .before .operations in
-    let a = c .before .before .before .before .before .before .args in
+    let past = c .before .before .before in
+    let a = past .before .before .before .args in
     let g : ℕ → Pieces = λ o. piecesAt (λ k. a .b .0 ∷ 0 ∷ o ∷ []) (ins (a .words .now) o) 0 in
     scatters-as (rw (span .ensures .0, span .ensures .1)) (scattering-all (range-end g (c .before .loop .o) (span .result .end) (c .loop-test .left)) (c .before .loop .inv))
 

@@ -61,7 +61,8 @@ append-requires c κs =
 
 add-k : tie.Need-add-k Inv-loop μ-loop
 add-k c =
-    let test = c .before .before .before .before .before .before .before .before .before in
+    let past = c .before .before .before .before in
+    let test = past .before .before .before .before .before in
     let at-outputs = test .before .before in
     let s = at-outputs .before .before .before .before in
     omega (arith, ap length (at-outputs .outputs .ensures), outputs-most (s .args .words .now) 0 (s .args .b .0) 0 (s .pre .0) (s .pre .1 .0 .0), test .loop-test .taken)

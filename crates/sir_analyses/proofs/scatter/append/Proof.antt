@@ -35,7 +35,8 @@ same-length-2 c = search needs
 returns : tie.Need-returns
 returns c =
     let put = c .before .before in
-    let a = put .before .before .before .before .before .before .args in
+    let past = put .before .before .before in
+    let a = past .before .before .before .args in
     let p = put .put-words .ensures in
     scatters-one forward (a .id) (a .words .now) (a .cursors .now) (a .out .now) (ap (set (a .cursors .now) (a .id)) (p .next)) (p .left)
 

@@ -63,7 +63,8 @@ same-length-2 c = c .before .loop .inv .1 .long
 
 returns : tie.Need-returns Inv-loop μ-loop
 returns c =
-    let a = c .before .before .before .before .before .before .args in
+    let past = c .before .before .before in
+    let a = past .before .before .before .args in
     scattering-all (piece-end (λ k. a .words .now) (a .ids .now) (c .before .loop .i) (omega arith)) (c .before .loop .inv .1)
 
 pub append-each-spec : {M : Type 1} → statement M

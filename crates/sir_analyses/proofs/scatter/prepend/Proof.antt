@@ -40,7 +40,8 @@ same-length-2 c = search needs
 returns : tie.Need-returns
 returns c =
     let put = c .before .before in
-    let a = put .before .before .before .before .before .before .args in
+    let past = put .before .before .before in
+    let a = past .before .before .before .args in
     scatters-one backward (a .id) (a .words .now) (a .cursors .now) (a .out .now) refl (put .put-words .ensures .left)
 
 pub prepend-spec : {M : Type 1} → statement M

@@ -3,13 +3,13 @@ use mathlib.Core.Path.{_≡_, refl, sym, ap, _∙_}
 use Prim.Native.Nat.{_-_, _≤_}
 use native.Mathlib.Omega.{arith}
 use lib.ListN.{length, set, length-set}
-use Rattle.sir_analyses.specs.Scatter.{at, origin, toward}
+use Rattle.sir_analyses.specs.Scatter.{numberAt, origin, toward}
 use Rattle.sir_analyses.proofs.Scattering.{Placing, placing-none, placing-next, placing-more, origin-is}
 use Rattle.sir_analyses.proofs.scatter.put_lengths.Statement.{statement}
 use Rattle.sir_analyses.proofs.scatter.put_lengths.Tie as tie
 
 abbrev Inv-loop : tie.InvT-loop
-Inv-loop cursors₀ ends out₀ start₀ v₀ cursors out start v = (v ≤ length cursors₀) × (length cursors ≡ length cursors₀) × (length out ≡ length out₀) × Placing (toward ends) (at cursors₀) v start cursors out
+Inv-loop cursors₀ ends out₀ start₀ v₀ cursors out start v = (v ≤ length cursors₀) × (length cursors ≡ length cursors₀) × (length out ≡ length out₀) × Placing (toward ends) (numberAt cursors₀) v start cursors out
 
 abbrev μ-loop : tie.MeasureT-loop
 μ-loop cursors₀ ends out₀ start₀ v₀ cursors out start v = length cursors₀ - v
@@ -37,7 +37,8 @@ put-word-requires c κs =
 
 origin-requires : tie.Need-origin-requires Inv-loop μ-loop
 origin-requires c κs =
-    let loop = c .before .before .before .before .before .before in
+    let past = c .before .before .before in
+    let loop = past .before .before .before in
     let s = loop .before .before .before in
     omega (arith, placing-next (length (s .args .cursors .now)) (omega arith) (loop .loop .inv .3) .1)
 
@@ -49,13 +50,15 @@ slice-write-cursors c = omega arith
 
 add-start : tie.Need-add-start Inv-loop μ-loop
 add-start c =
-    let loop = c .before .before .before .before .before .before .before in
+    let past = c .before .before .before in
+    let loop = past .before .before .before .before in
     let s = loop .before .before .before in
     omega (arith, placing-next (length (s .args .cursors .now)) (omega arith) (loop .loop .inv .3) .1)
 
 add-start-2 : tie.Need-add-start-2 Inv-loop μ-loop
 add-start-2 c =
-    let loop = c .before .before .before .before .before .before .before in
+    let past = c .before .before .before in
+    let loop = past .before .before .before .before in
     let s = loop .before .before .before in
     omega (arith, placing-next (length (s .args .cursors .now)) (omega arith) (loop .loop .inv .3) .1)
 
@@ -71,7 +74,7 @@ loop-again c =
     let loop = put .before .before .before .before in
     let s = loop .before .before .before in
     let L = loop .loop in
-    let f = at (s .args .cursors .now) in
+    let f = numberAt (s .args .cursors .now) in
     let n = placing-next (length (s .args .cursors .now)) (omega arith) (L .inv .3) in
     let o : c .origin .result ≡ origin (toward (s .args .ends)) f (L .v) = c .origin .ensures ∙ rw (n .0, L .inv .3 .start-is) (sym (origin-is (s .args .ends) f (L .v))) in
     (omega arith, simp length-set (L .inv .1), omega arith, placing-more (L .inv .3) (omega arith) (omega arith) (ap (set (L .cursors) (L .v)) o) (put .put-word .ensures .left))
