@@ -4,8 +4,8 @@ use crate::answers::finish;
 use crate::scatter::append;
 use crate::scatter::put_lengths;
 use crate::scatter::total_words;
+use crate::stages::is_visited;
 use plank_core::index::BlockId;
-use plank_core::rows::row_contains;
 use sir_data::records::block_count;
 use sir_data::view::successor;
 use sir_data::view::successor_count;
@@ -21,7 +21,7 @@ ghost use Rattle.sir_analyses.specs.Answers.{predecessorsAnswer};
 ghost use Rattle.sir_analyses.specs.Calls.{made, answered};
 ghost use Rattle.sir_analyses.specs.Pieces.{edgePieces, predecessorPieces};
 ghost use Rattle.sir_analyses.specs.Scatter.{forward, Fits, Scatters, Counts};
-ghost use Rattle.sir_analyses.specs.Visiting.{SeenBlocks};
+ghost use Rattle.sir_analyses.specs.Stages.{VisitStage};
 
 // Block p, for each of its successors.
 fn scan_edges(words: &[u32], p: BlockId, cursors: &mut [usize], out: &mut [u8])
@@ -41,9 +41,8 @@ fn scan_edges(words: &[u32], p: BlockId, cursors: &mut [usize], out: &mut [u8])
 }
 
 // The pass over all visited blocks.
-fn scan_predecessors(words: &[u32], seen: &[u64], cursors: &mut [usize], out: &mut [u8])
-    requires { ⌜ WellFormed (now words) ⌝ }
-    requires { ⌜ SeenBlocks (now words) (now seen) ⌝ }
+fn scan_predecessors(words: &[u32], visit: &[u32], cursors: &mut [usize], out: &mut [u8])
+    requires { ⌜ VisitStage (now words) (now visit) ⌝ }
     requires { ⌜ (length (now cursors) ≡ blocks (now words)) × Fits forward (predecessorPieces (now words)) (now cursors) ⌝ }
     ensures { λ _. ⌜ Scatters forward (predecessorPieces (now (words .entry))) (now (cursors .entry)) (now (out .entry)) (now (cursors .exit)) (now (out .exit)) ⌝ }
 {
@@ -52,59 +51,54 @@ fn scan_predecessors(words: &[u32], seen: &[u64], cursors: &mut [usize], out: &m
     while p < count {
         let id = p;
         p += 1;
-        if row_contains(seen, 1, id) {
+        if is_visited(visit, BlockId(id)) {
             scan_edges(words, BlockId(id), cursors, out);
         }
     }
 }
 
 // How many predecessors each block has, by cursors that stand at 0.
-fn count_predecessors(words: &[u32], seen: &[u64], cursors: &mut [usize])
-    requires { ⌜ WellFormed (now words) ⌝ }
-    requires { ⌜ SeenBlocks (now words) (now seen) ⌝ }
+fn count_predecessors(words: &[u32], visit: &[u32], cursors: &mut [usize])
+    requires { ⌜ VisitStage (now words) (now visit) ⌝ }
     requires { ⌜ (length (now cursors) ≡ blocks (now words)) × ((v : ℕ) → getD (now cursors) v 0 ≡ 0) ⌝ }
     ensures { λ _. ⌜ Counts (blocks (now (words .entry))) (predecessorsAnswer (now (words .entry))) (now (cursors .exit)) ⌝ }
 {
-    let mut none = [0u8; 0];
-    scan_predecessors(words, seen, cursors, &mut none);
+    scan_predecessors(words, visit, cursors, &mut []);
 }
 
 // The lengths, then the predecessors, in a slice of their size.
-fn write_predecessors(words: &[u32], seen: &[u64], cursors: &mut [usize], out: &mut [u8])
-    requires { ⌜ WellFormed (now words) ⌝ }
-    requires { ⌜ SeenBlocks (now words) (now seen) ⌝ }
+fn write_predecessors(words: &[u32], visit: &[u32], cursors: &mut [usize], out: &mut [u8])
+    requires { ⌜ VisitStage (now words) (now visit) ⌝ }
     requires { ⌜ Counts (blocks (now words)) (predecessorsAnswer (now words)) (now cursors) ⌝ }
     requires { ⌜ length (now out) ≡ 4 * length (all blocks predecessorsAnswer (now words)) ⌝ }
     ensures { λ _. ⌜ now (out .exit) ≡ bind (all blocks predecessorsAnswer (now (words .entry))) bytesOf ⌝ }
 {
     put_lengths(cursors, false, out);
-    scan_predecessors(words, seen, cursors, out);
+    scan_predecessors(words, visit, cursors, out);
 }
 
 // Counts, then writes, with cursors that stand at 0.
-fn fill_predecessors(words: &[u32], seen: &[u64], cursors: &mut [usize], out: &mut [u8]) -> Answer
-    requires { ⌜ WellFormed (now words) ⌝ }
-    requires { ⌜ SeenBlocks (now words) (now seen) ⌝ }
+fn fill_predecessors(words: &[u32], visit: &[u32], cursors: &mut [usize], out: &mut [u8]) -> Answer
+    requires { ⌜ VisitStage (now words) (now visit) ⌝ }
     requires { ⌜ (length (now cursors) ≡ blocks (now words)) × ((v : ℕ) → getD (now cursors) v 0 ≡ 0) ⌝ }
     ensures { λ r. ⌜ made (r .number) (r .length) (now (out .exit)) ≡ answered (bind (all blocks predecessorsAnswer (now (words .entry))) bytesOf) (now (out .entry)) ⌝ }
 {
-    count_predecessors(words, seen, cursors);
+    count_predecessors(words, visit, cursors);
     let answer = finish(total_words(cursors), out.len());
     if answer.number != 0 {
         return answer;
     }
     let end = answer.length as usize;
-    write_predecessors(words, seen, cursors, &mut out[..end]);
+    write_predecessors(words, visit, cursors, &mut out[..end]);
     answer
 }
 
 // The predecessors of all blocks.
-pub fn all_predecessors_answer(words: &[u32], seen: &[u64], out: &mut [u8]) -> Answer
-    requires { ⌜ WellFormed (now words) ⌝ }
-    requires { ⌜ SeenBlocks (now words) (now seen) ⌝ }
+pub fn all_predecessors_answer(words: &[u32], visit: &[u32], out: &mut [u8]) -> Answer
+    requires { ⌜ VisitStage (now words) (now visit) ⌝ }
     ensures { λ r. ⌜ made (r .number) (r .length) (now (out .exit)) ≡ answered (bind (all blocks predecessorsAnswer (now (words .entry))) bytesOf) (now (out .entry)) ⌝ }
 {
     let mut cursors = [0usize; 256];
     let n = block_count(words) as usize;
-    fill_predecessors(words, seen, &mut cursors[..n], out)
+    fill_predecessors(words, visit, &mut cursors[..n], out)
 }

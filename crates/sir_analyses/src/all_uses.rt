@@ -9,6 +9,7 @@ use crate::scatter::append;
 use crate::scatter::append_each;
 use crate::scatter::put_lengths;
 use crate::scatter::total_words;
+use crate::stages::rpo;
 use plank_core::index::BlockId;
 use plank_core::index::OpIdx;
 use sir_data::records::Tested;
@@ -31,6 +32,7 @@ ghost use Rattle.sir_analyses.specs.Answers.{usesAnswer};
 ghost use Rattle.sir_analyses.specs.Calls.{made, answered};
 ghost use Rattle.sir_analyses.specs.Order.{blocksRpo};
 ghost use Rattle.sir_analyses.specs.Pieces.{operationPieces, conditionPieces, outputPieces, endPieces, blockPieces, onePieces, OperationTimes, inputPieces};
+ghost use Rattle.sir_analyses.specs.Stages.{VisitStage};
 ghost use Rattle.sir_analyses.specs.Scatter.{forward, Fits, Scatters, Counts};
 
 // A block's operations in turn, for each input.
@@ -103,29 +105,31 @@ fn scan_block(words: &[u32], b: BlockId, cursors: &mut [usize], out: &mut [u8])
 }
 
 // All blocks after their operations.
-fn scan_all_ends(words: &[u32], rpo: &[u32], cursors: &mut [usize], out: &mut [u8])
-    requires { ⌜ WellFormed (now words) ⌝ }
-    requires { ⌜ (now rpo ≡ blocksRpo (now words)) × (length (now cursors) ≡ locals (now words)) ⌝ }
+fn scan_all_ends(words: &[u32], visit: &[u32], cursors: &mut [usize], out: &mut [u8])
+    requires { ⌜ VisitStage (now words) (now visit) ⌝ }
+    requires { ⌜ length (now cursors) ≡ locals (now words) ⌝ }
     requires { ⌜ Fits forward (bind (blocksRpo (now words)) (endPieces (now words))) (now cursors) ⌝ }
     ensures { λ _. ⌜ Scatters forward (bind (blocksRpo (now (words .entry))) (endPieces (now (words .entry)))) (now (cursors .entry)) (now (out .entry)) (now (cursors .exit)) (now (out .exit)) ⌝ }
 {
+    let order = rpo(visit);
     let mut i: usize = 0;
-    while i < rpo.len() {
-        scan_ends(words, BlockId(rpo[i]), cursors, out);
+    while i < order.len() {
+        scan_ends(words, BlockId(order[i]), cursors, out);
         i += 1;
     }
 }
 
 // The pass over all blocks.
-fn scan_uses(words: &[u32], rpo: &[u32], cursors: &mut [usize], out: &mut [u8])
-    requires { ⌜ WellFormed (now words) ⌝ }
-    requires { ⌜ (now rpo ≡ blocksRpo (now words)) × (length (now cursors) ≡ locals (now words)) ⌝ }
+fn scan_uses(words: &[u32], visit: &[u32], cursors: &mut [usize], out: &mut [u8])
+    requires { ⌜ VisitStage (now words) (now visit) ⌝ }
+    requires { ⌜ length (now cursors) ≡ locals (now words) ⌝ }
     requires { ⌜ Fits forward (bind (blocksRpo (now words)) (blockPieces (now words))) (now cursors) ⌝ }
     ensures { λ _. ⌜ Scatters forward (bind (blocksRpo (now (words .entry))) (blockPieces (now (words .entry)))) (now (cursors .entry)) (now (out .entry)) (now (cursors .exit)) (now (out .exit)) ⌝ }
 {
+    let order = rpo(visit);
     let mut i: usize = 0;
-    while i < rpo.len() {
-        scan_block(words, BlockId(rpo[i]), cursors, out);
+    while i < order.len() {
+        scan_block(words, BlockId(order[i]), cursors, out);
         i += 1;
     }
 }
@@ -147,15 +151,15 @@ fn count_operations(words: &[u32], b: BlockId, times: &mut [usize])
 }
 
 // How often each operation lies in a block of the order.
-fn operation_times(words: &[u32], rpo: &[u32], times: &mut [usize])
-    requires { ⌜ WellFormed (now words) ⌝ }
-    requires { ⌜ now rpo ≡ blocksRpo (now words) ⌝ }
+fn operation_times(words: &[u32], visit: &[u32], times: &mut [usize])
+    requires { ⌜ VisitStage (now words) (now visit) ⌝ }
     requires { ⌜ (length (now times) ≡ 1024) × ((o : ℕ) → getD (now times) o 0 ≡ 0) ⌝ }
     ensures { λ _. ⌜ OperationTimes (now (words .entry)) (now (times .exit)) ⌝ }
 {
+    let order = rpo(visit);
     let mut i: usize = 0;
-    while i < rpo.len() {
-        count_operations(words, BlockId(rpo[i]), times);
+    while i < order.len() {
+        count_operations(words, BlockId(order[i]), times);
         i += 1;
     }
 }
@@ -176,55 +180,50 @@ fn count_inputs(words: &[u32], times: &[usize], cursors: &mut [usize])
 }
 
 // How many words each local has, by cursors that stand at 0.
-fn count_uses(words: &[u32], rpo: &[u32], cursors: &mut [usize])
-    requires { ⌜ WellFormed (now words) ⌝ }
-    requires { ⌜ now rpo ≡ blocksRpo (now words) ⌝ }
+fn count_uses(words: &[u32], visit: &[u32], cursors: &mut [usize])
+    requires { ⌜ VisitStage (now words) (now visit) ⌝ }
     requires { ⌜ (length (now cursors) ≡ locals (now words)) × ((v : ℕ) → getD (now cursors) v 0 ≡ 0) ⌝ }
     ensures { λ _. ⌜ Counts (locals (now (words .entry))) (usesAnswer (now (words .entry))) (now (cursors .exit)) ⌝ }
 {
     let mut times = [0usize; 1024];
-    operation_times(words, rpo, &mut times);
+    operation_times(words, visit, &mut times);
     count_inputs(words, &times, cursors);
-    let mut none = [0u8; 0];
-    scan_all_ends(words, rpo, cursors, &mut none);
+    scan_all_ends(words, visit, cursors, &mut []);
 }
 
 // The lengths, then the uses, in a slice of their size.
-fn write_uses(words: &[u32], rpo: &[u32], cursors: &mut [usize], out: &mut [u8])
-    requires { ⌜ WellFormed (now words) ⌝ }
-    requires { ⌜ now rpo ≡ blocksRpo (now words) ⌝ }
+fn write_uses(words: &[u32], visit: &[u32], cursors: &mut [usize], out: &mut [u8])
+    requires { ⌜ VisitStage (now words) (now visit) ⌝ }
     requires { ⌜ Counts (locals (now words)) (usesAnswer (now words)) (now cursors) ⌝ }
     requires { ⌜ length (now out) ≡ 4 * length (all locals usesAnswer (now words)) ⌝ }
     ensures { λ _. ⌜ now (out .exit) ≡ bind (all locals usesAnswer (now (words .entry))) bytesOf ⌝ }
 {
     put_lengths(cursors, false, out);
-    scan_uses(words, rpo, cursors, out);
+    scan_uses(words, visit, cursors, out);
 }
 
 // Counts, then writes, with cursors that stand at 0.
-fn fill_uses(words: &[u32], rpo: &[u32], cursors: &mut [usize], out: &mut [u8]) -> Answer
-    requires { ⌜ WellFormed (now words) ⌝ }
-    requires { ⌜ now rpo ≡ blocksRpo (now words) ⌝ }
+fn fill_uses(words: &[u32], visit: &[u32], cursors: &mut [usize], out: &mut [u8]) -> Answer
+    requires { ⌜ VisitStage (now words) (now visit) ⌝ }
     requires { ⌜ (length (now cursors) ≡ locals (now words)) × ((v : ℕ) → getD (now cursors) v 0 ≡ 0) ⌝ }
     ensures { λ r. ⌜ made (r .number) (r .length) (now (out .exit)) ≡ answered (bind (all locals usesAnswer (now (words .entry))) bytesOf) (now (out .entry)) ⌝ }
 {
-    count_uses(words, rpo, cursors);
+    count_uses(words, visit, cursors);
     let answer = finish(total_words(cursors), out.len());
     if answer.number != 0 {
         return answer;
     }
     let end = answer.length as usize;
-    write_uses(words, rpo, cursors, &mut out[..end]);
+    write_uses(words, visit, cursors, &mut out[..end]);
     answer
 }
 
 // The uses of all locals.
-pub fn all_uses_answer(words: &[u32], rpo: &[u32], out: &mut [u8]) -> Answer
-    requires { ⌜ WellFormed (now words) ⌝ }
-    requires { ⌜ now rpo ≡ blocksRpo (now words) ⌝ }
+pub fn all_uses_answer(words: &[u32], visit: &[u32], out: &mut [u8]) -> Answer
+    requires { ⌜ VisitStage (now words) (now visit) ⌝ }
     ensures { λ r. ⌜ made (r .number) (r .length) (now (out .exit)) ≡ answered (bind (all locals usesAnswer (now (words .entry))) bytesOf) (now (out .entry)) ⌝ }
 {
     let mut cursors = [0usize; 512];
     let n = local_count(words) as usize;
-    fill_uses(words, rpo, &mut cursors[..n], out)
+    fill_uses(words, visit, &mut cursors[..n], out)
 }

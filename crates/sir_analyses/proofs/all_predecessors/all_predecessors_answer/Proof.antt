@@ -21,15 +21,15 @@ array-borrow-prefix-cursors c = search needs
 slice-aggregate-fill-predecessors : tie.Need-slice-aggregate-fill-predecessors
 slice-aggregate-fill-predecessors c =
     let s = c .before .before .before .before .before in
-    sym (zero-long (c .before .block-count .result) 256 (omega (arith, s .pre .0 .sized .blocks-most)))
+    sym (zero-long (c .before .block-count .result) 256 (omega (arith, s .pre .well-formed .sized .blocks-most)))
 
 fill-predecessors-requires : tie.Need-fill-predecessors-requires
 fill-predecessors-requires c κs =
     let past = c .before .before .before in
     let s = past .before .before .before in
     let n = c .before .before .block-count .result in
-    let h : n ≤ 256 = omega (arith, s .pre .0 .sized .blocks-most) in
-    (s .pre .0, (s .pre .1, (zero-long n 256 h ∙ c .before .before .block-count .ensures, λ v. zero-prefix n 256 v)))
+    let h : n ≤ 256 = omega (arith, s .pre .well-formed .sized .blocks-most) in
+    (s .pre, (zero-long n 256 h ∙ c .before .before .block-count .ensures, λ v. zero-prefix n 256 v))
 
 same-length : tie.Need-same-length
 same-length c = search needs

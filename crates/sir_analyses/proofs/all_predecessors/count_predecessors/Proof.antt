@@ -15,7 +15,7 @@ scan-predecessors-requires : tie.Need-scan-predecessors-requires
 scan-predecessors-requires c κs =
     let s = c .before .before .before .before .before in
     let w = s .args .words .now in
-    (s .pre .0, (s .pre .1 .0, (s .pre .1 .1 .0, zero-fits (s .pre .1 .1 .0) (s .pre .1 .1 .1) (λ v h. ap length (predecessor-pieces w v)) (predecessors-small w (s .pre .0)))))
+    (s .pre .0, (s .pre .1 .0, zero-fits (s .pre .1 .0) (s .pre .1 .1) (λ v h. ap length (predecessor-pieces w v)) (predecessors-small w (s .pre .0 .well-formed))))
 
 same-length : tie.Need-same-length
 same-length c = search needs
@@ -25,7 +25,7 @@ returns c =
     let at-scan = c .before .before .before in
     let past = at-scan .before .before .before in
     let s = past .before .before .before in
-    counted-all (s .pre .1 .1 .0) (s .pre .1 .1 .1) (λ v h. ap length (predecessor-pieces (s .args .words .now) v)) (omega arith) (at-scan .scan-predecessors .ensures)
+    counted-all (s .pre .1 .0) (s .pre .1 .1) (λ v h. ap length (predecessor-pieces (s .args .words .now) v)) (omega arith) (at-scan .scan-predecessors .ensures)
 
 pub count-predecessors-spec : {M : Type 1} → statement M
 count-predecessors-spec =

@@ -23,14 +23,14 @@ total-words-requires c κs =
     let at-count = c .before .before .before in
     let past = at-count .before .before .before in
     let s = past .before .before .before in
-    counts-fit (at-count .count-predecessors .ensures) (predecessors-small (s .args .words .now) (s .pre .0))
+    counts-fit (at-count .count-predecessors .ensures) (predecessors-small (s .args .words .now) (s .pre .0 .well-formed))
 
 finish-requires : tie.Need-finish-requires
 finish-requires c κs =
     let at-count = c .before .before .before .before in
     let past = at-count .before .before .before in
     let s = past .before .before .before in
-    omega (arith, c .total-words .ensures, counts-fit (at-count .count-predecessors .ensures) (predecessors-small (s .args .words .now) (s .pre .0)))
+    omega (arith, c .total-words .ensures, counts-fit (at-count .count-predecessors .ensures) (predecessors-small (s .args .words .now) (s .pre .0 .well-formed)))
 
 same-length : tie.Need-same-length
 same-length c = search needs
@@ -74,7 +74,7 @@ write-predecessors-requires c κs =
     let w = s .args .words .now in
     let k = at-count .count-predecessors .ensures in
     let r = answer-room (allOf (predecessors w) (blocks w)) (s .args .out .now) (counts-finished k (at-finish .before .total-words .ensures) (at-finish .finish .ensures)) (c .before .before .if1 .left) in
-    (s .pre .0, (s .pre .1 .0, (k, length-take-le (at-finish .finish .result .length) (s .args .out .now) (r .1) ∙ r .0)))
+    (s .pre .0, (k, length-take-le (at-finish .finish .result .length) (s .args .out .now) (r .1) ∙ r .0))
 
 same-length-2 : tie.Need-same-length-2
 same-length-2 c = search needs

@@ -14,25 +14,25 @@ use Rattle.sir_analyses.proofs.all_predecessors.scan_predecessors.State
 use Rattle.sir_analyses.proofs.all_predecessors.scan_predecessors.Tie as tie
 
 abbrev Inv-loop : tie.InvT-loop
-Inv-loop words seen cursors₀ out₀ count p₀ cursors out p = (p ≤ count) × Scattering forward (predecessorPieces words) cursors₀ out₀ (visitedLeft words (edgePieces words) p count) cursors out
+Inv-loop words visit cursors₀ out₀ count p₀ cursors out p = (p ≤ count) × Scattering forward (predecessorPieces words) cursors₀ out₀ (visitedLeft words (edgePieces words) p count) cursors out
 
 abbrev μ-loop : tie.MeasureT-loop
-μ-loop words seen cursors₀ out₀ count p₀ cursors out p = count - p
+μ-loop words visit cursors₀ out₀ count p₀ cursors out p = count - p
 
 block-count-requires : tie.Need-block-count-requires Inv-loop μ-loop
 block-count-requires c κs = omega arith
 
 loop-holds : tie.Need-loop-holds Inv-loop μ-loop
-loop-holds c = (omega arith, scattering-as (rw (c .block-count .ensures, range-all)) (scattering-none (c .before .before .before .before .before .pre .1 .1 .1)))
+loop-holds c = (omega arith, scattering-as (rw (c .block-count .ensures, range-all)) (scattering-none (c .before .before .before .before .before .pre .1 .1)))
 
 add-p : tie.Need-add-p Inv-loop μ-loop
 add-p c = omega arith
 
-row-contains-requires : tie.Need-row-contains-requires Inv-loop μ-loop
-row-contains-requires c κs =
+is-visited-requires : tie.Need-is-visited-requires Inv-loop μ-loop
+is-visited-requires c κs =
     let past = c .before .before .before in
     let s = past .before .before .before .before in
-    (omega (arith, s .pre .1 .0 .wide), omega (arith, c .before .before .block-count .ensures, s .pre .0 .sized .blocks-most, c .loop-test .taken))
+    (s .pre .0 .long, omega (arith, c .before .before .block-count .ensures, s .pre .0 .well-formed .sized .blocks-most, c .loop-test .taken))
 
 scan-edges-requires : tie.Need-scan-edges-requires Inv-loop μ-loop
 scan-edges-requires c κs =
@@ -44,9 +44,9 @@ scan-edges-requires c κs =
     let p = loop .loop .p in
     let n = count .block-count .result in
     let h : p < blocks w = omega (arith, count .block-count .ensures, test .before .before .loop-test .taken) in
-    let t : isVisited w p ≡ true = sym (s .pre .1 .0 .visited-is p h) ∙ sym (test .before .row-contains .ensures) ∙ test .if1 .taken in
+    let t : isVisited w p ≡ true = sym (s .pre .0 .visited-is p h) ∙ sym (test .before .is-visited .ensures) ∙ test .if1 .taken in
     let e = visited-step w (edgePieces w) p n (test .before .before .loop-test .taken) t in
-    (s .pre .0, ((h, loop .loop .inv .1 .wide ∙ s .pre .1 .1 .0), scattering-fits (edgePieces w p) (visitedLeft w (edgePieces w) (p + 1) n) (scattering-as e (loop .loop .inv .1))))
+    (s .pre .0 .well-formed, ((h, loop .loop .inv .1 .wide ∙ s .pre .1 .0), scattering-fits (edgePieces w p) (visitedLeft w (edgePieces w) (p + 1) n) (scattering-as e (loop .loop .inv .1))))
 
 loop-less : tie.Need-loop-less Inv-loop μ-loop
 loop-less c = omega arith
@@ -62,7 +62,7 @@ loop-again c =
     let p = loop .loop .p in
     let n = count .block-count .result in
     let h : p < blocks w = omega (arith, count .block-count .ensures, test .before .before .loop-test .taken) in
-    let t : isVisited w p ≡ true = sym (s .pre .1 .0 .visited-is p h) ∙ sym (test .before .row-contains .ensures) ∙ test .if1 .taken in
+    let t : isVisited w p ≡ true = sym (s .pre .0 .visited-is p h) ∙ sym (test .before .is-visited .ensures) ∙ test .if1 .taken in
     let e = visited-step w (edgePieces w) p n (test .before .before .loop-test .taken) t in
     (omega arith, scattering-more (visitedLeft w (edgePieces w) (p + 1) n) (scattering-as e (loop .loop .inv .1)) (at-scan .scan-edges .ensures))
 
@@ -78,7 +78,7 @@ loop-again-2 c =
     let p = loop .loop .p in
     let n = count .block-count .result in
     let h : p < blocks w = omega (arith, count .block-count .ensures, c .before .before .loop-test .taken) in
-    let t : isVisited w p ≡ false = sym (s .pre .1 .0 .visited-is p h) ∙ sym (c .before .row-contains .ensures) ∙ c .if1 .left in
+    let t : isVisited w p ≡ false = sym (s .pre .0 .visited-is p h) ∙ sym (c .before .is-visited .ensures) ∙ c .if1 .left in
     (omega arith, scattering-as (unvisited-step w (edgePieces w) p n (c .before .before .loop-test .taken) t) (loop .loop .inv .1))
 
 same-length : tie.Need-same-length Inv-loop μ-loop
@@ -102,7 +102,7 @@ scan-predecessors-spec =
     block-count-requires
     loop-holds
     add-p
-    row-contains-requires
+    is-visited-requires
     scan-edges-requires
     loop-less
     loop-again

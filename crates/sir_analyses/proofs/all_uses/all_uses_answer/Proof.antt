@@ -21,15 +21,15 @@ array-borrow-prefix-cursors c = search needs
 slice-aggregate-fill-uses : tie.Need-slice-aggregate-fill-uses
 slice-aggregate-fill-uses c =
     let s = c .before .before .before .before .before in
-    sym (zero-long (c .before .local-count .result) 512 (omega (arith, s .pre .0 .sized .locals-most)))
+    sym (zero-long (c .before .local-count .result) 512 (omega (arith, s .pre .well-formed .sized .locals-most)))
 
 fill-uses-requires : tie.Need-fill-uses-requires
 fill-uses-requires c κs =
     let past = c .before .before .before in
     let s = past .before .before .before in
     let n = c .before .before .local-count .result in
-    let h : n ≤ 512 = omega (arith, s .pre .0 .sized .locals-most) in
-    (s .pre .0, (s .pre .1, (zero-long n 512 h ∙ c .before .before .local-count .ensures, λ v. zero-prefix n 512 v)))
+    let h : n ≤ 512 = omega (arith, s .pre .well-formed .sized .locals-most) in
+    (s .pre, (zero-long n 512 h ∙ c .before .before .local-count .ensures, λ v. zero-prefix n 512 v))
 
 same-length : tie.Need-same-length
 same-length c = search needs

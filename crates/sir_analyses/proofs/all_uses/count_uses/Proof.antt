@@ -17,7 +17,7 @@ slice-aggregate-operation-times c = search needs
 operation-times-requires : tie.Need-operation-times-requires
 operation-times-requires c κs =
     let s = c .before .before .before .before in
-    (s .pre .0, (s .pre .1 .0, (refl, zero-at 1024)))
+    (s .pre .0, (refl, zero-at 1024))
 
 slice-aggregate-count-inputs : tie.Need-slice-aggregate-count-inputs
 slice-aggregate-count-inputs c = search needs
@@ -28,9 +28,9 @@ count-inputs-requires c κs =
     let past = c .before .before .before .before in
     let s = past .before .before .before .before in
     let w = s .args .words .now in
-    let wide = s .pre .1 .1 .0 in
-    let fit = zero-fits wide (s .pre .1 .1 .1) (λ v h. uses-counted w (s .pre .0) k v) (uses-small w (s .pre .0)) in
-    (s .pre .0, ((k, wide), fits-first (inputPieces w (c .before .before .before .operation-times .last .1 .1 .0)) (bind (blocksRpo w) (endPieces w)) fit))
+    let wide = s .pre .1 .0 in
+    let fit = zero-fits wide (s .pre .1 .1) (λ v h. uses-counted w (s .pre .0 .well-formed) k v) (uses-small w (s .pre .0 .well-formed)) in
+    (s .pre .0 .well-formed, ((k, wide), fits-first (inputPieces w (c .before .before .before .operation-times .last .1 .1 .0)) (bind (blocksRpo w) (endPieces w)) fit))
 
 slice-aggregate-scan-all-ends : tie.Need-slice-aggregate-scan-all-ends
 slice-aggregate-scan-all-ends c = search needs
@@ -41,9 +41,9 @@ scan-all-ends-requires c κs =
     let at-times = at-inputs .before .before .before .before in
     let s = at-times .before .before .before .before .before in
     let w = s .args .words .now in
-    let wide = s .pre .1 .1 .0 in
-    let fit = zero-fits wide (s .pre .1 .1 .1) (λ v h. uses-counted w (s .pre .0) (at-times .operation-times .ensures) v) (uses-small w (s .pre .0)) in
-    (s .pre .0, ((s .pre .1 .0, omega (arith, wide)), fits-rest (bind (blocksRpo w) (endPieces w)) fit (at-inputs .count-inputs .ensures)))
+    let wide = s .pre .1 .0 in
+    let fit = zero-fits wide (s .pre .1 .1) (λ v h. uses-counted w (s .pre .0 .well-formed) (at-times .operation-times .ensures) v) (uses-small w (s .pre .0 .well-formed)) in
+    (s .pre .0, (omega (arith, wide), fits-rest (bind (blocksRpo w) (endPieces w)) fit (at-inputs .count-inputs .ensures)))
 
 same-length : tie.Need-same-length
 same-length c = search needs
@@ -54,7 +54,7 @@ returns c =
     let at-inputs = at-ends .before .before .before .before .before in
     let at-times = at-inputs .before .before .before .before in
     let s = at-times .before .before .before .before .before in
-    counted-all (s .pre .1 .1 .0) (s .pre .1 .1 .1) (λ v h. uses-counted (s .args .words .now) (s .pre .0) (at-times .operation-times .ensures) v) (omega arith) (scatters-then (at-inputs .count-inputs .ensures) (at-ends .scan-all-ends .ensures))
+    counted-all (s .pre .1 .0) (s .pre .1 .1) (λ v h. uses-counted (s .args .words .now) (s .pre .0 .well-formed) (at-times .operation-times .ensures) v) (omega arith) (scatters-then (at-inputs .count-inputs .ensures) (at-ends .scan-all-ends .ensures))
 
 pub count-uses-spec : {M : Type 1} → statement M
 count-uses-spec =

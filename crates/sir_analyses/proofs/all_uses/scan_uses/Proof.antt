@@ -15,33 +15,40 @@ use Rattle.sir_analyses.proofs.all_uses.scan_uses.Statement.{statement}
 use Rattle.sir_analyses.proofs.all_uses.scan_uses.Tie as tie
 
 abbrev Inv-loop : tie.InvT-loop
-Inv-loop words rpo cursors₀ out₀ i₀ cursors out i = (i ≤ length rpo) × Scattering forward (bind rpo (blockPieces words)) cursors₀ out₀ (bind (drop i rpo) (blockPieces words)) cursors out
+Inv-loop words visit cursors₀ out₀ order i₀ cursors out i = (i ≤ length order) × Scattering forward (bind order (blockPieces words)) cursors₀ out₀ (bind (drop i order) (blockPieces words)) cursors out
 
 abbrev μ-loop : tie.MeasureT-loop
-μ-loop words rpo cursors₀ out₀ i₀ cursors out i = length rpo - i
+μ-loop words visit cursors₀ out₀ order i₀ cursors out i = length order - i
+
+rpo-requires : tie.Need-rpo-requires Inv-loop μ-loop
+rpo-requires c κs =
+    let s = c .before .before .before .before in
+    (s .pre .0 .long, s .pre .0 .few)
 
 loop-holds : tie.Need-loop-holds Inv-loop μ-loop
 loop-holds c =
-    let s = c .before .before .before .before in
-    (omega arith, scattering-none (fits-as (ap (λ (l : List ℕ). bind l (blockPieces (s .args .words .now))) (sym (s .pre .1 .0 .0))) (s .pre .1 .1)))
+    let s = c .before .before .before .before .before in
+    (omega arith, scattering-none (fits-as (ap (λ (l : List ℕ). bind l (blockPieces (s .args .words .now))) (sym (c .rpo .ensures ∙ s .pre .0 .rpo-is))) (s .pre .1 .1)))
 
-mul-t6 : tie.Need-mul-t6 Inv-loop μ-loop
-mul-t6 c = omega arith
+mul-t7 : tie.Need-mul-t7 Inv-loop μ-loop
+mul-t7 c = omega arith
 
-shared-slice-read-t10 : tie.Need-shared-slice-read-t10 Inv-loop μ-loop
-shared-slice-read-t10 c = omega arith
+shared-slice-read-t11 : tie.Need-shared-slice-read-t11 Inv-loop μ-loop
+shared-slice-read-t11 c = omega arith
 
 scan-block-requires : tie.Need-scan-block-requires Inv-loop μ-loop
 scan-block-requires c κs =
     let test = c .before .before .before in
     let loop = test .before in
-    let s = loop .before .before .before .before .before in
+    let at-rpo = loop .before in
+    let s = at-rpo .before .before .before .before .before in
     let w = s .args .words .now in
-    let rpo = s .args .rpo .now in
+    let good = s .pre .0 .well-formed in
+    let order = at-rpo .rpo .result .now in
     let i = loop .loop .i in
-    let b = getD rpo i 0 in
+    let b = getD order i 0 in
     let h = test .loop-test .taken in
-    (s .pre .0, ((rpo-below w (s .pre .0) (s .pre .1 .0 .0) b (getD-mem rpo i 0 h), loop .loop .inv .1 .wide ∙ s .pre .1 .0 .1), scattering-fits (blockPieces w b) (bind (drop (i + 1) rpo) (blockPieces w)) (scattering-as (block-next (blockPieces w) rpo i h) (loop .loop .inv .1))))
+    (good, ((rpo-below w good (at-rpo .rpo .ensures ∙ s .pre .0 .rpo-is) b (getD-mem order i 0 h), loop .loop .inv .1 .wide ∙ s .pre .1 .0), scattering-fits (blockPieces w b) (bind (drop (i + 1) order) (blockPieces w)) (scattering-as (block-next (blockPieces w) order i h) (loop .loop .inv .1))))
 
 add-i : tie.Need-add-i Inv-loop μ-loop
 add-i c = omega arith
@@ -54,11 +61,11 @@ loop-again c =
     let at-scan = c .before .before .before .before in
     let test = at-scan .before .before .before .before in
     let loop = test .before in
-    let a = loop .before .before .before .before .before .args in
-    let w = a .words .now in
-    let rpo = a .rpo .now in
+    let at-rpo = loop .before in
+    let w = at-rpo .before .before .before .before .before .args .words .now in
+    let order = at-rpo .rpo .result .now in
     let i = loop .loop .i in
-    (omega arith, scattering-more (bind (drop (i + 1) rpo) (blockPieces w)) (scattering-as (block-next (blockPieces w) rpo i (test .loop-test .taken)) (loop .loop .inv .1)) (at-scan .scan-block .ensures))
+    (omega arith, scattering-more (bind (drop (i + 1) order) (blockPieces w)) (scattering-as (block-next (blockPieces w) order i (test .loop-test .taken)) (loop .loop .inv .1)) (at-scan .scan-block .ensures))
 
 same-length : tie.Need-same-length Inv-loop μ-loop
 same-length c = c .before .loop .inv .1 .wide
@@ -68,10 +75,10 @@ same-length-2 c = c .before .loop .inv .1 .long
 
 returns : tie.Need-returns Inv-loop μ-loop
 returns c =
-    let past = c .before .before .before in
-    let s = past .before .before .before in
+    let at-rpo = c .before .before in
+    let s = at-rpo .before .before .before .before .before in
     let g = blockPieces (s .args .words .now) in
-    scatters-as (ap (λ (l : List ℕ). bind l g) (s .pre .1 .0 .0)) (scattering-all (block-end g (s .args .rpo .now) (c .before .loop .i) (c .loop-test .left)) (c .before .loop .inv .1))
+    scatters-as (ap (λ (l : List ℕ). bind l g) (at-rpo .rpo .ensures ∙ s .pre .0 .rpo-is)) (scattering-all (block-end g (at-rpo .rpo .result .now) (c .before .loop .i) (c .loop-test .left)) (c .before .loop .inv .1))
 
 pub scan-uses-spec : {M : Type 1} → statement M
 scan-uses-spec =
@@ -79,9 +86,10 @@ scan-uses-spec =
     (tie.spec
     Inv-loop
     μ-loop
+    rpo-requires
     loop-holds
-    mul-t6
-    shared-slice-read-t10
+    mul-t7
+    shared-slice-read-t11
     scan-block-requires
     add-i
     loop-less

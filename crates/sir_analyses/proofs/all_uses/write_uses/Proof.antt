@@ -14,7 +14,7 @@ put-lengths-requires : tie.Need-put-lengths-requires
 put-lengths-requires c κs =
     let past = c .before .before .before in
     let s = past .before .before .before in
-    lengths-fit (s .pre .1 .1 .0) (uses-small (s .args .words .now) (s .pre .0)) (s .pre .1 .1 .1)
+    lengths-fit (s .pre .1 .0) (uses-small (s .args .words .now) (s .pre .0 .well-formed)) (s .pre .1 .1)
 
 scan-uses-requires : tie.Need-scan-uses-requires
 scan-uses-requires c κs =
@@ -23,9 +23,9 @@ scan-uses-requires c κs =
     let past = at-lengths .before .before .before in
     let s = past .before .before .before .before in
     let w = s .args .words .now in
-    let k = s .pre .1 .1 .0 in
+    let k = s .pre .1 .0 in
     let wide : length (at-lengths .put-lengths .last .0) ≡ locals w = omega (arith, k .wide) in
-    (s .pre .0, ((s .pre .1 .0, wide), placed-fits k forward (λ v h. use-pieces w v) wide (at-lengths .put-lengths .ensures) (uses-small w (s .pre .0))))
+    (s .pre .0, (wide, placed-fits k forward (λ v h. use-pieces w v) wide (at-lengths .put-lengths .ensures) (uses-small w (s .pre .0 .well-formed))))
 
 same-length : tie.Need-same-length
 same-length c = search needs
@@ -41,8 +41,8 @@ returns c =
     let past = at-lengths .before .before .before in
     let s = past .before .before .before .before in
     let w = s .args .words .now in
-    let k = s .pre .1 .1 .0 in
-    counts-written k forward (uses-below w (s .pre .0)) (λ v h. use-pieces w v) (omega (arith, k .wide)) (at-lengths .put-lengths .ensures) (omega (arith, s .pre .1 .1 .1)) (at-scan .scan-uses .ensures)
+    let k = s .pre .1 .0 in
+    counts-written k forward (uses-below w (s .pre .0 .well-formed)) (λ v h. use-pieces w v) (omega (arith, k .wide)) (at-lengths .put-lengths .ensures) (omega (arith, s .pre .1 .1)) (at-scan .scan-uses .ensures)
 
 pub write-uses-spec : {M : Type 1} → statement M
 write-uses-spec =
