@@ -90,6 +90,7 @@ module _ (w : List ℕ) (good : WellFormed w) (twelve : rule12 w ≡ false) {lin
         let F : Followed w (linksIn links) (contains harms) (length (allocs w)) (T .state) = rw e at (T .followed) in
         record {
           owner-is = λ v h. T .shown .owner-is v (rw (T .wide) h) ∙ ap (λ (o : List ℕ). getD o v 0) (followed-owners w good twelve (linksIn links) (contains harms) links-exact (rows .harmed) F);
+          owner-known = λ v. omega (arith, T .shown .owner-known v, T .count);
           mark-is = λ a h. T .shown .marks-are a (omega (arith, keys-most w good twelve)) ∙ ap oneIf (followed-marks w good twelve (linksIn links) (contains harms) links-exact (rows .harmed) F a h);
           reach-is = λ a v h free l.
               followed-reach w good twelve (linksIn links) (contains harms) links-exact (rows .harmed) F a v h free

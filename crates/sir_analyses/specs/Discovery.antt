@@ -92,6 +92,7 @@ pub record Propagated (links harms : List ℕ) (a v : ℕ) (owner marks work own
 -- the arrays at the end: owners, marks, and with them the reach of each unmarked allocation
 pub record Discovered (w owner marks : List ℕ) : Type 0 where
   pub owner-is : (v : ℕ) → v < locals w → getD owner v 0 ≡ getD (owners w) v 0
+  pub owner-known : (v : ℕ) → getD owner v 0 ≤ length (allocs w)
   pub mark-is : (a : ℕ) → a < length (allocs w) → getD marks a 0 ≡ oneIf (marked w a)
   pub reach-is : (a v : ℕ) → a < length (allocs w) → marked w a ≡ false → v < locals w → has (reach w (allocAt w a)) v ≡ eqb (getD owner v 0) (suc a)
 
