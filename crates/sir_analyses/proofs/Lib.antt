@@ -62,4 +62,5 @@ pub mod SweepProof
 pub mod MergedIntervals
 pub mod AllocationWords
 pub mod AllocationPieces
+pub mod SweptEnds
 pub mod Proved

@@ -119,9 +119,28 @@ pub record Sweeping (w reach : List ℕ) (b : ℕ) (os live run : List ℕ) (til
   pub opened : (s : Set) → length s ≡ locals w → Same reach s → till ≡ swept w s b os .spans .open′
   pub written : (s : Set) → length s ≡ locals w → Same reach s → drop n run ≡ intervalWords (swept w s b os .spans .closed)
 
+module _ {w : List ℕ} (good : WellFormed w) (b : ℕ) (below : b < blocks w) where
+  -- the locals live after the operations, and before one more of them
+  pub lives-none : (exits ends live : List ℕ) → SameRows exits (settled w .1) (blocks w) → EndRows w ends
+      → ((v : ℕ) → v < 512 → contains live v ≡ (contains exits (512 * b + v) || contains ends (512 * b + v))) → (v : ℕ) → v < locals w → contains live v ≡ has (liveIn w b []) v
+  lives-none exits ends live x y f v h =
+      let q : v < 512 = omega (arith, good .sized .locals-most) in
+      f v q ∙ ap₂ (λ (p r : Bool). p || r) (x b v below q) (y .ended b v below q)
+      ∙ sym (has-addAll (exitSet w b) (endReads w b) v (omega (arith, exit-size w good b below)))
+
+  pub lives-more : (os live : List ℕ) → ((v : ℕ) → v < locals w → contains live v ≡ has (liveIn w b os) v) → (reads writes : List ℕ) (o : ℕ) → OperandRows w reads writes → o < operations w → (live′ : List ℕ)
+      → ((v : ℕ) → v < 512 → contains live′ v ≡ ((contains live v && not (contains writes (512 * o + v))) || contains reads (512 * o + v))) → (v : ℕ) → v < locals w → contains live′ v ≡ has (liveIn w b (o ∷ os)) v
+  lives-more os live g reads writes o rows l live′ f v h =
+      let k : v < 512 = omega (arith, good .sized .locals-most) in
+      let x = liveIn w b os in
+      let a : v < length x = omega (arith, length-through w (endReads w b) os (exitSet w b), exit-size w good b below) in
+      let d : v < length (removeAll x (outs w o)) = omega (arith, length-removeAll x (outs w o)) in
+      f v k ∙ rw (g v h, rows .written o v l k, rows .read o v l k)
+      (sym (has-addAll (removeAll x (outs w o)) (ins w o) v d ∙ ap (λ (m : Bool). m || mem v (ins w o)) (has-removeAll x (outs w o) v a)))
+
 module _ {w : List ℕ} (reach : List ℕ) (good : WellFormed w) (b : ℕ) (below : b < blocks w) where
   -- is a local of the reach live?
-  live-test : (os live : List ℕ) → ((v : ℕ) → v < locals w → contains live v ≡ has (liveIn w b os) v) → (s : Set) → length s ≡ locals w → Same reach s → meets reach live ≡ nonempty (swept w s b os .live)
+  pub live-test : (os live : List ℕ) → ((v : ℕ) → v < locals w → contains live v ≡ has (liveIn w b os) v) → (s : Set) → length s ≡ locals w → Same reach s → meets reach live ≡ nonempty (swept w s b os .live)
   live-test os live f s e same =
       meets-live reach live s (liveIn w b os) (omega (arith, good .sized .locals-most)) same (λ v h. f v (omega arith))
       ∙ ap nonempty (sym (sweep-live w b s (e ∙ sym (exit-size w good b below)) os))
@@ -136,10 +155,7 @@ module _ {w : List ℕ} (reach : List ℕ) (good : WellFormed w) (b : ℕ) (belo
   })
     where
       lives′ : (v : ℕ) → v < locals w → contains live v ≡ has (liveIn w b []) v
-      lives′ v h =
-          let q : v < 512 = omega (arith, good .sized .locals-most) in
-          f v q ∙ ap₂ (λ (p r : Bool). p || r) (x b v below q) (y .ended b v below q)
-          ∙ sym (has-addAll (exitSet w b) (endReads w b) v (omega (arith, exit-size w good b below)))
+      lives′ = lives-none good b below exits ends live x y f
 
   module _ {os live run : List ℕ} {till n : ℕ} (g : Sweeping w reach b os live run till n) where
     pub sweeping-more : (reads writes : List ℕ) (o : ℕ) → OperandRows w reads writes → o < operations w → (live′ run′ : List ℕ) {t : Bool} {next closed r : ℕ}
@@ -159,13 +175,7 @@ module _ {w : List ℕ} (reach : List ℕ) (good : WellFormed w) (b : ℕ) (belo
     }
       where
         lives′ : (v : ℕ) → v < locals w → contains live′ v ≡ has (liveIn w b (o ∷ os)) v
-        lives′ v h =
-            let k : v < 512 = omega (arith, good .sized .locals-most) in
-            let x = liveIn w b os in
-            let a : v < length x = omega (arith, length-through w (endReads w b) os (exitSet w b), exit-size w good b below) in
-            let d : v < length (removeAll x (outs w o)) = omega (arith, length-removeAll x (outs w o)) in
-            f v k ∙ rw (g .lives v h, rows .written o v l k, rows .read o v l k)
-            (sym (has-addAll (removeAll x (outs w o)) (ins w o) v d ∙ ap (λ (m : Bool). m || mem v (ins w o)) (has-removeAll x (outs w o) v a)))
+        lives′ = lives-more good b below os live (g .lives) reads writes o rows l live′ f
 
     pub sweeping-ends : os ≡ ops w b → (run′ : List ℕ) (r : ℕ) → drop r run′ ≡ intervalWords (closing b 0 till) ++ drop n run
         → (s : Set) → length s ≡ locals w → Same reach s → drop r run′ ≡ intervalWords (sweepBlock w s b [])

@@ -3,18 +3,20 @@
 -- A piece stands in front of those before it.
 -- Used by inner contracts; no exported promise speaks of it.
 use mathlib.Core.Path.{_≡_}
-use mathlib.Core.Bool.{Bool, false, not, _&&_, cond}
-use mathlib.Core.List.{List, [], _∷_, _++_, foldr, reverse}
-use Prim.Native.Nat.{ℕ, _+_, _<_}
-use lib.ListN.{length, replicate}
-use lib.Dec.{ltb}
-use Rattle.plank_core.specs.Lists.{bind, keep, upto, range, oneIf}
+use mathlib.Core.Bool.{Bool, false, not, _&&_, _||_, cond}
+use mathlib.Core.List.{List, [], _∷_, _++_, map, foldr, reverse}
+use Prim.Native.Nat.{ℕ, _+_, _-_, _*_, _≤_, _<_}
+use lib.ListN.{length, getD, replicate}
+use lib.Dec.{eqb, ltb}
+use Rattle.plank_core.specs.Lists.{bind, keep, upto, range, mem, oneIf, _∈_}
+use Rattle.plank_core.specs.DenseIndexSet.{contains, members, meets, rowOf}
 use Rattle.sir_data.specs.Records.{blocks, locals, blockWord, ops}
 use Rattle.sir_analyses.specs.Order.{isVisited}
-use Rattle.sir_analyses.specs.Liveness.{Set}
+use Rattle.sir_analyses.specs.Liveness.{Set, has}
 use Rattle.sir_analyses.specs.Allocation.{allocs, allocAt, reach, marked, merged}
 use Rattle.sir_analyses.specs.Discovery.{headWords}
 use Rattle.sir_analyses.specs.Sweep.{nonempty, Sweep, sweepEnd, sweepOp}
+use Rattle.sir_analyses.specs.Stages.{part, readsIn, writesIn, ownersIn, marksIn}
 use Rattle.sir_analyses.specs.Scatter.{Pieces, numberAt}
 use Rattle.sir_analyses.specs.IntervalPieces.{closedPieces}
 
@@ -74,3 +76,51 @@ headPieces w = bind (upto (length (allocs w))) (λ a. (a, headOf w a) ∷ [])
 -- all records
 abbrev pub recordPieces : List ℕ → Pieces
 recordPieces w = visitedPieces w ++ headPieces w
+
+-- ---- the tables of owners: a row of locals for each allocation, and the owner of each local; a marked allocation owns none
+
+abbrev pub ownRowsIn : List ℕ → List ℕ
+ownRowsIn owned = part 0 4096 owned
+
+-- the owner of local v: allocation + 1, or 0
+abbrev pub ownerIn : List ℕ → ℕ → ℕ
+ownerIn owned v = numberAt (part 4096 512 owned) v
+
+-- the owner of local v by the tables of pointers, or 0 where that is marked
+unfoldable pub unmarkedOwner : List ℕ → ℕ → ℕ
+unmarkedOwner pointers v =
+    let owner = getD (ownersIn pointers) v 0 in
+    cond (eqb owner 0) 0 (cond (eqb (getD (marksIn pointers) (owner - 1) 0) 0) owner 0)
+
+pub record OwnedTables (w owned : List ℕ) : Type 0 where
+  pub long : length owned ≡ 4608
+  pub owner-most : (v : ℕ) → v < 512 → ownerIn owned v ≤ 512
+  pub row-is : (a v : ℕ) → a < 512 → v < 512 → contains (ownRowsIn owned) (512 * a + v) ≡ eqb (ownerIn owned v) (a + 1)
+  pub reach-is : (a v : ℕ) → a < 512 → v < 512 → contains (ownRowsIn owned) (512 * a + v) ≡ has (ownReach w a) v
+
+-- ---- the owners of some locals
+
+-- is allocation a one of them?
+abbrev pub ownsOne : List ℕ → List ℕ → ℕ → Bool
+ownsOne owned vs a = mem (a + 1) (map (ownerIn owned) vs)
+
+-- is a local of allocation a in a set?
+abbrev pub livesIn : List ℕ → List ℕ → ℕ → Bool
+livesIn owned set a = meets (rowOf (ownRowsIn owned) a) set
+
+-- where it is put: in row 0 if so, else in row 1
+abbrev pub side : List ℕ → List ℕ → ℕ → ℕ
+side owned set a = cond (livesIn owned set a) 0 1
+
+-- the allocations with a local in a set are listed
+pub record LiveOwners (owned set ids : List ℕ) : Type 0 where
+  pub owners : List ℕ
+  pub listed : ids ≡ members owners
+  pub live-is : (a : ℕ) → a < 512 → contains owners a ≡ livesIn owned set a
+
+-- the owners of the locals that operation o reads or writes are put in their rows
+pub record SplitOwners (live : List ℕ) (o : ℕ) (owned set split : List ℕ) : Type 0 where
+  pub touched : List ℕ
+  pub touched-is : (v : ℕ) → v < 512 → mem v touched ≡ (contains (writesIn live) (512 * o + v) || contains (readsIn live) (512 * o + v))
+  pub long : length split ≡ 16
+  pub split-is : (r a : ℕ) → r < 2 → a < 512 → contains split (512 * r + a) ≡ (ownsOne owned touched a && eqb r (side owned set a))
