@@ -183,15 +183,15 @@ module _ (w : List ℕ) (good : WellFormed w) (b : ℕ) (l : b < blocks w) where
 
 -- ---- the reach by which an allocation lives
 
-own-unmarked : (w : List ℕ) (a : ℕ) → a < length (allocs w) → marked w a ≡ false → ownReach w a ≡ reach w (allocAt w a)
+pub own-unmarked : (w : List ℕ) (a : ℕ) → a < length (allocs w) → marked w a ≡ false → ownReach w a ≡ reach w (allocAt w a)
 unfolding ownReach
 own-unmarked w a l u = rw (lt-ltb a (length (allocs w)) l, u)
 
-own-marked : (w : List ℕ) (a : ℕ) → marked w a ≡ true → ownReach w a ≡ replicate (locals w) false
+pub own-marked : (w : List ℕ) (a : ℕ) → marked w a ≡ true → ownReach w a ≡ replicate (locals w) false
 unfolding ownReach
 own-marked w a m = rw (m, and-false)
 
-own-unknown : (w : List ℕ) (a : ℕ) → length (allocs w) ≤ a → ownReach w a ≡ replicate (locals w) false
+pub own-unknown : (w : List ℕ) (a : ℕ) → length (allocs w) ≤ a → ownReach w a ≡ replicate (locals w) false
 unfolding ownReach
 own-unknown w a l = rw (le-ltb a (length (allocs w)) l)
 

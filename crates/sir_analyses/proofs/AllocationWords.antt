@@ -34,7 +34,7 @@ use Rattle.sir_analyses.proofs.Writing.{puts-as, puts-then, puts-past}
 abbrev pub Below : (ℕ → Bool) → ℕ → List ℕ → Type 0
 Below own v set = (u : ℕ) → u < 512 → contains set u ≡ (ltb u v && own u)
 
-below-next : (u v : ℕ) → (u ≡ v → ⊥) → ltb u (v + 1) ≡ ltb u v
+pub below-next : (u v : ℕ) → (u ≡ v → ⊥) → ltb u (v + 1) ≡ ltb u v
 below-next u v n = go (ltb u v) refl
   where
     go : (t : Bool) → ltb u v ≡ t → ltb u (v + 1) ≡ t

@@ -63,4 +63,5 @@ pub mod MergedIntervals
 pub mod AllocationWords
 pub mod AllocationPieces
 pub mod SweptEnds
+pub mod OwnedTables
 pub mod Proved

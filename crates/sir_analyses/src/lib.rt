@@ -15,6 +15,7 @@ pub mod local_intervals;
 pub mod local_liveness;
 pub mod merged_intervals;
 pub mod order_answers;
+pub mod owned_tables;
 pub mod pointer_links;
 pub mod predecessors;
 pub mod questions;
