@@ -5,8 +5,8 @@ use mathlib.Core.List.{List, _++_}
 use Prim.Native.Nat.{ℕ, zero, suc, _+_, _-_, _*_, _^_, _≤_, _<_}
 use native.Mathlib.Nat.{mul-suc}
 use native.Mathlib.Omega.{arith}
-use lib.ListN.{length, getD, take, drop, replicate, length-replicate}
-use lib.Seq.{length-take-le}
+use lib.ListN.{length, getD, take, drop, replicate, length-replicate, getD-replicate}
+use lib.Seq.{length-take-le, getD-take}
 use lib.Dec.{ltb}
 use borrow.Author.Tests.{ltb-false}
 use Rattle.plank_core.specs.Lists.{bind}
@@ -86,12 +86,19 @@ zero-at zero v = refl
 zero-at (suc m) zero = refl
 zero-at (suc m) (suc v) = zero-at m v
 
+-- the first n of an array of one number
+pub fixed-long : (n m x : ℕ) → n ≤ m → length (take n (replicate m x)) ≡ n
+fixed-long n m x h = length-take-le n (replicate m x) (rw length-replicate h)
+
+pub fixed-at : (n m x v : ℕ) → n ≤ m → v < n → getD (take n (replicate m x)) v 0 ≡ x
+fixed-at n m x v h l = getD-take n (replicate m x) v 0 l ∙ getD-replicate m v x 0 (omega arith)
+
 -- the first n of an array of zeros
 abbrev pub zeros : ℕ → ℕ → List ℕ
 zeros n m = take n (replicate m 0)
 
 pub zero-long : (n m : ℕ) → n ≤ m → length (zeros n m) ≡ n
-zero-long n m h = length-take-le n (replicate m 0) (rw length-replicate h)
+zero-long n m h = fixed-long n m 0 h
 
 pub zero-prefix : (n m v : ℕ) → getD (zeros n m) v 0 ≡ 0
 zero-prefix zero m v = refl

@@ -2,7 +2,7 @@
 use mathlib.Core.Path.{_≡_, refl, sym, ap, ap₂, _∙_}
 use mathlib.Core.Logic.{_≢_}
 use mathlib.Core.Bool.{Bool, true, false, not, _&&_, cond, and-false}
-use mathlib.Core.List.{List, [], _∷_, _++_, foldr, reverse, append-nil, reverse-append, List·Memᴰ·head, List·Memᴰ·tail, List·Memᴰ·eq-of-singleton}
+use mathlib.Core.List.{List, [], _∷_, _++_, foldr, reverse, append-nil, append-assoc, reverse-append, List·Memᴰ·head, List·Memᴰ·tail, List·Memᴰ·eq-of-singleton}
 use Prim.Native.Nat.{ℕ, zero, suc, _+_, _-_, _*_, _≤_, _<_}
 use native.Mathlib.Numerals.{add-one}
 use native.Mathlib.Omega.{arith}
@@ -11,7 +11,7 @@ use lib.Dec.{eqb, ltb}
 use borrow.Author.Tests.{eq-eqb, ne-eqb, eqb-true, eqb-false, lt-ltb, le-ltb}
 use Rattle.plank_core.specs.Lists.{count, upto, range, bind, keep, oneIf, _∈_}
 use Rattle.plank_core.specs.laws.Lists.{refuted, and-true-left, mem-upto, keep-out, keep-most, reverse-out}
-use Rattle.plank_core.specs.laws.Loops.{length-count, keep-append, bind-snoc, bind-bind}
+use Rattle.plank_core.specs.laws.Loops.{length-count, upto-suc, range-none, keep-append, bind-snoc, bind-bind, reverse-snoc}
 use Rattle.sir_data.specs.Records.{blocks, locals, blockWord, ops}
 use Rattle.sir_data.specs.WellFormed.{WellFormed}
 use Rattle.sir_analyses.specs.Order.{isVisited}
@@ -19,10 +19,12 @@ use Rattle.sir_analyses.specs.Liveness.{Set, has, members, Interval, int
 use Rattle.sir_analyses.specs.Allocation.{allocs, allocAt, reach, marked, sort, merge, merged}
 use Rattle.sir_analyses.specs.Answers.{intervalWords, allocationAnswer}
 use Rattle.sir_analyses.specs.Sweep.{meet, nonempty, Sweep, sweepEnd, sweepOp, sweepBlock, sweepFrom, note}
-use Rattle.sir_analyses.specs.Scatter.{Pieces, piecesOf, Below}
+use Rattle.sir_analyses.specs.Scatter.{Pieces, piecesOf, Direction, forward, backward, moved, numberAt, Below, Fits, Scatters}
+use Rattle.sir_analyses.specs.Stages.{PointerStage}
+use Rattle.sir_analyses.specs.Discovery.{Site, headWords}
 use Rattle.sir_analyses.specs.IntervalPieces.{intervalPieces, closedPieces}
 use Rattle.sir_analyses.specs.AllocationPieces.{ownReach, sweptTo, livesAt, sweptEnd, sweptBy, sweptPieces, runPieces, openPieces, sweepPieces, visitedPieces, headOf, headPieces, recordPieces}
-use Rattle.sir_analyses.specs.laws.Scatter.{pieces-append}
+use Rattle.sir_analyses.specs.laws.Scatter.{pieces-append, length-in-order}
 use Rattle.sir_analyses.proofs.SetLaws.{none-in}
 use Rattle.sir_analyses.proofs.Edges.{bind-most}
 use Rattle.sir_analyses.proofs.PieceLaws.{below-append, below-bind}
@@ -33,8 +35,10 @@ use Rattle.sir_analyses.proofs.Scans.{liveIn}
 use Rattle.sir_analyses.proofs.Scanning.{closing-few}
 use Rattle.sir_analyses.proofs.SweepProof.{has-meet, nonempty-has, sweep-live, sweep-listed, sweep-merged}
 use Rattle.sir_analyses.proofs.MergedIntervals.{shut-words, note-words}
-use Rattle.sir_analyses.proofs.AllocationWords.{head-is}
-use Rattle.sir_analyses.proofs.IntervalPieces.{closed-below}
+use Rattle.sir_analyses.proofs.AllocationWords.{head-is, head-long}
+use Rattle.sir_analyses.proofs.PointerTables.{allocations-few}
+use Rattle.sir_analyses.proofs.AllAnswers.{Small, scatters-cursor}
+use Rattle.sir_analyses.proofs.IntervalPieces.{closed-below, reverse-next}
 
 -- ---- the pieces for one id, from the last to the first
 
@@ -301,3 +305,81 @@ module _ (w : List ℕ) (good : WellFormed w) where
         length-count 0 (blocks w),
         good .sized .blocks-most,
       )
+
+-- ---- the operations of a block, one after the other
+
+module _ (w : List ℕ) (b : ℕ) where
+  -- the pieces of the operations before o, then those of the start
+  abbrev pub sweptLeft : ℕ → ℕ → Pieces
+  sweptLeft s o = bind (reverse (range s o)) (sweptPieces w b) ++ openPieces w b
+
+  pub swept-next : (s o : ℕ) → s < o → sweptLeft s o ≡ sweptPieces w b (o - 1) ++ sweptLeft s (o - 1)
+  swept-next s o h = ap (λ (l : List ℕ). bind l (sweptPieces w b) ++ openPieces w b) (reverse-next s o h) ∙ append-assoc (sweptPieces w b (o - 1)) (bind (reverse (range s (o - 1))) (sweptPieces w b)) (openPieces w b)
+
+  pub swept-last : (s o : ℕ) → o ≤ s → sweptLeft s o ≡ openPieces w b ++ []
+  swept-last s o h = ap (λ (l : List ℕ). bind (reverse l) (sweptPieces w b) ++ openPieces w b) (range-none s o h) ∙ sym (append-nil (openPieces w b))
+
+-- ---- the visited blocks, from the last to the first
+
+module _ (w : List ℕ) where
+  -- the pieces of those below b
+  abbrev pub visitedTo : ℕ → Pieces
+  visitedTo b = bind (reverse (keep (isVisited w) (upto b))) (sweepPieces w)
+
+  visited-last : (b : ℕ) → 0 < b → keep (isVisited w) (upto b) ≡ keep (isVisited w) (upto (b - 1)) ++ cond (isVisited w (b - 1)) ((b - 1) ∷ []) []
+  visited-last b h =
+      let e : b ≡ suc (b - 1) = omega arith in
+      ap (λ (k : ℕ). keep (isVisited w) (upto k)) e ∙ ap (keep (isVisited w)) (upto-suc (b - 1)) ∙ keep-append (isVisited w) (upto (b - 1)) ((b - 1) ∷ [])
+
+  pub visited-next : (b : ℕ) → 0 < b → isVisited w (b - 1) ≡ true → visitedTo b ≡ sweepPieces w (b - 1) ++ visitedTo (b - 1)
+  visited-next b h t =
+      ap (λ (l : List ℕ). bind (reverse l) (sweepPieces w)) (visited-last b h ∙ ap (λ (x : Bool). keep (isVisited w) (upto (b - 1)) ++ cond x ((b - 1) ∷ []) []) t)
+      ∙ ap (λ (l : List ℕ). bind l (sweepPieces w)) (reverse-snoc (keep (isVisited w) (upto (b - 1))) (b - 1))
+
+  pub visited-skip : (b : ℕ) → 0 < b → isVisited w (b - 1) ≡ false → visitedTo b ≡ visitedTo (b - 1)
+  visited-skip b h t =
+      ap (λ (l : List ℕ). bind (reverse l) (sweepPieces w)) (visited-last b h ∙ ap (λ (x : Bool). keep (isVisited w) (upto (b - 1)) ++ cond x ((b - 1) ∷ []) []) t ∙ append-nil (keep (isVisited w) (upto (b - 1))))
+
+-- ---- the heads
+
+pub head-same : {w : List ℕ} {a b o n : ℕ} (t : Bool) → Site w a b o → marked w a ≡ t → n ≡ length (merged w a) → headWords w b o (oneIf t) n ≡ headOf w a
+head-same {w} {a} {b} {o} {n} t x m e =
+    ap (λ (k : ℕ). headWords w k o (oneIf t) n) (x .block-is)
+    ∙ ap (λ (k : ℕ). headWords w (allocAt w a .block) k (oneIf t) n) (x .op-is)
+    ∙ ap₂ (λ (u : Bool) (k : ℕ). headWords w (allocAt w a .block) (allocAt w a .op) (oneIf u) k) (sym m) e
+
+-- a piece leaves the cursors of other ids
+pub other-cursor : {d : Direction} {a : ℕ} {xs cursors out cursors′ out′ : List ℕ} (u : ℕ) → a ≢ u → u < length cursors → Scatters d ((a, xs) ∷ []) cursors out cursors′ out′ → numberAt cursors′ u ≡ numberAt cursors u
+other-cursor {d} {a} {xs} {cursors} u n h s =
+    scatters-cursor u h s
+    ∙ ap (λ (t : Bool). moved d (numberAt cursors u) (length (cond t xs [] ++ []))) (ne-eqb a u n)
+    ∙ still d (numberAt cursors u)
+  where
+    still : (d : Direction) (c : ℕ) → moved d c 0 ≡ c
+    still forward c = omega arith
+    still backward c = omega arith
+
+-- ---- what the machine of all answers asks
+
+module _ {w pointers : List ℕ} (stage : PointerStage w pointers) where
+  pub records-are : (a : ℕ) → a < length (allocs w) → piecesOf a (reverse (recordPieces w)) ≡ allocationAnswer w a
+  records-are a l = record-pieces w (stage .well-formed) a l (omega (arith, allocations-few stage))
+
+  pub records-small : Small (length (allocs w)) (allocationAnswer w)
+  records-small = record { ids = omega (arith, allocations-few stage); words = λ a l. omega (arith, long a l, merged-few w (stage .well-formed) a l) }
+    where
+      long : (a : ℕ) → a < length (allocs w) → length (allocationAnswer w a) ≡ 8 + length (intervalWords (merged w a))
+      long a l =
+          sym (ap length (head-is w (stage .well-formed) (record { known = l; block-is = refl; op-is = refl }) (oneIf (marked w a)) (length (merged w a)) refl refl))
+          ∙ length-append (headOf w a) (intervalWords (merged w a))
+          ∙ ap (λ (k : ℕ). k + length (intervalWords (merged w a))) (head-long w (allocAt w a .block) (allocAt w a .op) (oneIf (marked w a)) (length (merged w a)))
+
+  pub records-counted : (a : ℕ) → a < length (allocs w) → length (piecesOf a (recordPieces w)) ≡ length (allocationAnswer w a)
+  records-counted a l = sym (length-in-order backward a (recordPieces w)) ∙ ap length (records-are a l)
+
+  -- the cursors from before the intervals
+  pub tops-are : {cursors out cursors′ out′ : List ℕ} (a : ℕ) → length cursors ≡ length (allocs w) → Fits backward (visitedPieces w) cursors → Scatters backward (visitedPieces w) cursors out cursors′ out′ → a < length cursors
+      → numberAt cursors a ≡ numberAt cursors′ a + length (intervalWords (merged w a))
+  tops-are a wide f s h =
+      let e : length (piecesOf a (visitedPieces w)) ≡ length (intervalWords (merged w a)) = sym (length-in-order backward a (visitedPieces w)) ∙ ap length (visited-back w (stage .well-formed) a (omega arith) (omega (arith, allocations-few stage))) in
+      omega (arith, scatters-cursor a h s, e, f .inside a h)

@@ -81,7 +81,7 @@ mark-told {w} d {a} l p q = sym (flag (marked w a)) ∙ ap (λ (k : ℕ). not (e
     flag true = refl
     flag false = refl
 
-interval-count : (is : List Interval) → length (intervalWords is) ≡ 3 * length is
+pub interval-count : (is : List Interval) → length (intervalWords is) ≡ 3 * length is
 interval-count [] = refl
 interval-count (i ∷ is) = let h = interval-count is in omega arith
 
@@ -96,7 +96,7 @@ kind-long : (k : AllocKind) → length (kindWords k) ≡ 3
 kind-long (AllocKind.Static size id) = refl
 kind-long (AllocKind.Dynamic local) = refl
 
-head-long : (w : List ℕ) (b o mark count : ℕ) → length (headWords w b o mark count) ≡ 8
+pub head-long : (w : List ℕ) (b o mark count : ℕ) → length (headWords w b o mark count) ≡ 8
 head-long w b o mark count = let l = length-append (kindWords (kindOf w o)) (mark ∷ count ∷ []) in omega (arith, kind-long (kindOf w o))
 
 -- the site of an allocation, from its key

@@ -21,7 +21,7 @@ use Rattle.sir_analyses.specs.Liveness.{has, exitSet, blockEnd, endOpen,
 use Rattle.sir_analyses.specs.Tables.{EntryWords}
 use Rattle.sir_analyses.specs.Stages.{LivenessStage, readsIn, writesIn, usesIn, defsIn, endsIn, exitsIn}
 use Rattle.sir_analyses.specs.Scanning.{closedBy}
-use Rattle.sir_analyses.specs.Scatter.{Pieces, forward, numberAt, Below, Fits}
+use Rattle.sir_analyses.specs.Scatter.{Pieces, Direction, numberAt, Below, Fits}
 use Rattle.sir_analyses.specs.IntervalPieces.{intervalPieces, closedPieces, openEnd, OpenEnds, operationPieces, startPieces}
 use Rattle.sir_analyses.proofs.LivenessProof.{exit-size}
 use Rattle.sir_analyses.proofs.Stepping.{entry-shows}
@@ -205,5 +205,5 @@ module _ {w live : List ℕ} (stage : LivenessStage w live) {b : ℕ} (l : b < b
           (split v (locals w))
 
 -- pieces that are those of a definition can be put where those can
-pub close-ready : {n : ℕ} {ps qs : Pieces} {cursors : List ℕ} → qs ≡ ps → length cursors ≡ n → Below n ps → Fits forward ps cursors → Below (length cursors) qs × Fits forward qs cursors
+pub close-ready : {d : Direction} {n : ℕ} {ps qs : Pieces} {cursors : List ℕ} → qs ≡ ps → length cursors ≡ n → Below n ps → Fits d ps cursors → Below (length cursors) qs × Fits d qs cursors
 close-ready e l below fits = (rw (e, l) below, rw e fits)

@@ -27,7 +27,7 @@ use Rattle.sir_analyses.proofs.Marks.{reach-length}
 use Rattle.sir_analyses.proofs.Tables.{adds-as, adds-then, adds-none, adds-one, mapped-next, cleared-row, cleared-long}
 use Rattle.sir_analyses.proofs.Parts.{length-part, putBack, put-part, put-low, put-high, put-long}
 use Rattle.sir_analyses.proofs.LivenessTables.{cleared-part}
-use Rattle.sir_analyses.proofs.Discovery.{keys-long}
+use Rattle.sir_analyses.proofs.PointerTables.{allocations-few}
 use Rattle.sir_analyses.proofs.AllAnswers.{zero-at}
 use Rattle.sir_analyses.proofs.AllocationWords.{below-next}
 use Rattle.sir_analyses.proofs.AllocationPieces.{own-unmarked, own-marked, own-unknown}
@@ -182,10 +182,6 @@ module _ {w pointers : List ℕ} (stage : PointerStage w pointers) where
   unmarked-most : (v : ℕ) → unmarkedOwner pointers v ≤ length (allocs w)
   unmarked-most v = ⊎-elim (λ (q : unmarkedOwner pointers v ≡ 0). omega arith) (λ (q : unmarkedOwner pointers v ≡ owner v). omega (arith, stage .discovered .owner-known v)) (owner-cases pointers v)
 
-  -- there are no more of them than the rows of a table
-  pub allocs-few : length (allocs w) ≤ 512
-  allocs-few = omega (arith, stage .few, ap length (stage .sites-are), keys-long w, length-part 2 (getD pointers 0 0) pointers (omega (arith, stage .long, stage .few)))
-
   module _ {owned₀ rows : List ℕ} (words : List ℕ) (e : owned₀ ≡ replicate 4608 0)
       (adds : Adds (part 0 4096 owned₀) (λ a v. ltb v (locals w) && eqb (unmarkedOwner pointers v) (a + 1)) rows)
       (long : length words ≡ 512)
@@ -230,7 +226,7 @@ module _ {w pointers : List ℕ} (stage : PointerStage w pointers) where
     }
       where
         few : (v : ℕ) (t : Bool) → ownerIn owned₂ v ≡ cond t (unmarkedOwner pointers v) 0 → ownerIn owned₂ v ≤ 512
-        few v true q = omega (arith, unmarked-most v, allocs-few)
+        few v true q = omega (arith, unmarked-most v, allocations-few stage)
         few v false q = omega arith
 
         by : (a v : ℕ) (t : Bool) → (t && eqb (unmarkedOwner pointers v) (a + 1)) ≡ eqb (cond t (unmarkedOwner pointers v) 0) (a + 1)

@@ -1,24 +1,25 @@
 -- The ends that are open for the allocations in a block, as its operations are passed backwards with the live set.
 use mathlib.Core.Path.{_≡_, refl, sym, ap, ap₂, _∙_}
-use mathlib.Core.Bool.{Bool, true, false, not, _&&_, _||_, cond}
+use mathlib.Core.Bool.{Bool, true, false, not, _&&_, _||_, cond, and-false}
 use mathlib.Core.List.{List, [], _∷_, map}
 use Prim.Native.Nat.{ℕ, zero, suc, _+_, _*_, _≤_, _<_}
 use native.Mathlib.Omega.{arith}
-use lib.ListN.{length}
+use lib.ListN.{length, replicate}
 use lib.Dec.{eqb}
 use borrow.Author.Tests.{eq-eqb, eqb-true, eqb-false}
 use Rattle.plank_core.specs.Lists.{count, upto, range, mem, any, _∈_}
-use Rattle.plank_core.specs.laws.Lists.{or-false-left, or-false-right, or-true-right}
+use Rattle.plank_core.specs.laws.Lists.{or-false-left, or-false-right, or-true-right, and-true-left, and-true-right, any-find}
 use Rattle.plank_core.specs.DenseIndexSet.{contains, members, meets, rowOf}
 use Rattle.plank_core.specs.laws.DenseIndexSet.{contains-row}
 use Rattle.sir_data.specs.Records.{blocks, operations, locals, blockWord, ops}
 use Rattle.sir_data.specs.WellFormed.{WellFormed}
 use Rattle.sir_analyses.specs.Liveness.{has, blockEnd, endOpen}
 use Rattle.sir_analyses.specs.Stages.{LivenessStage, readsIn, writesIn, endsIn, exitsIn}
-use Rattle.sir_analyses.specs.Tables.{Same}
+use Rattle.sir_analyses.specs.Tables.{Adds}
 use Rattle.sir_analyses.specs.Scatter.{numberAt}
 use Rattle.sir_analyses.specs.IntervalPieces.{closedPieces}
 use Rattle.sir_analyses.specs.AllocationPieces.{ownReach, sweptTo, livesAt, sweptEnd, SweptEnds, sweptBy, sweptPieces, openPieces, ownRowsIn, ownerIn, OwnedTables, ownsOne, livesIn, side, LiveOwners, SplitOwners}
+use Rattle.sir_analyses.proofs.Tables.{cleared-row, cleared-long}
 use Rattle.sir_analyses.proofs.Scans.{liveIn}
 use Rattle.sir_analyses.proofs.SweepSteps.{note-open}
 use Rattle.sir_analyses.proofs.MergedIntervals.{note-till, lives-none, lives-more, live-test}
@@ -76,6 +77,43 @@ map-mem f v (x ∷ xs) e = go (eqb v x) refl e (map-mem f v xs)
     go : (t : Bool) → eqb v x ≡ t → (t || mem v xs) ≡ true → (mem v xs ≡ true → mem (f v) (map f xs) ≡ true) → (eqb (f v) (f x) || mem (f v) (map f xs)) ≡ true
     go true q r rest = rw (eq-eqb (f v) (f x) (ap f (eqb-true v x q)))
     go false q r rest = or-true-right (eqb (f v) (f x)) (mem (f v) (map f xs)) (rest r)
+
+-- ---- the owners of some locals, put in two rows of an empty table
+
+module _ (owned set ids : List ℕ) {split : List ℕ} (t₀ : List ℕ) (e : t₀ ≡ replicate 16 0) (adds : Adds t₀ (λ r a. ownsOne owned ids a && eqb r (side owned set a)) split) where
+  split-told : (r a : ℕ) → r < 2 → a < 512 → contains split (512 * r + a) ≡ (ownsOne owned ids a && eqb r (side owned set a))
+  split-told r a q h = adds .same r a (omega (arith, cleared-long t₀ 16 e)) h ∙ ap (λ (t : Bool). t || (ownsOne owned ids a && eqb r (side owned set a))) (cleared-row t₀ 16 r a e)
+
+  -- of all locals of a set
+  pub live-listed : {w : List ℕ} → OwnedTables w owned → ids ≡ members set → {listed : List ℕ} → listed ≡ members (rowOf split 0) → LiveOwners owned set listed
+  unfolding meets
+  live-listed tables f l = record {
+    owners = rowOf split 0;
+    listed = l;
+    live-is = λ a h. contains-row split 0 a h ∙ split-told 0 a (omega arith) h ∙ go a h (livesIn owned set a) refl;
+  }
+    where
+      owning : (a : ℕ) → a < 512 → livesIn owned set a ≡ true → ownsOne owned ids a ≡ true
+      owning a h t =
+          let r = any-find (λ v. contains (rowOf (ownRowsIn owned) a) v && contains set v) 0 512 t in
+          let v = r .0 in
+          let x : contains (rowOf (ownRowsIn owned) a) v ≡ true = and-true-left (contains (rowOf (ownRowsIn owned) a) v) (contains set v) (r .3) in
+          let y : contains set v ≡ true = and-true-right (contains (rowOf (ownRowsIn owned) a) v) (contains set v) (r .3) in
+          let o : ownerIn owned v ≡ a + 1 = eqb-true (ownerIn owned v) (a + 1) (sym (tables .row-is a v h (r .2)) ∙ sym (contains-row (ownRowsIn owned) a v (r .2)) ∙ x) in
+          ap (λ (i : ℕ). mem i (map (ownerIn owned) ids)) (sym o) ∙ map-mem (ownerIn owned) v ids (ap (mem v) f ∙ mem-members set v (r .2) ∙ y)
+
+      go : (a : ℕ) → a < 512 → (t : Bool) → livesIn owned set a ≡ t → (ownsOne owned ids a && eqb 0 (cond t 0 1)) ≡ t
+      go a h true q = ap (λ (t : Bool). t && true) (owning a h q)
+      go a h false q = and-false (ownsOne owned ids a)
+
+  -- of the locals that operation o reads or writes
+  pub touched-split : (live : List ℕ) (o : ℕ) (touched : List ℕ) → ids ≡ members touched → ((v : ℕ) → v < 512 → contains touched v ≡ (contains (writesIn live) (512 * o + v) || contains (readsIn live) (512 * o + v))) → SplitOwners live o owned set split
+  touched-split live o touched f g = record {
+    touched = ids;
+    touched-is = λ v h. ap (mem v) f ∙ mem-members touched v h ∙ g v h;
+    long = adds .long ∙ cleared-long t₀ 16 e;
+    split-is = split-told;
+  }
 
 module _ {w live : List ℕ} (stage : LivenessStage w live) {owned : List ℕ} (tables : OwnedTables w owned) {b : ℕ} (l : b < blocks w) where
   good : WellFormed w

@@ -36,7 +36,7 @@ ghost use Rattle.sir_analyses.specs.Scatter.{numberAt, forward, Below, F
 ghost use Rattle.sir_analyses.specs.IntervalPieces.{closedPieces, OpenEnds, operationsPieces, startPieces, blockPieces, localPieces};
 
 // The members of a row of a table, ascending, to the front of `ids`: how many.
-fn list_row(table: &[u64], row: usize, ids: &mut [u32]) -> usize
+pub fn list_row(table: &[u64], row: usize, ids: &mut [u32]) -> usize
     requires { ⌜ (8 * row + 8 ≤ length (now table)) × (length (now ids) ≡ 512) ⌝ }
     ensures { λ r. ⌜ (r ≤ 512) × (take r (now (ids .exit)) ≡ members (rowOf (now (table .entry)) row)) ⌝ }
 {
@@ -69,7 +69,7 @@ fn close_ends(
 }
 
 // An end for each of some locals.
-fn set_ends(ids: &[u32], to: u32, till: &mut [u32])
+pub fn set_ends(ids: &[u32], to: u32, till: &mut [u32])
     requires { ⌜ ((v : ℕ) → v ∈ now ids → v < length (now till)) ⌝ }
     ensures { λ _. ⌜ ((v : ℕ) → numberAt (now (till .exit)) v ≡ cond (mem v (now (ids .entry))) to (numberAt (now (till .entry)) v)) ⌝ }
 {
@@ -81,7 +81,7 @@ fn set_ends(ids: &[u32], to: u32, till: &mut [u32])
 }
 
 // An end for each of some locals for which none is open.
-fn open_ends(ids: &[u32], to: u32, till: &mut [u32])
+pub fn open_ends(ids: &[u32], to: u32, till: &mut [u32])
     requires { ⌜ ((v : ℕ) → v ∈ now ids → v < length (now till)) ⌝ }
     ensures { λ _. ⌜ ((v : ℕ) → numberAt (now (till .exit)) v ≡ cond (mem v (now (ids .entry)) && eqb (numberAt (now (till .entry)) v) 0) to (numberAt (now (till .entry)) v)) ⌝ }
 {

@@ -60,15 +60,29 @@ fn kind_words(k: AllocKind) -> KindWords
 }
 
 // The first eight words of an allocation's record.
-pub fn put_head(words: &[u32], site: AllocSite, mark: u32, count: u32, out: &mut [u8]) -> usize
+pub struct AllocHead {
+    pub words: [u32; 8],
+}
+
+pub fn alloc_head(words: &[u32], site: AllocSite, mark: u32, count: u32) -> AllocHead
     requires { ⌜ WellFormed (now words) ⌝ }
     requires { ⌜ (site .op .0 < operations (now words)) × (isAlloc (code (now words) (site .op .0)) ≡ true) ⌝ }
-    ensures { λ r. ⌜ Puts 0 (headWords (now (words .entry)) (site .block .0) (site .op .0) mark count) (now (out .entry)) (now (out .exit)) r ⌝ }
+    ensures { λ r. ⌜ r .words ≡ headWords (now (words .entry)) (site .block .0) (site .op .0) mark count ⌝ }
 {
     let b = site.block;
     let o = site.op;
     let base = base_ptr(words, o);
     let k = kind_words(alloc_kind(words, o));
     let head = [b.0, o.0, base.0, k.kind, k.size, k.id, mark, count];
-    put_words(out, 0, &head)
+    AllocHead { words: head }
+}
+
+// The same, put at the front of an answer.
+pub fn put_head(words: &[u32], site: AllocSite, mark: u32, count: u32, out: &mut [u8]) -> usize
+    requires { ⌜ WellFormed (now words) ⌝ }
+    requires { ⌜ (site .op .0 < operations (now words)) × (isAlloc (code (now words) (site .op .0)) ≡ true) ⌝ }
+    ensures { λ r. ⌜ Puts 0 (headWords (now (words .entry)) (site .block .0) (site .op .0) mark count) (now (out .entry)) (now (out .exit)) r ⌝ }
+{
+    let head = alloc_head(words, site, mark, count);
+    put_words(out, 0, &head.words)
 }

@@ -69,7 +69,7 @@ fn put_interval_before(run: &mut [u32], n: usize, b: BlockId, from: u32, to: u32
 }
 
 // The locals that are live after the operations of block b, to an empty set: those live at its exit, and those read there.
-fn live_after(live: &[u64], b: BlockId, set: &mut [u64])
+pub fn live_after(live: &[u64], b: BlockId, set: &mut [u64])
     requires { ⌜ (length (now live) ≡ 24576) × (b .0 < 256) × (now set ≡ replicate 8 0) ⌝ }
     ensures { λ _. ⌜ ((v : ℕ) → v < 512 → contains (now (set .exit)) v ≡ (contains (exitsIn (now (live .entry))) (512 * b .0 + v) || contains (endsIn (now (live .entry))) (512 * b .0 + v))) ⌝ }
 {
@@ -79,7 +79,7 @@ fn live_after(live: &[u64], b: BlockId, set: &mut [u64])
 }
 
 // The locals that are live before operation o, from those live after it.
-fn live_before(live: &[u64], o: OpIdx, set: &mut [u64])
+pub fn live_before(live: &[u64], o: OpIdx, set: &mut [u64])
     requires { ⌜ (length (now live) ≡ 24576) × (o .0 < 1024) × (length (now set) ≡ 8) ⌝ }
     ensures { λ _. ⌜ ((v : ℕ) → v < 512 → contains (now (set .exit)) v ≡ ((contains (now (set .entry)) v && not (contains (writesIn (now (live .entry))) (512 * o .0 + v))) || contains (readsIn (now (live .entry))) (512 * o .0 + v))) ⌝ }
 {

@@ -9,7 +9,8 @@ use mathlib.Core.Bool.{_&&_}
 use Rattle.sir_data.specs.Records.{locals}
 use Rattle.sir_analyses.specs.Tables.{Adds}
 use Rattle.sir_analyses.specs.AllocationPieces.{unmarkedOwner}
-use Rattle.sir_analyses.proofs.OwnedTables.{ownedTo, rows-none, rows-more, rows-skip, allocs-few}
+use Rattle.sir_analyses.proofs.PointerTables.{allocations-few}
+use Rattle.sir_analyses.proofs.OwnedTables.{ownedTo, rows-none, rows-more, rows-skip}
 use Rattle.sir_analyses.proofs.owned_tables.own_rows.Statement.{statement}
 use Rattle.sir_analyses.proofs.owned_tables.own_rows.Tie as tie
 
@@ -35,7 +36,7 @@ unmarked-owner-requires c κs =
     let at-loop = c .before in
     let at-local-count = at-loop .before in
     let start = at-local-count .before .before .before .before in
-    (start .pre .0 .long, omega (arith, at-loop-test .loop-test .taken, at-local-count .local-count .ensures, start .pre .0 .well-formed .sized .locals-most), omega (arith, start .pre .0 .discovered .owner-known (at-loop .loop .v), allocs-few (start .pre .0)))
+    (start .pre .0 .long, omega (arith, at-loop-test .loop-test .taken, at-local-count .local-count .ensures, start .pre .0 .well-formed .sized .locals-most), omega (arith, start .pre .0 .discovered .owner-known (at-loop .loop .v), allocations-few (start .pre .0)))
 
 add-v : tie.Need-add-v Inv-loop μ-loop
 add-v c =
