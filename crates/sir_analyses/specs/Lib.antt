@@ -14,6 +14,7 @@ pub mod SourceIntervals
 pub mod Kinds
 pub mod Discovery
 pub mod Answers
+pub mod All
 pub mod Calls
 pub mod Stages
 pub mod Loading

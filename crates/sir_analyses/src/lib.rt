@@ -1,4 +1,5 @@
 // Layer 3: the analyses of the source's files, what is read from them, and the questions that can be put to an image.
+pub mod all_sets;
 pub mod allocation_answers;
 pub mod allocation_liveness;
 pub mod allocation_words;
