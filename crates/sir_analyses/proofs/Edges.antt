@@ -35,19 +35,33 @@ module _ (w : List ℕ) (p b : ℕ) where
   pub edges-end : (i : ℕ) → length (successors w p) ≤ i → edgesLeft i ≡ []
   edges-end i h = rw (drop-of-length-le (successors w p) {i = i} h)
 
+-- what g gives of the visited blocks from p on
+module _ {B : Type 0} (w : List ℕ) (g : ℕ → List B) (p n : ℕ) where
+  abbrev pub visitedLeft : List B
+  visitedLeft = bind (keep (isVisited w) (range p n)) g
+
+  pub visited-step : p < n → isVisited w p ≡ true → visitedLeft ≡ g p ++ bind (keep (isVisited w) (range (p + 1) n)) g
+  visited-step h t = ap (λ (l : List ℕ). bind (keep (isVisited w) l) g) (range-next p n h) ∙ rw t
+
+  pub unvisited-step : p < n → isVisited w p ≡ false → visitedLeft ≡ bind (keep (isVisited w) (range (p + 1) n)) g
+  unvisited-step h t = ap (λ (l : List ℕ). bind (keep (isVisited w) l) g) (range-next p n h) ∙ rw t
+
+  pub visited-end : n ≤ p → visitedLeft ≡ []
+  visited-end h = rw (range-none p n h)
+
 module _ (w : List ℕ) (b p n : ℕ) where
   -- the predecessors from block p on
   abbrev pub predecessorsLeft : List ℕ
-  predecessorsLeft = bind (keep (isVisited w) (range p n)) (λ q. edgesFrom w q b)
+  predecessorsLeft = visitedLeft w (λ q. edgesFrom w q b) p n
 
   pub visited-next : p < n → isVisited w p ≡ true → predecessorsLeft ≡ edgesFrom w p b ++ bind (keep (isVisited w) (range (p + 1) n)) (λ q. edgesFrom w q b)
-  visited-next h t = ap (λ (l : List ℕ). bind (keep (isVisited w) l) (λ q. edgesFrom w q b)) (range-next p n h) ∙ rw t
+  visited-next = visited-step w (λ q. edgesFrom w q b) p n
 
   pub unvisited-next : p < n → isVisited w p ≡ false → predecessorsLeft ≡ bind (keep (isVisited w) (range (p + 1) n)) (λ q. edgesFrom w q b)
-  unvisited-next h t = ap (λ (l : List ℕ). bind (keep (isVisited w) l) (λ q. edgesFrom w q b)) (range-next p n h) ∙ rw t
+  unvisited-next = unvisited-step w (λ q. edgesFrom w q b) p n
 
   pub none-left : n ≤ p → predecessorsLeft ≡ []
-  none-left h = rw (range-none p n h)
+  none-left = visited-end w (λ q. edgesFrom w q b) p n
 
 -- ---- how many predecessors a block can have
 

@@ -11,7 +11,7 @@ use lib.Dec.{eqb}
 use borrow.Author.Tests.{eq-eqb, ne-eqb, eqb-true, eqb-false}
 use Rattle.plank_core.specs.Lists.{range, upto, bind, mem, _∈_}
 use Rattle.plank_core.specs.laws.Lists.{none}
-use Rattle.plank_core.specs.laws.Loops.{range-next, range-none, range-all, length-count, length-map-count, bind-append, bind-bind}
+use Rattle.plank_core.specs.laws.Loops.{range-next, range-none, range-all, length-count, length-map-count, bind-append, bind-same, bind-bind}
 use Rattle.sir_data.specs.Records.{blocks, operations, operand, control, field, blockWord, opWord, ops, ins, condition, outputs}
 use Rattle.sir_data.specs.WellFormed.{WellFormed}
 use Rattle.sir_analyses.specs.Order.{blocksRpo}
@@ -136,10 +136,10 @@ module _ (w : List ℕ) (v b : ℕ) where
 
 -- ---- a block after the other, and all of it is the answer
 
-pub block-next : (g : ℕ → List ℕ) (rpo : List ℕ) (i : ℕ) → i < length rpo → bind (drop i rpo) g ≡ g (getD rpo i 0) ++ bind (drop (i + 1) rpo) g
+pub block-next : {B : Type 0} (g : ℕ → List B) (rpo : List ℕ) (i : ℕ) → i < length rpo → bind (drop i rpo) g ≡ g (getD rpo i 0) ++ bind (drop (i + 1) rpo) g
 block-next g rpo i h = ap (λ (l : List ℕ). bind l g) (drop-cons rpo i 0 h ∙ ap (λ (k : ℕ). getD rpo i 0 ∷ drop k rpo) (sym (add-one i)))
 
-pub block-end : (g : ℕ → List ℕ) (rpo : List ℕ) (i : ℕ) → length rpo ≤ i → bind (drop i rpo) g ≡ []
+pub block-end : {B : Type 0} (g : ℕ → List B) (rpo : List ℕ) (i : ℕ) → length rpo ≤ i → bind (drop i rpo) g ≡ []
 block-end g rpo i h = ap (λ (l : List ℕ). bind l g) (drop-of-length-le rpo {i = i} h)
 
 pub bind-each : {B : Type 0} (g h : ℕ → List B) (xs : List ℕ) → ((x : ℕ) → x ∈ xs → g x ≡ h x) → bind xs g ≡ bind xs h
@@ -153,37 +153,47 @@ fixed c [] (y ∷ ys) e = absurd (let z : 0 ≡ suc (length ys) = e in omega ari
 fixed c (x ∷ xs) [] e = absurd (let z : suc (length xs) ≡ 0 = e in omega arith)
 fixed c (x ∷ xs) (y ∷ ys) e = ap (λ (l : List ℕ). c ++ l) (fixed c xs ys (omega arith))
 
-useWords : Use → List ℕ
+-- the three words of a use
+abbrev useWords : Use → List ℕ
 useWords u = u .block ∷ u .kind ∷ u .place ∷ []
 
 bind-map : (f : ℕ → Use) (xs : List ℕ) → bind (map f xs) useWords ≡ bind xs (λ k. useWords (f k))
 bind-map f [] = refl
 bind-map f (x ∷ xs) = ap (λ (l : List ℕ). useWords (f x) ++ l) (bind-map f xs)
 
-module _ (w : List ℕ) (good : WellFormed w) (v : ℕ) {counts : List ℕ} (k : InputCounts w v counts) where
-  operation-words : (b : ℕ) → b < blocks w → operationUses w counts b ≡ bind (bind (ops w b) (λ o. map (λ k. record { block = b; kind = 0; place = o }) (positions v (ins w o) 0))) useWords
-  unfolding operationUses sameUses useWords
-  operation-words b l =
-      bind-each (λ o. bind (upto (getD counts o 0)) (λ k. b ∷ 0 ∷ o ∷ [])) (λ o. bind (map (λ k. record { block = b; kind = 0; place = o }) (positions v (ins w o) 0)) useWords) (ops w b)
-      (λ o m.
-      fixed (b ∷ 0 ∷ o ∷ []) (upto (getD counts o 0)) (positions v (ins w o) 0) (length-count 0 (getD counts o 0) ∙ k .count-is o (good .in-range .op b o l m))
-      ∙ sym (bind-map (λ k. record { block = b; kind = 0; place = o }) (positions v (ins w o) 0)))
-      ∙ sym (bind-bind (λ o. map (λ k. record { block = b; kind = 0; place = o }) (positions v (ins w o) 0)) useWords (ops w b))
+-- the words of the uses by block b's operations, each place of v among the inputs
+abbrev pub operationWords : List ℕ → ℕ → ℕ → List ℕ
+operationWords w v b = bind (ops w b) (λ o. bind (positions v (ins w o) 0) (λ k. b ∷ 0 ∷ o ∷ []))
 
-  block-words : (b : ℕ) → b < blocks w → blockUses w counts v b ≡ bind (usesIn w v b) useWords
-  unfolding useWords
-  block-words b l =
-      let A : List Use = bind (ops w b) (λ o. map (λ k. record { block = b; kind = 0; place = o }) (positions v (ins w o) 0)) in
-      let C : List Use = map (λ k. record { block = b; kind = 1; place = 0 }) (positions v (condition w b) 0) in
-      let D : List Use = map (λ k. record { block = b; kind = 2; place = k }) (positions v (outputs w b) 0) in
-      ap₂ (λ x y. x ++ y) (ap₂ (λ x y. x ++ y) (operation-words b l) (sym (bind-map (λ k. record { block = b; kind = 1; place = 0 }) (positions v (condition w b) 0)))) (sym (bind-map (λ k. record { block = b; kind = 2; place = k }) (positions v (outputs w b) 0)))
-      ∙ sym (bind-append useWords (A ++ C) D ∙ ap (λ (l : List ℕ). l ++ bind D useWords) (bind-append useWords A C))
+-- the answer, block by block
+pub answer-blocks : (w : List ℕ) (v : ℕ) → usesAnswer w v ≡ bind (blocksRpo w) (λ b. operationWords w v b ++ conditionUses w v b ++ outputUses w v b)
+answer-blocks w v = bind-bind (usesIn w v) useWords (blocksRpo w) ∙ bind-same (λ b. bind (usesIn w v b) useWords) (λ b. operationWords w v b ++ conditionUses w v b ++ outputUses w v b) (blocksRpo w) one
+  where
+    one : (b : ℕ) → bind (usesIn w v b) useWords ≡ operationWords w v b ++ conditionUses w v b ++ outputUses w v b
+    one b =
+        let A : List Use = bind (ops w b) (λ o. map (λ k. record { block = b; kind = 0; place = o }) (positions v (ins w o) 0)) in
+        let C : List Use = map (λ k. record { block = b; kind = 1; place = 0 }) (positions v (condition w b) 0) in
+        let D : List Use = map (λ k. record { block = b; kind = 2; place = k }) (positions v (outputs w b) 0) in
+        let a : bind A useWords ≡ operationWords w v b =
+        bind-bind (λ o. map (λ k. record { block = b; kind = 0; place = o }) (positions v (ins w o) 0)) useWords (ops w b)
+        ∙ bind-same (λ o. bind (map (λ k. record { block = b; kind = 0; place = o }) (positions v (ins w o) 0)) useWords) (λ o. bind (positions v (ins w o) 0) (λ k. b ∷ 0 ∷ o ∷ [])) (ops w b)
+        (λ o. bind-map (λ k. record { block = b; kind = 0; place = o }) (positions v (ins w o) 0)) in
+        bind-append useWords (A ++ C) D
+        ∙ ap₂ (λ x y. x ++ y) (bind-append useWords A C ∙ ap₂ (λ x y. x ++ y) a (bind-map (λ k. record { block = b; kind = 1; place = 0 }) (positions v (condition w b) 0)))
+        (bind-map (λ k. record { block = b; kind = 2; place = k }) (positions v (outputs w b) 0))
+
+module _ (w : List ℕ) (good : WellFormed w) (v : ℕ) {counts : List ℕ} (k : InputCounts w v counts) where
+  operation-words : (b : ℕ) → b < blocks w → operationUses w counts b ≡ operationWords w v b
+  unfolding operationUses sameUses
+  operation-words b l =
+      bind-each (λ o. bind (upto (getD counts o 0)) (λ k. b ∷ 0 ∷ o ∷ [])) (λ o. bind (positions v (ins w o) 0) (λ k. b ∷ 0 ∷ o ∷ [])) (ops w b)
+      (λ o m. fixed (b ∷ 0 ∷ o ∷ []) (upto (getD counts o 0)) (positions v (ins w o) 0) (length-count 0 (getD counts o 0) ∙ k .count-is o (good .in-range .op b o l m)))
 
   pub uses-are : usesOf w counts v ≡ usesAnswer w v
-  unfolding useWords
   uses-are =
-      bind-each (blockUses w counts v) (λ b. bind (usesIn w v b) useWords) (blocksRpo w) (λ b m. block-words b (blocks-below w good b m))
-      ∙ sym (bind-bind (usesIn w v) useWords (blocksRpo w))
+      bind-each (blockUses w counts v) (λ b. operationWords w v b ++ conditionUses w v b ++ outputUses w v b) (blocksRpo w)
+      (λ b m. ap (λ (l : List ℕ). l ++ conditionUses w v b ++ outputUses w v b) (operation-words b (blocks-below w good b m)))
+      ∙ sym (answer-blocks w v)
 
   -- ---- how long it can be
 

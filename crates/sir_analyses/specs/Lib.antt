@@ -1,6 +1,8 @@
 pub mod Order
 pub mod Visiting
 pub mod Writing
+pub mod Scatter
+pub mod Pieces
 pub mod Liveness
 pub mod Uses
 pub mod Tables

@@ -1,5 +1,7 @@
 // Layer 3: the analyses of the source's files, what is read from them, and the questions that can be put to an image.
+pub mod all_predecessors;
 pub mod all_sets;
+pub mod all_uses;
 pub mod allocation_answers;
 pub mod allocation_liveness;
 pub mod allocation_words;
@@ -17,4 +19,5 @@ pub mod pointer_links;
 pub mod predecessors;
 pub mod questions;
 pub mod reverse_post_order;
+pub mod scatter;
 pub mod stages;
