@@ -113,7 +113,7 @@ module _ (w : List ℕ) {a b o : ℕ} (good : WellFormed w) (x : Site w a b o) w
   pub site-known : (o < operations w) × (isAlloc (code w o) ≡ true)
   site-known = rw (x .op-is) (alloc-op w good a (x .known))
 
-  head-is : (m n : ℕ) → m ≡ oneIf (marked w a) → n ≡ length (merged w a) → headWords w b o m n ++ intervalWords (merged w a) ≡ allocationAnswer w a
+  pub head-is : (m n : ℕ) → m ≡ oneIf (marked w a) → n ≡ length (merged w a) → headWords w b o m n ++ intervalWords (merged w a) ≡ allocationAnswer w a
   head-is m n p q =
       rw (x .op-is, x .block-is, p, q)
       (ap (λ (l : List ℕ). allocAt w a .block ∷ allocAt w a .op ∷ base w (allocAt w a) ∷ l) (append-assoc (kindWords (kindOf w (allocAt w a .op))) (oneIf (marked w a) ∷ length (merged w a) ∷ []) (intervalWords (merged w a))))

@@ -31,12 +31,12 @@ module _ {w : List ℕ} (good : WellFormed w) where
   pub tested-small : (b v : ℕ) → b < blocks w → condition w b ≡ v ∷ [] → v < 512
   tested-small b v l e = small (good .in-range .tested b v l (rw e (List·Memᴰ·head refl)))
 
-  end-below : (b v : ℕ) → b < blocks w → v ∈ endReads w b → v < locals w
+  pub end-below : (b v : ℕ) → b < blocks w → v ∈ endReads w b → v < locals w
   end-below b v l m = ⊎-elim (good .in-range .tested b v l) (returned-below w good b v l) (List·Memᴰ·append-cases (condition w b) m)
 
   -- ---- no set has more than the locals
 
-  above : (v : ℕ) (xs : List ℕ) → locals w ≤ v → ((x : ℕ) → x ∈ xs → x < locals w) → mem v xs ≡ false
+  pub above : (v : ℕ) (xs : List ℕ) → locals w ≤ v → ((x : ℕ) → x ∈ xs → x < locals w) → mem v xs ≡ false
   above v xs h k = mem-not v xs (λ m. let l = k v m in omega arith)
 
   read-none : (v : ℕ) (xs os : List ℕ) → locals w ≤ v → ((x : ℕ) → x ∈ xs → x < locals w) → ((o : ℕ) → o ∈ os → o < operations w) → readFirst w xs os v ≡ false

@@ -42,6 +42,8 @@ pub mod Marks
 pub mod PointerLinks
 pub mod Merging
 pub mod Scans
+pub mod IntervalPieces
+pub mod OpenEnds
 pub mod Lifetime
 pub mod SourceDiscovery
 pub mod SourceSteps
@@ -60,4 +62,5 @@ pub mod SweepSteps
 pub mod SweepProof
 pub mod MergedIntervals
 pub mod AllocationWords
+pub mod AllocationPieces
 pub mod Proved

@@ -89,7 +89,7 @@ meets-live reach live s x l e f = same-tests (any both (upto 512)) (nonempty (me
 -- ---- one step of the definition
 
 module _ (b o : ℕ) (t : Bool) (c : Scan) where
-  note-till : note b o t c .open′ ≡ cond t (cond (eqb (c .open′) 0) (o + 1) (c .open′)) 0
+  pub note-till : note b o t c .open′ ≡ cond t (cond (eqb (c .open′) 0) (o + 1) (c .open′)) 0
   note-till = go t ∙ ap (λ (k : ℕ). cond t (cond (eqb (c .open′) 0) k (c .open′)) 0) (sym (add-one o))
     where
       go : (t : Bool) → note b o t c .open′ ≡ cond t (cond (eqb (c .open′) 0) (suc o) (c .open′)) 0
@@ -97,14 +97,14 @@ module _ (b o : ℕ) (t : Bool) (c : Scan) where
       go false = refl
 
 -- an interval that is closed goes in front
-shut-words : (b from : ℕ) (c : Scan) → intervalWords (shut b from c .closed) ≡ intervalWords (closing b from (c .open′)) ++ intervalWords (c .closed)
+pub shut-words : (b from : ℕ) (c : Scan) → intervalWords (shut b from c .closed) ≡ intervalWords (closing b from (c .open′)) ++ intervalWords (c .closed)
 shut-words b from c = go (eqb (c .open′) 0)
   where
     go : (z : Bool) → intervalWords (cond z [] (record { block = b; from = from; to = c .open′ } ∷ []) ++ c .closed) ≡ intervalWords (cond z [] (record { block = b; from = from; to = c .open′ } ∷ [])) ++ intervalWords (c .closed)
     go true = refl
     go false = refl
 
-note-words : (b o : ℕ) (t : Bool) (c : Scan) → intervalWords (note b o t c .closed) ≡ intervalWords (closing b (o + 1) (cond t 0 (c .open′))) ++ intervalWords (c .closed)
+pub note-words : (b o : ℕ) (t : Bool) (c : Scan) → intervalWords (note b o t c .closed) ≡ intervalWords (closing b (o + 1) (cond t 0 (c .open′))) ++ intervalWords (c .closed)
 note-words b o true c = refl
 note-words b o false c = shut-words b (suc o) c ∙ ap (λ (k : ℕ). intervalWords (closing b k (c .open′)) ++ intervalWords (c .closed)) (sym (add-one o))
 

@@ -45,7 +45,7 @@ module _ (w : List ℕ) (b v o : ℕ) (c : Scan) where
 
 -- ---- words
 
-words-append : (xs ys : List Interval) → intervalWords (xs ++ ys) ≡ intervalWords xs ++ intervalWords ys
+pub words-append : (xs ys : List Interval) → intervalWords (xs ++ ys) ≡ intervalWords xs ++ intervalWords ys
 words-append [] ys = refl
 words-append (x ∷ xs) ys = ap (λ (l : List ℕ). x .block ∷ x .from ∷ x .to ∷ l) (words-append xs ys)
 

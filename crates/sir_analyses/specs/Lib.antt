@@ -22,7 +22,9 @@ pub mod Stages
 pub mod Loading
 pub mod Questions
 pub mod Scanning
+pub mod IntervalPieces
 pub mod Sweep
+pub mod AllocationPieces
 pub mod Claims
 pub mod Walk
 pub mod Promise

@@ -1,4 +1,5 @@
 // Layer 3: the analyses of the source's files, what is read from them, and the questions that can be put to an image.
+pub mod all_intervals;
 pub mod all_predecessors;
 pub mod all_sets;
 pub mod all_uses;
