@@ -5,7 +5,7 @@
 //! a local; they are written out here from what the source does.
 
 mod allocations;
-mod codes;
+pub mod codes;
 mod flow;
 mod pages;
 mod records;
