@@ -7,7 +7,7 @@
  * slice as little-endian 32-bit words; bytes past it stay as they were. A refusal gives its number and length 0, and the
  * result slice keeps its bytes. Of several refusals that apply the first in the sequence of `enum sir_refusal` is given.
  *
- * The caller owes: memory of the stated length behind each pointer, readable for the image and writable for the result,
+ * The caller owes: memory of the stated length at each pointer, readable for the image and writable for the result,
  * both for the time of the call; an image and a result slice that do not overlap; a null pointer only with length 0. Ids,
  * lengths and the bytes of the image may be any.
  *

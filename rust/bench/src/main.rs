@@ -28,7 +28,7 @@ mod stack;
 mod timing;
 
 use image_gen::rings::{self, Rings};
-use image_gen::{Kind, Size, generate, worst};
+use image_gen::{Kind, Rng, Size, extremes, generate, worst};
 use sir_analyses::calls;
 use sir_image::{Code, Image, MAX_LOCALS};
 use sir_questions::{AllocId, Question, QuestionKind};
@@ -107,6 +107,7 @@ fn groups(name: &str) -> Vec<Group> {
             .collect(),
         "worst" => worst(Size::FULL)
             .into_iter()
+            .chain(long_answers())
             .map(|(name, image)| {
                 // Plank takes each operand place of each block, and each local over each edge, in every pass.
                 let plank = name.starts_with("allocations") || name == "a ring";
@@ -115,6 +116,15 @@ fn groups(name: &str) -> Vec<Group> {
             .collect(),
         _ => Vec::new(),
     }
+}
+
+/// Images of which one answer for all ids nearly fills the result slice: all operations in every block, and so many operands
+/// in every call that 64 MiB just hold the uses, or the intervals where the calls also define what they take.
+fn long_answers() -> [(&'static str, Image); 2] {
+    let of = |operands, locals, outputs| {
+        extremes::spanning(Size { operands, locals, ..Size::FULL }, outputs, &mut Rng::new(0))
+    };
+    [("all uses in 63 MiB", of(21, 21, false)), ("all intervals in 60 MiB", of(128, 20, true))]
 }
 
 /// Times one allocation of legal images that are slow for Plank.
@@ -209,4 +219,21 @@ fn mean_times(image: &Timed, kind: &QuestionKind, plank: bool, result: &mut [u8]
     let library: Vec<_> = library.collect();
     let plank: Vec<_> = questions.iter().map(|&question| plank.then(|| image.plank(question)).flatten()).collect();
     [mean(&library), mean(&plank)]
+}
+
+#[cfg(test)]
+mod tests {
+    use super::*;
+    use paper_reference::Reference;
+
+    /// The long answers have room in the result slice, and not much more.
+    #[test]
+    fn long_answers_fit() {
+        for ((name, image), question) in long_answers().iter().zip([Question::AllUses, Question::AllIntervals]) {
+            let reference = Reference::new(&image.pages()).unwrap();
+            let length = reference.bytes_within(question, RESULT_BYTES).unwrap().len();
+            assert!(name.ends_with(&format!("in {} MiB", length >> 20)), "{name}: {length} bytes");
+            assert!(length > RESULT_BYTES / 10 * 9);
+        }
+    }
 }
