@@ -127,7 +127,11 @@ pub extern "C" fn sir_all_predecessors(image: &[u8], out: &mut [u8]) -> Answer
     ensures { λ r. ⌜ made (r .number) (r .length) (now (out .exit)) ≡ asked noRules (inWords (all blocks predecessorsAnswer)) (now (image .entry)) (now (out .entry)) ⌝ }
     ensures { λ r. ⌜ (refusal (now (image .entry)) ≡ 0 → Promise (payload (now (image .entry)))) ⌝ }
 {
-    ask(image, Question::OfOrder(OrderQuestion::AllPredecessors), out)
+    ask(
+        image,
+        Question::OfOrder(OrderQuestion::AllPredecessors),
+        out,
+    )
 }
 
 // The entry sets of all blocks, each after its length in words.
@@ -172,7 +176,11 @@ pub extern "C" fn sir_all_allocations(image: &[u8], out: &mut [u8]) -> Answer
     ensures { λ r. ⌜ made (r .number) (r .length) (now (out .exit)) ≡ asked noRules (inWords (all (λ w. length (allocs w)) allocationAnswer)) (now (image .entry)) (now (out .entry)) ⌝ }
     ensures { λ r. ⌜ (refusal (now (image .entry)) ≡ 0 → Promise (payload (now (image .entry)))) ⌝ }
 {
-    ask(image, Question::OfPointers(PointerQuestion::AllAllocations), out)
+    ask(
+        image,
+        Question::OfPointers(PointerQuestion::AllAllocations),
+        out,
+    )
 }
 
 // The owners of all locals, each after its length in words.
