@@ -10,12 +10,30 @@
 #include "sir_analyses.h"
 
 #include <stdio.h>
+#include <stdlib.h>
 
 /* One byte more than an image may have, so that a longer file is seen to be too long. */
 static uint8_t image[59904 + 1];
 
-/* Room for the longest answer: 256 blocks with at most 513 intervals each. */
-static uint8_t result[32 + 12 * 513 * 256];
+/* The most that is lent for an answer, in bytes. An image can be made whose allocations need more. */
+#define MOST ((size_t)1 << 28)
+
+static uint8_t *result;
+
+/* All allocations, in a slice that is made longer until the answer has room. */
+static sir_answer all_allocations(size_t length) {
+    for (size_t room = 1 << 16;; room *= 4) {
+        free(result);
+        result = malloc(room);
+        if (result == NULL) {
+            return (sir_answer){SIR_REFUSED_SHORT_RESULT, 0};
+        }
+        sir_answer answer = sir_all_allocations(image, length, result, room);
+        if (answer.number != SIR_REFUSED_SHORT_RESULT || room >= MOST) {
+            return answer;
+        }
+    }
+}
 
 static uint32_t word(size_t at) {
     const uint8_t *bytes = result + 4 * at;
@@ -37,11 +55,12 @@ static void print_interval(size_t at) {
     }
 }
 
-static void print_allocation(uint32_t allocation) {
-    int marked = word(6) == 1;
-    printf("a%u b%u op%u v%u %s", allocation, word(0), word(1), word(2), marked ? "escaped" : "kept");
-    for (uint32_t i = 0; i < word(7); i++) {
-        print_interval(8 + 3 * (size_t)i);
+/* The allocation whose words begin at an index. */
+static void print_allocation(uint32_t allocation, size_t at) {
+    int marked = word(at + 6) == 1;
+    printf("a%u b%u op%u v%u %s", allocation, word(at), word(at + 1), word(at + 2), marked ? "escaped" : "kept");
+    for (uint32_t i = 0; i < word(at + 7); i++) {
+        print_interval(at + 8 + 3 * (size_t)i);
     }
     printf("\n");
 }
@@ -54,15 +73,17 @@ int main(int count, char **words) {
     }
     size_t length = fread(image, 1, sizeof image, file);
     fclose(file);
-    for (uint32_t allocation = 0;; allocation++) {
-        sir_answer answer = sir_allocation(image, length, allocation, result, sizeof result);
-        if (answer.number == SIR_REFUSED_UNKNOWN_ID) {
-            return 0; /* no such allocation: all have been printed */
-        }
-        if (answer.number != 0) {
-            printf("refused %u\n", answer.number);
-            return 1;
-        }
-        print_allocation(allocation);
+    sir_answer answer = all_allocations(length);
+    if (answer.number != 0) {
+        printf("refused %u\n", answer.number);
+        return 1;
     }
+    /* Each allocation stands after its length in words. */
+    size_t at = 0;
+    for (uint32_t allocation = 0; at < answer.length / 4; allocation++) {
+        print_allocation(allocation, at + 1);
+        at += 1 + word(at);
+    }
+    free(result);
+    return 0;
 }

@@ -7,9 +7,12 @@
  * slice as little-endian 32-bit words; bytes past it stay as they were. A refusal gives its number and length 0, and the
  * result slice keeps its bytes. Of several refusals that apply the first in the sequence of `enum sir_refusal` is given.
  *
- * The caller owes: memory of the stated length behind each pointer, readable for the image and writable for the result,
+ * The caller owes: memory of the stated length at each pointer, readable for the image and writable for the result,
  * both for the time of the call; an image and a result slice that do not overlap; a null pointer only with length 0. Ids,
  * lengths and the bytes of the image may be any.
+ *
+ * A function `sir_all_..` puts a question about one id for all ids: it gives the answers for ids 0, 1, .. in turn, each after
+ * its length in words, which is one word. There is no id that could be unknown, so 13 is not given.
  *
  * Lifetimes hold within a function: a walk follows successor edges from a function's entry and takes a call as one step,
  * so where the intervals of two unmarked allocations do not meet, no run of a function awaits reads of both at once, and
@@ -31,7 +34,7 @@ extern "C" {
 #endif
 
 /* Goes up by one where a function, or what one of them takes or gives, is added or changed. */
-#define SIR_ANALYSES_VERSION 1
+#define SIR_ANALYSES_VERSION 2
 
 /* Why a question is refused, in the sequence in which the rules are asked. */
 enum sir_refusal {
@@ -106,6 +109,27 @@ sir_answer sir_owner(const uint8_t *image, size_t image_length, uint32_t local, 
  * sequence in which the blocks of the order meet them; the first number that is refused with 13 is their count. */
 sir_answer sir_allocation(const uint8_t *image, size_t image_length, uint32_t allocation, uint8_t *result,
                           size_t result_length);
+
+/* The predecessors of all blocks: for each its length in words, then sir_predecessors of it. */
+sir_answer sir_all_predecessors(const uint8_t *image, size_t image_length, uint8_t *result, size_t result_length);
+
+/* The entry sets of all blocks: for each its length in words, then sir_entry_set of it. */
+sir_answer sir_all_entry_sets(const uint8_t *image, size_t image_length, uint8_t *result, size_t result_length);
+
+/* The exit sets of all blocks: for each its length in words, then sir_exit_set of it. */
+sir_answer sir_all_exit_sets(const uint8_t *image, size_t image_length, uint8_t *result, size_t result_length);
+
+/* The uses of all locals: for each its length in words, then sir_uses of it. */
+sir_answer sir_all_uses(const uint8_t *image, size_t image_length, uint8_t *result, size_t result_length);
+
+/* The intervals of all locals: for each its length in words, then sir_intervals of it. */
+sir_answer sir_all_intervals(const uint8_t *image, size_t image_length, uint8_t *result, size_t result_length);
+
+/* The owners of all locals: for each its length in words, which is 1, then sir_owner of it. */
+sir_answer sir_all_owners(const uint8_t *image, size_t image_length, uint8_t *result, size_t result_length);
+
+/* All allocations: for each its length in words, then sir_allocation of it. */
+sir_answer sir_all_allocations(const uint8_t *image, size_t image_length, uint8_t *result, size_t result_length);
 
 #ifdef __cplusplus
 }

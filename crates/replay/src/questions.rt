@@ -1,5 +1,12 @@
 // Puts recorded questions by their numbers: every exported function is called here and nowhere else in this program.
 use sir_analyses::answers::Answer;
+use sir_capi::sir_all_allocations;
+use sir_capi::sir_all_entry_sets;
+use sir_capi::sir_all_exit_sets;
+use sir_capi::sir_all_intervals;
+use sir_capi::sir_all_owners;
+use sir_capi::sir_all_predecessors;
+use sir_capi::sir_all_uses;
 use sir_capi::sir_allocation;
 use sir_capi::sir_entry_set;
 use sir_capi::sir_exit_set;
@@ -19,11 +26,18 @@ fn unknown() -> Answer {
     }
 }
 
-// The questions without ids.
+// The questions without ids: about the image, and for all ids.
 fn ask_of_image(question: u32, image: &[u8], out: &mut [u8]) -> Answer {
     match question {
         0 => sir_order(image, out),
         8 => sir_rounds(image, out),
+        9 => sir_all_predecessors(image, out),
+        10 => sir_all_entry_sets(image, out),
+        11 => sir_all_exit_sets(image, out),
+        12 => sir_all_uses(image, out),
+        13 => sir_all_intervals(image, out),
+        14 => sir_all_allocations(image, out),
+        15 => sir_all_owners(image, out),
         _ => unknown(),
     }
 }

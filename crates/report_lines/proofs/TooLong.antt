@@ -4,8 +4,9 @@ use mathlib.Core.Bool.{Bool, true, false, not, _&&_, _||_, cond, or-assoc}
 use mathlib.Core.List.{List, [], _∷_, _++_, map, List·Memᴰ·head, List·Memᴰ·tail}
 use Prim.Native.Nat.{ℕ, _+_, _*_, _≤_, _<_}
 use native.Mathlib.Omega.{arith}
-use lib.ListN.{length, take, drop, length-map}
-use lib.Seq.{take-at, length-take-le}
+use native.Mathlib.Decide.{decLt}
+use lib.ListN.{length, getD, take, drop, length-map, length-take, List·getD-eq-default}
+use lib.Seq.{take-at, length-take-le, getD-take, getD-drop}
 use lib.Dec.{ltb}
 use borrow.Author.Tests.{lt-ltb, le-ltb, ltb-false}
 use Rattle.plank_core.specs.Lists.{bind, any, range, upto, _∈_}
@@ -20,14 +21,15 @@ use Rattle.sir_analyses.specs.Allocation.{allocs}
 use Rattle.sir_analyses.specs.Answers.{orderAnswer, entryAnswer, exitAnswer, intervalsAnswer, allocationAnswer}
 use Rattle.sir_analyses.specs.Calls.{Outcome, made, refused, answered}
 use Rattle.sir_analyses.specs.Discovery.{allocKey, allocKeys}
-use Rattle.sir_analyses.specs.Order.{isVisited}
+use Rattle.sir_analyses.specs.Order.{blocksRpo, isVisited}
+use Rattle.sir_analyses.specs.Stages.{part, rpoIn, sitesIn, VisitStage, PointerStage}
 use Rattle.sir_analyses.specs.Tables.{LiveRows}
 use Rattle.sir_analyses.specs.Writing.{Puts}
 use Rattle.sir_analyses.specs.laws.Writing.{length-bytes, puts-within}
 use Rattle.report_lines.specs.Counting.{tooLong, localTooLong, allocationTooLong, someTooLong}
 use Rattle.report_lines.specs.Lines.{visitedBlocks}
 
-module _ (xs : List ℕ) {limit r : ℕ} {out out′ : List ℕ} (p : Puts limit 0 xs out out′ r) where
+module _ (xs : List ℕ) {r : ℕ} {out out′ : List ℕ} (p : Puts 0 xs out out′ r) where
   pub is-long : 16384 < r → tooLong xs ≡ true
   is-long h = lt-ltb 65536 (4 * length xs) (omega (arith, p .next))
 
@@ -38,11 +40,10 @@ pub short : (xs : List ℕ) → tooLong xs ≡ false → 4 * length xs ≤ 65536
 short xs e = ltb-false 65536 (4 * length xs) e
 
 -- an answer that is not too long stands in the slice
-pub stands : (xs : List ℕ) {out out′ : List ℕ} {r : ℕ} → length out ≡ 65536 → tooLong xs ≡ false → Puts 65536 0 xs out out′ r → take (4 * r) out′ ≡ bind xs bytesOf
+pub stands : (xs : List ℕ) {out out′ : List ℕ} {r : ℕ} → length out ≡ 65536 → tooLong xs ≡ false → Puts 0 xs out out′ r → take (4 * r) out′ ≡ bind xs bytesOf
 stands xs {out} {out′} {r} l e p =
-    let w : Puts (length out) 0 xs out out′ r = rw (sym l) at p in
     let f : 4 * length xs ≤ length out = omega (arith, short xs e) in
-    ap (take (4 * r)) (w .left ∙ puts-within (length out) xs out f f)
+    ap (take (4 * r)) (p .left ∙ puts-within (length out) xs out f f)
     ∙ take-at (bind xs bytesOf) (drop (4 * length xs) out) (4 * r) (omega (arith, length-bytes xs, p .next))
 
 -- the same of an answer that was asked for: 14 tells that it is too long
@@ -156,3 +157,28 @@ module _ {w uses defs exits : List ℕ} (live : LiveRows w uses defs exits) wher
       ∙ any-join tooLong (S ++ L) A
       ∙ ap (λ (t : Bool). t || any tooLong A) (any-join tooLong S L ∙ ap (λ (t : Bool). t || any tooLong L) s ∙ any-map tooLong (intervalsAnswer w) (upto (locals w)))
       ∙ ap (λ (t : Bool). localTooLong w || t) (any-map tooLong (allocationAnswer w) (upto (length (allocs w))))
+
+-- ---- the blocks of the order fit 32 bits, as all of the visit does
+
+part-small : (from n : ℕ) (t : List ℕ) → ((i : ℕ) → getD t i 0 < 4294967296) → (k : ℕ) → getD (part from n t) k 0 < 4294967296
+unfolding part
+part-small from n t h k = go (decLt k n)
+  where
+    go : Dec (k < n) → getD (take n (drop from t)) k 0 < 4294967296
+    go (yes l) = rw (getD-take n (drop from t) k 0 l, getD-drop from t k 0) (h (from + k))
+    go (no l) = let z : getD (take n (drop from t)) k 0 ≡ 0 = List·getD-eq-default (take n (drop from t)) 0 {n = k} (omega (arith, length-take n (drop from t))) in omega arith
+
+pub rpo-small : {w visit : List ℕ} → VisitStage w visit → ((i : ℕ) → getD visit i 0 < 4294967296) → (k : ℕ) → getD (blocksRpo w) k 0 < 4294967296
+rpo-small {w} {visit} v h k = rw (sym (v .rpo-is)) (part-small 1 (getD visit 0 0) visit h k)
+
+-- there are as many sites as allocations
+pub sites-count : {w p : List ℕ} → PointerStage w p → {n : ℕ} → n ≡ length (sitesIn p) → n ≡ length (allocs w)
+sites-count {w} S e = e ∙ ap length (S .sites-are) ∙ keys-long w
+
+pub sites-most : {w p : List ℕ} → PointerStage w p → length (sitesIn p) ≤ 512
+unfolding part
+sites-most {w} {p} S = omega (arith, length-take (getD p 0 0) (drop 2 p), S .few)
+
+pub rpo-most : {w visit : List ℕ} → VisitStage w visit → length (rpoIn visit) ≤ 256
+unfolding part
+rpo-most {w} {visit} v = omega (arith, length-take (getD visit 0 0) (drop 1 visit), v .few)

@@ -35,11 +35,13 @@ ghost use mathlib.Core.Bool.{true, false, cond};
 ghost use mathlib.Core.List.{List};
 ghost use Prim.Native.Nat.{ℕ, _≤_, _<_};
 ghost use lib.ListN.{length};
+ghost use Rattle.plank_core.specs.Lists.{bind};
+ghost use Rattle.sir_data.specs.Pages.{bytesOf};
 ghost use Rattle.sir_data.specs.Records.{blocks, locals};
 ghost use Rattle.sir_analyses.specs.Order.{isVisited};
 ghost use Rattle.sir_analyses.specs.Liveness.{rounds};
 ghost use Rattle.sir_analyses.specs.Allocation.{allocs};
-ghost use Rattle.sir_analyses.specs.Answers.{orderAnswer, intervalsAnswer};
+ghost use Rattle.sir_analyses.specs.Answers.{orderAnswer, intervalsAnswer, allocationAnswer};
 ghost use Rattle.sir_analyses.specs.Stages.{VisitStage, AcceptedStage, LivenessStage, PointerStage};
 ghost use Rattle.report_lines.specs.Lines.{orderText, roundsText, blockText, localText, allocationText};
 ghost use Rattle.report_lines.specs.Putting.{Put};
@@ -161,9 +163,16 @@ fn say_locals(words: &[u32], visit: &[u32], live: &[u64], out: &mut [u8], line: 
 }
 
 // The line of allocation a, from its record.
-fn allocation_text(words: &[u32], a: AllocId, answer: &[u8], line: &mut [u8]) -> usize
-    requires { ⌜ AllocationBytes (now words) (a .0) (now answer) ⌝ }
-    requires { ⌜ 196608 ≤ length (now line) ⌝ }
+fn allocation_text(
+    words: &[u32],
+    visit: &[u32],
+    a: AllocId,
+    answer: &[u8],
+    line: &mut [u8],
+) -> usize
+    requires { ⌜ VisitStage (now words) (now visit) ⌝ }
+    requires { ⌜ (a .0 < length (allocs (now words))) × (now answer ≡ bind (allocationAnswer (now words) (a .0)) bytesOf) ⌝ }
+    requires { ⌜ (length (now answer) ≤ 65536) × (196608 ≤ length (now line)) ⌝ }
     ensures { λ r. ⌜ Put (allocationText (now (words .entry)) (a .0)) 0 (now (line .entry)) (now (line .exit)) r ⌝ }
 {
     allocation_line(a.0, answer, line)
@@ -188,7 +197,7 @@ fn say_allocations(
     while a < count {
         let r = allocation_answer(words, visit, live, pointers, AllocId(a as u32), out);
         let end = r.length as usize;
-        let n = allocation_text(words, AllocId(a as u32), &out[..end], line);
+        let n = allocation_text(words, visit, AllocId(a as u32), &out[..end], line);
         say(&line[..n]);
         a += 1;
     }

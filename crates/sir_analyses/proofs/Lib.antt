@@ -1,6 +1,7 @@
 pub mod OrderLaws
 pub mod Visiting
 pub mod Parts
+pub mod AllLaws
 pub mod Writing
 pub mod Scattering
 pub mod Keys

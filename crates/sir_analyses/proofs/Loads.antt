@@ -68,8 +68,8 @@ module _ {w seen post : List ℕ} {n : ℕ} (good : WellFormed w) (v : VisitedAl
   pub rpo-is : {old rpo : List ℕ} {m : ℕ} → Listed (blocksIn (take n post)) 0 old rpo m → take m rpo ≡ blocksRpo w
   rpo-is k = k .list ∙ sym (blocks-rpo w (v .shows))
 
-  pub keys-fit : n ≤ length post
-  keys-fit = let h = v .held in omega (arith, h .room, h .long, good .sized .functions-most, good .sized .blocks-most)
+  pub finished-fit : n ≤ length post
+  finished-fit = let h = v .held in omega (arith, h .room, h .long, good .sized .functions-most, good .sized .blocks-most)
 
 pub front-length : {A : Type 0} (n : ℕ) (xs : List A) → n ≤ length xs → n ≡ length (take n xs)
 front-length n xs h = sym (length-take-le n xs h)

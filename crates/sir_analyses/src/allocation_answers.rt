@@ -1,4 +1,5 @@
 // The answers that need pointers: the record of an allocation, and the owner of a local.
+use crate::all_sets::all_owners_answer;
 use crate::allocation_liveness::AllocSite;
 use crate::allocation_liveness::discover_allocations;
 use crate::allocation_liveness::site_of;
@@ -161,5 +162,6 @@ pub fn pointer_answer(
     match question {
         PointerQuestion::Allocation(a) => one_allocation(words, visit, &pointers, a, out),
         PointerQuestion::Owner(v) => words_answer(&[owner_of(&pointers, v)], out),
+        PointerQuestion::AllOwners => all_owners_answer(words, &pointers, out),
     }
 }

@@ -2,6 +2,7 @@
 pub mod all_allocations;
 pub mod all_intervals;
 pub mod all_predecessors;
+pub mod all_sets;
 pub mod all_uses;
 pub mod allocation_answers;
 pub mod allocation_liveness;

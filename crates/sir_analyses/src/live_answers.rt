@@ -1,4 +1,7 @@
 // The answers that need liveness, but those on allocations: sets of a block, intervals of a local, rounds.
+use crate::all_intervals::all_intervals_answer;
+use crate::all_sets::all_entry_sets_answer;
+use crate::all_sets::all_exit_sets_answer;
 use crate::answers::Answer;
 use crate::answers::finish;
 use crate::answers::words_answer;
@@ -82,5 +85,8 @@ pub fn live_answer(words: &[u32], visit: &[u32], question: LiveQuestion, out: &m
         LiveQuestion::ExitSet(b) => set_answer(row_of(exits(&live), b.0 as usize), out),
         LiveQuestion::Intervals(v) => intervals_answer(words, visit, &live, v, out),
         LiveQuestion::Rounds => words_answer(&[done], out),
+        LiveQuestion::AllEntrySets => all_entry_sets_answer(words, visit, &live, out),
+        LiveQuestion::AllExitSets => all_exit_sets_answer(words, &live, out),
+        LiveQuestion::AllIntervals => all_intervals_answer(words, visit, &live, out),
     }
 }

@@ -1,4 +1,6 @@
-// The answers that need the order alone: the order itself, the predecessors of a block, the uses of a local.
+// The answers that need the visit alone: the order itself, the predecessors of a block, the uses of a local.
+use crate::all_predecessors::all_predecessors_answer;
+use crate::all_uses::all_uses_answer;
 use crate::answers::Answer;
 use crate::answers::finish;
 use crate::answers::words_answer;
@@ -73,5 +75,7 @@ pub fn order_answer(
         OrderQuestion::Order => visit_answer(post, out),
         OrderQuestion::Predecessors(b) => predecessors_answer(words, visit, b, out),
         OrderQuestion::Uses(v) => uses_answer(words, visit, v, out),
+        OrderQuestion::AllPredecessors => all_predecessors_answer(words, visit, out),
+        OrderQuestion::AllUses => all_uses_answer(words, visit, out),
     }
 }

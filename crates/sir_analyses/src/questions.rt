@@ -18,6 +18,8 @@ pub enum OrderQuestion {
     Order,
     Predecessors(BlockId),
     Uses(LocalId),
+    AllPredecessors,
+    AllUses,
 }
 
 pub enum LiveQuestion {
@@ -25,11 +27,15 @@ pub enum LiveQuestion {
     ExitSet(BlockId),
     Intervals(LocalId),
     Rounds,
+    AllEntrySets,
+    AllExitSets,
+    AllIntervals,
 }
 
 pub enum PointerQuestion {
     Allocation(AllocId),
     Owner(LocalId),
+    AllOwners,
 }
 
 pub enum Question {
@@ -59,16 +65,22 @@ pub fn own_refusal(words: &[u32], keys: &[u32], question: Question) -> u32
             OrderQuestion::Order => 0,
             OrderQuestion::Predecessors(b) => id_refusal(b.0, block_count(words)),
             OrderQuestion::Uses(v) => id_refusal(v.0, local_count(words)),
+            OrderQuestion::AllPredecessors => 0,
+            OrderQuestion::AllUses => 0,
         },
         Question::OfLiveness(q) => match q {
             LiveQuestion::EntrySet(b) => id_refusal(b.0, block_count(words)),
             LiveQuestion::ExitSet(b) => id_refusal(b.0, block_count(words)),
             LiveQuestion::Intervals(v) => id_refusal(v.0, local_count(words)),
             LiveQuestion::Rounds => 0,
+            LiveQuestion::AllEntrySets => 0,
+            LiveQuestion::AllExitSets => 0,
+            LiveQuestion::AllIntervals => 0,
         },
         Question::OfPointers(q) => match q {
             PointerQuestion::Allocation(a) => id_refusal(a.0, keys.len() as u32),
             PointerQuestion::Owner(v) => id_refusal(v.0, local_count(words)),
+            PointerQuestion::AllOwners => 0,
         },
     }
 }

@@ -4,7 +4,8 @@
 // always the same, `asked`: of the rules of the image and then those of the question the first that applies is the number, with
 // length 0 and every byte of the slice as it was; where none applies the number is 0 and the answer's bytes stand at the front of
 // the slice, whose other bytes are as they were; and where the slice is shorter than the answer, the number is 14. The second,
-// `Promise`, tells what holds of all answers about an image that is not refused.
+// `Promise`, tells what holds of all answers about an image that is not refused. What is asked of one id can be asked of all in one
+// call: the answers in turn, each after its length in words.
 use plank_core::index::AllocId;
 use plank_core::index::BlockId;
 use plank_core::index::LocalId;
@@ -18,6 +19,7 @@ ghost use mathlib.Core.Path.{_≡_};
 ghost use lib.ListN.{length};
 ghost use Rattle.sir_data.specs.Pages.{payload};
 ghost use Rattle.sir_data.specs.Records.{blocks, locals};
+ghost use Rattle.sir_analyses.specs.All.{all};
 ghost use Rattle.sir_analyses.specs.Allocation.{allocs};
 ghost use Rattle.sir_analyses.specs.Answers.{orderAnswer, predecessorsAnswer, usesAnswer, entryAnswer, exitAnswer, roundsAnswer, intervalsAnswer, allocationAnswer, ownerAnswer};
 ghost use Rattle.sir_analyses.specs.Calls.{made, refusal, asked, noRules, known, inWords};
@@ -117,4 +119,75 @@ pub extern "C" fn sir_owner(image: &[u8], local: u32, out: &mut [u8]) -> Answer
 {
     let v = LocalId(local);
     ask(image, Question::OfPointers(PointerQuestion::Owner(v)), out)
+}
+
+// The predecessors of all blocks, each after its length in words.
+#[no_mangle]
+pub extern "C" fn sir_all_predecessors(image: &[u8], out: &mut [u8]) -> Answer
+    ensures { λ r. ⌜ made (r .number) (r .length) (now (out .exit)) ≡ asked noRules (inWords (all blocks predecessorsAnswer)) (now (image .entry)) (now (out .entry)) ⌝ }
+    ensures { λ r. ⌜ (refusal (now (image .entry)) ≡ 0 → Promise (payload (now (image .entry)))) ⌝ }
+{
+    ask(
+        image,
+        Question::OfOrder(OrderQuestion::AllPredecessors),
+        out,
+    )
+}
+
+// The entry sets of all blocks, each after its length in words.
+#[no_mangle]
+pub extern "C" fn sir_all_entry_sets(image: &[u8], out: &mut [u8]) -> Answer
+    ensures { λ r. ⌜ made (r .number) (r .length) (now (out .exit)) ≡ asked noRules (inWords (all blocks entryAnswer)) (now (image .entry)) (now (out .entry)) ⌝ }
+    ensures { λ r. ⌜ (refusal (now (image .entry)) ≡ 0 → Promise (payload (now (image .entry)))) ⌝ }
+{
+    ask(image, Question::OfLiveness(LiveQuestion::AllEntrySets), out)
+}
+
+// The exit sets of all blocks, each after its length in words.
+#[no_mangle]
+pub extern "C" fn sir_all_exit_sets(image: &[u8], out: &mut [u8]) -> Answer
+    ensures { λ r. ⌜ made (r .number) (r .length) (now (out .exit)) ≡ asked noRules (inWords (all blocks exitAnswer)) (now (image .entry)) (now (out .entry)) ⌝ }
+    ensures { λ r. ⌜ (refusal (now (image .entry)) ≡ 0 → Promise (payload (now (image .entry)))) ⌝ }
+{
+    ask(image, Question::OfLiveness(LiveQuestion::AllExitSets), out)
+}
+
+// The uses of all locals, each after its length in words.
+#[no_mangle]
+pub extern "C" fn sir_all_uses(image: &[u8], out: &mut [u8]) -> Answer
+    ensures { λ r. ⌜ made (r .number) (r .length) (now (out .exit)) ≡ asked noRules (inWords (all locals usesAnswer)) (now (image .entry)) (now (out .entry)) ⌝ }
+    ensures { λ r. ⌜ (refusal (now (image .entry)) ≡ 0 → Promise (payload (now (image .entry)))) ⌝ }
+{
+    ask(image, Question::OfOrder(OrderQuestion::AllUses), out)
+}
+
+// The intervals of all locals, each after its length in words.
+#[no_mangle]
+pub extern "C" fn sir_all_intervals(image: &[u8], out: &mut [u8]) -> Answer
+    ensures { λ r. ⌜ made (r .number) (r .length) (now (out .exit)) ≡ asked noRules (inWords (all locals intervalsAnswer)) (now (image .entry)) (now (out .entry)) ⌝ }
+    ensures { λ r. ⌜ (refusal (now (image .entry)) ≡ 0 → Promise (payload (now (image .entry)))) ⌝ }
+{
+    ask(image, Question::OfLiveness(LiveQuestion::AllIntervals), out)
+}
+
+// The records of all allocations, each after its length in words.
+#[no_mangle]
+pub extern "C" fn sir_all_allocations(image: &[u8], out: &mut [u8]) -> Answer
+    ensures { λ r. ⌜ made (r .number) (r .length) (now (out .exit)) ≡ asked noRules (inWords (all (λ w. length (allocs w)) allocationAnswer)) (now (image .entry)) (now (out .entry)) ⌝ }
+    ensures { λ r. ⌜ (refusal (now (image .entry)) ≡ 0 → Promise (payload (now (image .entry)))) ⌝ }
+{
+    ask(
+        image,
+        Question::OfPointers(PointerQuestion::AllAllocations),
+        out,
+    )
+}
+
+// The owners of all locals, each after its length in words.
+#[no_mangle]
+pub extern "C" fn sir_all_owners(image: &[u8], out: &mut [u8]) -> Answer
+    ensures { λ r. ⌜ made (r .number) (r .length) (now (out .exit)) ≡ asked noRules (inWords (all locals ownerAnswer)) (now (image .entry)) (now (out .entry)) ⌝ }
+    ensures { λ r. ⌜ (refusal (now (image .entry)) ≡ 0 → Promise (payload (now (image .entry)))) ⌝ }
+{
+    ask(image, Question::OfPointers(PointerQuestion::AllOwners), out)
 }

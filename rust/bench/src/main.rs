@@ -11,10 +11,11 @@
 //!
 //! The library reads and checks the image anew for every question; Plank begins with a program that is in memory. A
 //! question is timed by itself, as the mean over some ids of each image; for Plank this is the time of the analyses that
-//! it needs and of its answer. "all" is every question about every id of an image: for the library the sum of the
-//! single times, for Plank one run of all analyses and all answers from it. Plank reports no rounds, so that question
-//! has no ratio. Result slices are lent once and not cleared between calls. A side that was missing when this was built
-//! is left out, with a message.
+//! it needs and of its answer. Two lines are about all answers, for Plank both one run of all analyses and all answers from
+//! it: "every question about every id" is for the library the sum of the single times, "order, rounds and the seven together"
+//! the time of the two questions without ids and the seven for all ids, one call each. Plank reports no rounds, so that
+//! question has no ratio. Result slices are lent once, of 64 MiB, and not cleared between calls: where the answer is longer,
+//! the time is that of the refusal. A side that was missing when this was built is left out, with a message.
 //!
 //! With `--old` the other side is the library of an archive, such as a `libsir_capi.a` of an earlier state of the
 //! repository; without further words typical images are taken. The C compiler makes a shared object of each of the two
@@ -27,14 +28,14 @@ mod stack;
 mod timing;
 
 use image_gen::rings::{self, Rings};
-use image_gen::{Kind, Size, generate, worst};
+use image_gen::{Kind, Rng, Size, extremes, generate, worst};
 use sir_analyses::calls;
 use sir_image::{Code, Image, MAX_LOCALS};
 use sir_questions::{AllocId, Question, QuestionKind};
 use std::hint::black_box;
 use std::process::ExitCode;
 use std::time::Duration;
-use timing::{Group, RESULT_BYTES, Timed, best, head, mean, once, row};
+use timing::{EVERY, Group, RESULT_BYTES, TOGETHER, Timed, best, head, mean, once, row, together};
 
 const GROUPS: [&str; 6] = ["typical", "full", "medium", "worst", "stack", "slowest"];
 
@@ -106,6 +107,7 @@ fn groups(name: &str) -> Vec<Group> {
             .collect(),
         "worst" => worst(Size::FULL)
             .into_iter()
+            .chain(long_answers())
             .map(|(name, image)| {
                 // Plank takes each operand place of each block, and each local over each edge, in every pass.
                 let plank = name.starts_with("allocations") || name == "a ring";
@@ -114,6 +116,15 @@ fn groups(name: &str) -> Vec<Group> {
             .collect(),
         _ => Vec::new(),
     }
+}
+
+/// Images of which one answer for all ids nearly fills the result slice: all operations in every block, and so many operands
+/// in every call that 64 MiB just hold the uses, or the intervals where the calls also define what they take.
+fn long_answers() -> [(&'static str, Image); 2] {
+    let of = |operands, locals, outputs| {
+        extremes::spanning(Size { operands, locals, ..Size::FULL }, outputs, &mut Rng::new(0))
+    };
+    [("all uses in 63 MiB", of(21, 21, false)), ("all intervals in 60 MiB", of(128, 20, true))]
 }
 
 /// Times one allocation of legal images that are slow for Plank.
@@ -141,7 +152,7 @@ fn slowest() {
     }
 }
 
-/// All operations in every block and all operands in every call, and behind them an allocation that the first block alone holds.
+/// All operations in every block and all operands in every call, and after them an allocation that the first block alone holds.
 fn calls_with_an_allocation() -> Image {
     let (_, mut image) = worst(Size::MEDIUM).swap_remove(0);
     let base = image.locals;
@@ -173,19 +184,30 @@ fn table(group: &Group) {
     group.print_head("library", "Plank");
     let mut result = vec![0; if sir_analyses::LINKED { RESULT_BYTES } else { 0 }];
     let images: Vec<Timed> = group.images.iter().map(Timed::new).collect();
-    let mut all_library = Duration::ZERO;
+    let mut every = Duration::ZERO;
     for kind in Question::KINDS {
         let mut sums = [Some(Duration::ZERO); 2];
         let asked: Vec<&Timed> = images.iter().filter(|image| image.count(kind) > 0).collect();
         for image in &asked {
             let times = mean_times(image, kind, plank, &mut result);
-            all_library += times[0].unwrap_or_default() * image.count(kind);
+            if kind.single().is_none() {
+                every += times[0].unwrap_or_default() * image.count(kind);
+            }
             sums = [0, 1].map(|side| Some(sums[side]? + times[side]?));
         }
         row(kind.name, asked.len() as u32, sums[0], sums[1]);
     }
-    let all_plank = plank.then(|| images.iter().map(Timed::plank_whole).sum());
-    row("all", images.len() as u32, sir_analyses::LINKED.then_some(all_library), all_plank);
+    let count = images.len() as u32;
+    let whole = plank.then(|| images.iter().map(Timed::plank_whole).sum());
+    row(EVERY, count, sir_analyses::LINKED.then_some(every), whole);
+    let library = sir_analyses::LINKED.then(|| images.iter().map(|image| time_together(image, &mut result)).sum());
+    row(TOGETHER, count, library, whole);
+}
+
+/// The time of all answers about an image, one call for each question.
+fn time_together(image: &Timed, result: &mut [u8]) -> Duration {
+    let questions: Vec<Question> = together().map(QuestionKind::about_zeros).collect();
+    best(|| questions.iter().for_each(|&question| _ = black_box(calls::ask(question, &image.bytes, result))))
 }
 
 /// The mean times of the library and of Plank over some questions of a kind, where the side is there and has an answer.
@@ -197,4 +219,21 @@ fn mean_times(image: &Timed, kind: &QuestionKind, plank: bool, result: &mut [u8]
     let library: Vec<_> = library.collect();
     let plank: Vec<_> = questions.iter().map(|&question| plank.then(|| image.plank(question)).flatten()).collect();
     [mean(&library), mean(&plank)]
+}
+
+#[cfg(test)]
+mod tests {
+    use super::*;
+    use paper_reference::Reference;
+
+    /// The long answers have room in the result slice, and not much more.
+    #[test]
+    fn long_answers_fit() {
+        for ((name, image), question) in long_answers().iter().zip([Question::AllUses, Question::AllIntervals]) {
+            let reference = Reference::new(&image.pages()).unwrap();
+            let length = reference.bytes_within(question, RESULT_BYTES).unwrap().len();
+            assert!(name.ends_with(&format!("in {} MiB", length >> 20)), "{name}: {length} bytes");
+            assert!(length > RESULT_BYTES / 10 * 9);
+        }
+    }
 }

@@ -1,7 +1,7 @@
 //! An older library beside the present one, both loaded alike and timed in the same run.
 #![allow(unsafe_code)]
 
-use crate::timing::{Group, RESULT_BYTES, Timed, best_of_each, row};
+use crate::timing::{EVERY, Group, RESULT_BYTES, TOGETHER, Timed, best_of_each, row, together};
 use sir_analyses::Answer;
 use sir_questions::{Question, QuestionKind};
 use std::ffi::{CString, c_char, c_int, c_void};
@@ -94,30 +94,55 @@ impl Libraries {
         Ok(Libraries { new: Library::load("new", new)?, old: Library::load("old", old)? })
     }
 
+    /// The function of each library that answers questions of a kind, where both have one.
+    fn functions(&self, kind: &QuestionKind) -> Option<[Function; 2]> {
+        Some([self.new.function(kind)?, self.old.function(kind)?])
+    }
+
     /// Times a group by both and prints a row for each question that both answer.
     pub fn table(&self, group: &Group) {
         group.print_head("new", "old");
         let mut results = [vec![0; RESULT_BYTES], vec![0; RESULT_BYTES]];
         let images: Vec<Timed> = group.images.iter().map(Timed::new).collect();
-        let mut all = [Duration::ZERO; 2];
+        let mut every = [Duration::ZERO; 2];
         for kind in Question::KINDS {
-            let (Some(new), Some(old)) = (self.new.function(kind), self.old.function(kind)) else {
-                println!("{:14} not in both", kind.name);
+            let Some(functions) = self.functions(kind) else {
+                println!("{:36} not in both", kind.name);
                 continue;
             };
             let mut sums = [Duration::ZERO; 2];
             let asked: Vec<&Timed> = images.iter().filter(|image| image.count(kind) > 0).collect();
             for image in &asked {
-                let times = mean_times(image, kind, [new, old], &mut results);
+                let times = mean_times(image, kind, functions, &mut results);
                 for side in 0..2 {
                     sums[side] += times[side];
-                    all[side] += times[side] * image.count(kind);
+                    every[side] +=
+                        if kind.single().is_none() { times[side] * image.count(kind) } else { Duration::ZERO };
                 }
             }
             row(kind.name, asked.len() as u32, Some(sums[0]), Some(sums[1]));
         }
-        row("all", images.len() as u32, Some(all[0]), Some(all[1]));
+        row(EVERY, images.len() as u32, Some(every[0]), Some(every[1]));
+        let Some(functions) = together().map(|kind| self.functions(kind)).collect::<Option<Vec<_>>>() else {
+            println!("{TOGETHER:36} not in both");
+            return;
+        };
+        let mut sums = [Duration::ZERO; 2];
+        for image in &images {
+            let times = times_together(image, &functions, &mut results);
+            sums = [0, 1].map(|side| sums[side] + times[side]);
+        }
+        row(TOGETHER, images.len() as u32, Some(sums[0]), Some(sums[1]));
     }
+}
+
+/// The times of both libraries for all answers about an image, one call for each question.
+fn times_together(image: &Timed, functions: &[[Function; 2]], [first, second]: &mut [Vec<u8>; 2]) -> [Duration; 2] {
+    let (new, old) = best_of_each(
+        || functions.iter().for_each(|[new, _]| _ = black_box(new.call(&image.bytes, &[], first))),
+        || functions.iter().for_each(|[_, old]| _ = black_box(old.call(&image.bytes, &[], second))),
+    );
+    [new, old]
 }
 
 /// The mean times of both libraries over some questions of a kind, of which the image has some.

@@ -15,10 +15,10 @@ pub fn table() {
     let mut images = vec![samples::deepest().pages(), samples::largest().pages()];
     images.extend(worst(Size::FULL).iter().map(|(_, image)| image.pages()));
     println!("\nstack of a call, the most of {} images; what a thread without a call takes is included", images.len());
-    println!("{:14} {:>10}", "no call", shown(touched(|| ())));
+    println!("{:16} {:>10}", "no call", shown(touched(|| ())));
     for kind in Question::KINDS {
         let most = images.iter().map(|image| touched(|| call(image, kind.about_zeros()))).max().flatten();
-        println!("{:14} {:>10}", kind.name, shown(most));
+        println!("{:16} {:>10}", kind.name, shown(most));
     }
 }
 

@@ -64,7 +64,7 @@ impl Timed {
 
     /// The time of all of Plank's answers from one run of its analyses.
     pub fn plank_whole(&self) -> Duration {
-        let every = Question::KINDS.iter().flat_map(|kind| kind.about_all(|id| self.reference.count(id), |_| 1));
+        let every = about_ids().flat_map(|kind| kind.about_all(|id| self.reference.count(id), |_| 1));
         let every: Vec<Question> = every.collect();
         best(|| self.fresh(|plank| every.iter().for_each(|&question| _ = black_box(plank.answer(question)))))
     }
@@ -75,9 +75,25 @@ impl Timed {
     }
 }
 
+/// The questions about one id or none: what the line [`EVERY`] sums up.
+pub fn about_ids() -> impl Iterator<Item = &'static QuestionKind> {
+    Question::KINDS.iter().filter(|kind| kind.single().is_none())
+}
+
+/// The questions that together give all answers about an image: those without ids.
+pub fn together() -> impl Iterator<Item = &'static QuestionKind> {
+    Question::KINDS.iter().filter(|kind| kind.ids.is_empty())
+}
+
+/// The line of every question about every id, each by a call of its own.
+pub const EVERY: &str = "every question about every id";
+
+/// The line of the same answers by one call for each question.
+pub const TOGETHER: &str = "order, rounds and the seven together";
+
 /// The head of a table about two sides.
 pub fn head(one: &str, other: &str) {
-    println!("{:14} {one:>14} {other:>14} {:>16}", "", format!("{one} / {other}"));
+    println!("{:36} {one:>14} {other:>14} {:>16}", "", format!("{one} / {other}"));
 }
 
 /// A row of a table: the mean time of each side over some images, where it was taken, and the ratio.
@@ -97,7 +113,7 @@ pub fn row(name: &str, images: u32, one: Option<Duration>, other: Option<Duratio
         },
         _ => "-".to_string(),
     };
-    println!("{name:14} {:>14} {:>14} {ratio:>16}", show(one), show(other));
+    println!("{name:36} {:>14} {:>14} {ratio:>16}", show(one), show(other));
 }
 
 /// The mean of some times, where all were taken.

@@ -15,7 +15,8 @@
 //!
 //! Images of every kind are taken in turn, each with a seed of its own. Where files are named, these images are taken
 //! and none are generated. With Plank every answer but the rounds is compared; with the library every answer, its
-//! number, its length, each byte of the result slice, unknown ids and slices that are too short. Where two sides
+//! number, its length, each byte of the result slice, unknown ids and slices that are too short. Each question about one id is
+//! put for every id, and then once for all ids. Where two sides
 //! disagree, the image is made as small as it goes and shown, and the program stops with status 1. A side that was
 //! missing when this was built is left out, with a message.
 

@@ -91,7 +91,7 @@ pub fn with_plank(image: &Image, tally: &mut Tally) -> Result<(), Disagreement> 
         tally.refused += 1;
         return Ok(());
     };
-    agree("number of allocations", paper.count(IdKind::Allocation), PLANK, plank.allocations())?;
+    agree("number of allocations", paper.count(IdKind::Allocation), PLANK, plank.count(IdKind::Allocation))?;
     for question in questions(&paper, |_| 1) {
         let answer = paper.answer(question).expect("the ids are below their counts");
         tally.note(question, &answer);
@@ -133,7 +133,7 @@ pub fn with_library(image: &Image, tally: &mut Tally) -> Result<(), Disagreement
     Ok(())
 }
 
-/// The same for some ids only, which is enough where one answer takes long.
+/// The same for some ids only, which is enough where one answer takes long; a question for all ids takes them all.
 pub fn with_library_sparsely(image: &Image, tally: &mut Tally) -> Result<(), Disagreement> {
     let bytes = image.pages();
     tally.images += 1;
@@ -144,8 +144,14 @@ pub fn with_library_sparsely(image: &Image, tally: &mut Tally) -> Result<(), Dis
     Ok(())
 }
 
+/// The longest result slice, in bytes. On the slowest images an answer can be longer than any memory.
+const LONGEST: usize = 1 << 26;
+
 fn same_answer(paper: &Reference, image: &[u8], question: Question, tally: &mut Tally) -> Result<(), Disagreement> {
-    let answer = paper.bytes(question).expect("the ids are below their counts");
+    let answer = match paper.bytes_within(question, LONGEST) {
+        Ok(answer) => answer,
+        Err(number) => return same_refusal_in(LONGEST, image, question, number),
+    };
     let words = words_of(&answer);
     tally.note(question, &words);
     tally.compared(&words);

@@ -39,7 +39,7 @@ impl Size {
 /// Every block holds all operations, every operation is a call over all operand words, and every block switches over
 /// all targets.
 ///
-/// Where `outputs` is set the calls also give all locals. Few locals make the uses of each long.
+/// Where `outputs` is set the calls also define all locals. Few locals make the uses of each long.
 pub fn spanning(size: Size, outputs: bool, rng: &mut Rng) -> Image {
     let mut image = Image::new(size.locals);
     image.operands = (0..size.operands).map(|_| rng.below(size.locals)).collect();
@@ -95,7 +95,7 @@ pub fn allocating(size: Size, rng: &mut Rng) -> Image {
 
 /// Allocations that stay unmarked, with intervals in every block.
 ///
-/// Local v is the base of allocation v, given in block 0; all other blocks load through every base again and again.
+/// Local v is the base of allocation v, defined in block 0; all other blocks load through every base again and again.
 pub fn long_lived(size: Size, rng: &mut Rng) -> Image {
     let mut image = Image::new(size.locals);
     let bases = (size.locals - 1).min(size.operations / 2);

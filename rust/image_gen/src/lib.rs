@@ -140,7 +140,7 @@ pub fn worst(size: Size) -> Vec<(&'static str, Image)> {
     let rng = &mut Rng::new(0);
     vec![
         ("every block all operations, every call all operands", extremes::spanning(size, false, rng)),
-        ("the same, and every call gives all locals", extremes::spanning(size, true, rng)),
+        ("the same, and every call defines all locals", extremes::spanning(size, true, rng)),
         ("allocations that meet", extremes::allocating(size, rng)),
         ("allocations that live in every block", extremes::long_lived(size, rng)),
         ("every block all locals in and out, and all edges", extremes::renaming(size, rng)),

@@ -85,8 +85,8 @@ struct Builder {
     dropped: Span,
     /// The outputs of a link: the spare local for every input but the last, which is handed on.
     handed: Span,
-    /// Gives the spare local. Links and feeders do so, so that what they drop is live nowhere before them.
-    give: Span,
+    /// Defines the spare local. Links and feeders do so, so that what they drop is live nowhere before them.
+    define: Span,
     /// Reads v0.
     read: Span,
     /// Reads the carried locals.
@@ -101,7 +101,7 @@ impl Builder {
         let turn = image.run(&turn);
         let hand: Vec<LocalId> = std::iter::repeat_n(spare, inputs as usize).chain([inputs - 1]).collect();
         let hand = image.run(&hand);
-        let give = image.operation(Code::SetSmallConst, &[], &[spare]);
+        let define = image.operation(Code::SetSmallConst, &[], &[spare]);
         let read = image.operation(Code::SelfDestruct, &[0], &[]);
         let carry = image.operations.len() as u32;
         for local in spare + 1..image.locals {
@@ -116,7 +116,7 @@ impl Builder {
             turned: all_but_first(turn),
             dropped: all_but_last(hand),
             handed: all_but_first(hand),
-            give: one(give),
+            define: one(define),
             read: one(read),
             carry: image.operations_from(carry),
             image,
@@ -141,7 +141,7 @@ impl Builder {
     }
 
     fn feeder(&mut self, feeder: BlockId) {
-        self.block(self.dropped, self.give, self.switch(self.shape.rings, feeder + 1));
+        self.block(self.dropped, self.define, self.switch(self.shape.rings, feeder + 1));
     }
 
     /// A ring and, where another follows, the link to it.
@@ -160,7 +160,7 @@ impl Builder {
             self.block(self.turned, operations, come_back);
         }
         if !last {
-            self.block(self.handed, self.give, Control::ContinuesTo(next));
+            self.block(self.handed, self.define, Control::ContinuesTo(next));
         }
     }
 }

@@ -12,7 +12,7 @@ pub struct Allocation {
     pub block: usize,
     /// The operation.
     pub operation: usize,
-    /// The local that it gives.
+    /// The local that it defines.
     pub base: usize,
 }
 

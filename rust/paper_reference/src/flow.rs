@@ -123,13 +123,13 @@ pub fn uses(records: &Records, order: &Order, local: usize) -> Vec<u32> {
     words
 }
 
-/// Which locals each operation reads, and which it gives.
+/// Which locals each operation reads, and which it defines.
 #[derive(Clone, Debug)]
 pub struct Operands {
     /// By operation, by local.
     pub reads: Vec<Vec<bool>>,
     /// By operation, by local.
-    pub gives: Vec<Vec<bool>>,
+    pub defines: Vec<Vec<bool>>,
 }
 
 impl Operands {
@@ -139,7 +139,7 @@ impl Operands {
             let row = |operation| set(records.locals, operands(operation));
             records.operations.iter().map(row).collect()
         };
-        Operands { reads: table(|operation| &operation.inputs), gives: table(|operation| &operation.outputs) }
+        Operands { reads: table(|operation| &operation.inputs), defines: table(|operation| &operation.outputs) }
     }
 }
 
@@ -217,7 +217,7 @@ fn entry_set(block: &Block, operands: &Operands, exit: &[bool]) -> Vec<bool> {
     read_at_end(block).into_iter().for_each(|local| live[local] = true);
     for operation in block.operations.clone().rev() {
         for (local, live) in live.iter_mut().enumerate() {
-            *live = operands.reads[operation][local] || (*live && !operands.gives[operation][local]);
+            *live = operands.reads[operation][local] || (*live && !operands.defines[operation][local]);
         }
     }
     live
@@ -245,7 +245,7 @@ pub fn intervals(
         let mut end = to_the_end.then_some(BLOCK_END);
         for operation in block.operations.clone().rev() {
             let at = operation as u32 + 1;
-            if operands.gives[operation][local] {
+            if operands.defines[operation][local] {
                 intervals.extend(end.take().map(|end| (id as u32, at, end)));
             }
             if operands.reads[operation][local] {

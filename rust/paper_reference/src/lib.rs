@@ -5,7 +5,7 @@
 //! a local; they are written out here from what the source does.
 
 mod allocations;
-mod codes;
+pub mod codes;
 mod flow;
 mod pages;
 mod records;
@@ -16,7 +16,7 @@ pub use report::report;
 use allocations::Allocation;
 use flow::{Interval, Liveness, Operands, Order};
 use records::Records;
-use sir_questions::{IdKind, Question};
+use sir_questions::{IdKind, Question, QuestionKind};
 use std::cell::OnceCell;
 use std::collections::BTreeSet;
 
@@ -56,10 +56,25 @@ impl Reference {
 
     /// The answer to a question, as words; or 13.
     pub fn answer(&self, question: Question) -> Result<Vec<u32>, u32> {
+        self.answer_within(question, usize::MAX)
+    }
+
+    /// The answer to a question as it stands in the result slice; or 13.
+    pub fn bytes(&self, question: Question) -> Result<Vec<u8>, u32> {
+        self.bytes_within(question, usize::MAX)
+    }
+
+    /// The answer to a question as it stands in a result slice of this length; or 13, or 14.
+    pub fn bytes_within(&self, question: Question, room: usize) -> Result<Vec<u8>, u32> {
+        Ok(self.answer_within(question, room / 4)?.into_iter().flat_map(u32::to_le_bytes).collect())
+    }
+
+    /// The answer to a question, as words; or 13, or 14 where there are more words than this.
+    fn answer_within(&self, question: Question, most: usize) -> Result<Vec<u32>, u32> {
         if question.kind().ids.iter().zip(question.ids()).any(|(&kind, id)| id >= self.count(kind)) {
             return Err(13);
         }
-        Ok(match question {
+        let answer = match question {
             Question::Order => self.order(),
             Question::Predecessors(block) => words(&flow::predecessors(&self.records, &self.order)[block.0 as usize]),
             Question::EntrySet(block) => members(&self.live().entry[block.0 as usize]),
@@ -69,12 +84,29 @@ impl Reference {
             Question::Allocation(allocation) => self.allocation(allocation.0 as usize),
             Question::Owner(local) => vec![self.owners()[local.0 as usize]],
             Question::Rounds => vec![self.live().rounds],
-        })
+            Question::AllPredecessors
+            | Question::AllEntrySets
+            | Question::AllExitSets
+            | Question::AllUses
+            | Question::AllIntervals
+            | Question::AllAllocations
+            | Question::AllOwners => self.in_turn(question.kind().single().expect("one of all ids"), most)?,
+        };
+        if answer.len() > most { Err(14) } else { Ok(answer) }
     }
 
-    /// The answer to a question as it stands in the result slice; or 13.
-    pub fn bytes(&self, question: Question) -> Result<Vec<u8>, u32> {
-        Ok(self.answer(question)?.into_iter().flat_map(u32::to_le_bytes).collect())
+    /// The answers for all ids in turn, each after its length; or 14 as soon as there are more words than this.
+    fn in_turn(&self, single: &QuestionKind, most: usize) -> Result<Vec<u32>, u32> {
+        let mut words = Vec::new();
+        for question in single.about_all(|kind| self.count(kind), |_| 1) {
+            let answer = self.answer_within(question, most)?;
+            words.push(answer.len() as u32);
+            words.extend(answer);
+            if words.len() > most {
+                return Err(14);
+            }
+        }
+        Ok(words)
     }
 
     /// How many there are of what an id numbers.
@@ -163,13 +195,11 @@ pub fn refusal(image: &[u8]) -> u32 {
 
 /// A call: the number and the length that it gives, and the result slice as it leaves it.
 pub fn call(image: &[u8], question: Question, result: &mut [u8]) -> (u32, u64) {
-    let bytes = match Reference::new(image).and_then(|reference| reference.bytes(question)) {
-        Ok(bytes) => bytes,
-        Err(number) => return (number, 0),
-    };
-    match result.get_mut(..bytes.len()) {
-        Some(part) => part.copy_from_slice(&bytes),
-        None => return (14, 0),
+    match Reference::new(image).and_then(|reference| reference.bytes_within(question, result.len())) {
+        Ok(bytes) => {
+            result[..bytes.len()].copy_from_slice(&bytes);
+            (0, bytes.len() as u64)
+        }
+        Err(number) => (number, 0),
     }
-    (0, bytes.len() as u64)
 }

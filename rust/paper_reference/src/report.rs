@@ -57,7 +57,7 @@ fn order_blocks(answer: &[u32]) -> Vec<u32> {
     blocks
 }
 
-/// Ids behind a letter, each after a space.
+/// Ids, each after a space and a letter.
 fn items(letter: char, ids: &[u32]) -> String {
     ids.iter().map(|id| format!(" {letter}{id}")).collect()
 }
@@ -67,7 +67,7 @@ fn members(ids: &[u32]) -> String {
     if ids.is_empty() { " -".into() } else { items('v', ids) }
 }
 
-/// Intervals, three words each, every one behind its block.
+/// Intervals, three words each, every one after its block.
 fn intervals(words: &[u32]) -> String {
     let text = |triple: &[u32]| {
         let start = if triple[1] == 0 { "start".into() } else { (triple[1] - 1).to_string() };

@@ -43,6 +43,21 @@ fn report() {
     assert_eq!(ask("owner:3"), [0]);
 }
 
+/// Each answer after its length in words.
+#[test]
+fn all_ids() {
+    let image = samples::report();
+    let ask = |text| answer(&image, text);
+    assert_eq!(ask("all_predecessors"), [0, 1, 0]);
+    assert_eq!((ask("all_entry_sets"), ask("all_exit_sets")), (vec![0, 1, 2], vec![1, 1, 0]));
+    assert_eq!(ask("all_uses"), [3, 0, 0, 2, 6, 0, 0, 2, 0, 2, 0, 3, 1, 0, 3, 0]);
+    assert_eq!(ask("all_intervals"), [3, 0, 1, 3, 3, 0, 2, END, 3, 1, 0, 4, 0]);
+    assert_eq!(ask("all_owners"), [1, 0, 1, 1, 1, 1, 1, 0]);
+    assert_eq!(ask("all_allocations"), [14, 0, 1, 1, 0, 32, 0, 0, 2, 0, 2, END, 1, 0, 4]);
+    let room = |room| Reference::new(&image.pages()).unwrap().bytes_within(question("all_predecessors"), room);
+    assert_eq!((room(11), room(12).map(|bytes| bytes.len())), (Err(14), Ok(12)));
+}
+
 #[test]
 fn functions_that_call_each_other() {
     assert_eq!(answer(&samples::mutual_calls(), "order"), [0, 1, 0, 1, 1, 1]);

@@ -1,6 +1,7 @@
 //! The interface without Plank's files: no program can be made.
 
 use sir_image::Image;
+use sir_questions::IdKind;
 use std::convert::Infallible;
 use std::marker::PhantomData;
 
@@ -26,10 +27,10 @@ impl Program {
 }
 
 macro_rules! answers {
-    ($($name:ident($($id:ident)?) -> $type:ty)*) => {
+    ($($name:ident($($id:ident: $of:ty)?) -> $type:ty)*) => {
         #[allow(missing_docs)]
         impl Analyses<'_> {
-            $(pub fn $name(&self $(, $id: u32)?) -> $type {
+            $(pub fn $name(&self $(, $id: $of)?) -> $type {
                 match self.0 {}
             })*
         }
@@ -39,12 +40,12 @@ macro_rules! answers {
 answers! {
     shares_a_base() -> bool
     order() -> Vec<u32>
-    predecessors(_block) -> Vec<u32>
-    entry_set(_block) -> Vec<u32>
-    exit_set(_block) -> Vec<u32>
-    uses(_local) -> Vec<u32>
-    intervals(_local) -> Vec<u32>
-    allocations() -> u32
-    allocation(_allocation) -> Vec<u32>
-    owner(_local) -> Vec<u32>
+    predecessors(_block: u32) -> Vec<u32>
+    entry_set(_block: u32) -> Vec<u32>
+    exit_set(_block: u32) -> Vec<u32>
+    uses(_local: u32) -> Vec<u32>
+    intervals(_local: u32) -> Vec<u32>
+    count(_kind: IdKind) -> u32
+    allocation(_allocation: u32) -> Vec<u32>
+    owner(_local: u32) -> Vec<u32>
 }

@@ -36,7 +36,7 @@ mod absent;
 #[cfg(not(plank_sources))]
 pub use absent::{Analyses, Program, SOURCES};
 
-use sir_questions::{Question, Refusal};
+use sir_questions::{Question, QuestionKind, Refusal};
 
 /// Whether Plank's files were there when this was built.
 pub const PRESENT: bool = SOURCES.is_some();
@@ -50,6 +50,9 @@ pub fn takes(number: u32) -> bool {
 impl Analyses<'_> {
     /// Plank's answer to a question, where it has one: it reports no rounds.
     pub fn answer(&self, question: Question) -> Option<Vec<u32>> {
+        if let Some(single) = question.kind().single() {
+            return self.in_turn(single);
+        }
         Some(match question {
             Question::Order => self.order(),
             Question::Predecessors(block) => self.predecessors(block.0),
@@ -61,5 +64,16 @@ impl Analyses<'_> {
             Question::Owner(local) => self.owner(local.0),
             _ => return None,
         })
+    }
+
+    /// Plank's answers for all ids in turn, each after its length.
+    fn in_turn(&self, single: &QuestionKind) -> Option<Vec<u32>> {
+        let mut words = Vec::new();
+        for question in single.about_all(|kind| self.count(kind), |_| 1) {
+            let answer = self.answer(question)?;
+            words.push(answer.len() as u32);
+            words.extend(answer);
+        }
+        Some(words)
     }
 }

@@ -8,6 +8,7 @@ use sir_data::{
 };
 use sir_image::Image;
 use sir_passes::analyses::{AllocId, AllocKind, AnalysesStore, Interval, IntervalEnd, IntervalStart, UseKind};
+use sir_questions::IdKind;
 use std::cell::Cell;
 use std::panic::{self, AssertUnwindSafe};
 use std::sync::Once;
@@ -163,9 +164,15 @@ impl Analyses<'_> {
         interval_words(self.store.local_liveness(self.program).intervals_of(LocalId::new(local)))
     }
 
-    /// How many allocations there are.
-    pub fn allocations(&self) -> u32 {
-        self.store.allocation_liveness(self.program).allocations.len() as u32
+    /// How many there are of what an id numbers.
+    pub fn count(&self, kind: IdKind) -> u32 {
+        match kind {
+            IdKind::Function => self.program.functions.len() as u32,
+            IdKind::Block => self.program.basic_blocks.len() as u32,
+            IdKind::Operation => self.program.operations.len() as u32,
+            IdKind::Local => self.program.next_free_local_id.get(),
+            IdKind::Allocation => self.store.allocation_liveness(self.program).allocations.len() as u32,
+        }
     }
 
     /// The record of an allocation.

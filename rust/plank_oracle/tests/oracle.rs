@@ -3,6 +3,7 @@
 
 use plank_oracle::{Analyses, Program, SOURCES};
 use sir_image::{Code, Control, Image, Span, samples};
+use sir_questions::{IdKind, Question};
 
 const END: u32 = u32::MAX;
 
@@ -28,10 +29,12 @@ fn report() {
         assert_eq!(plank.intervals(1), [0, 2, END]);
         assert_eq!(plank.intervals(2), [1, 0, 4]);
         assert!(plank.intervals(3).is_empty());
-        assert_eq!(plank.allocations(), 1);
+        assert_eq!([IdKind::Block, IdKind::Local, IdKind::Allocation].map(|kind| plank.count(kind)), [2, 4, 1]);
         assert_eq!(plank.allocation(0), [0, 1, 1, 0, 32, 0, 0, 2, 0, 2, END, 1, 0, 4]);
         let owners: Vec<u32> = (0..4).flat_map(|local| plank.owner(local)).collect();
         assert_eq!(owners, [0, 1, 1, 0]);
+        assert_eq!(plank.answer(Question::AllPredecessors), Some(vec![0, 1, 0]));
+        assert_eq!(plank.answer(Question::AllOwners), Some(vec![1, 0, 1, 1, 1, 1, 1, 0]));
     });
 }
 

@@ -68,14 +68,14 @@ pub fn may_share(order: &[FunctionBlocks], one: &Allocation, other: &Allocation)
 /// Each pair of allocations that may share their memory.
 pub fn pairs(image: &[u8]) -> Result<Vec<(usize, usize)>, Refusal> {
     let order = sir_analyses::order(image)?;
-    let all = sir_analyses::allocations(image)?;
+    let all = sir_analyses::all_allocations(image)?;
     let pairs = (0..all.len()).flat_map(|one| (0..one).map(move |other| (other, one)));
     Ok(pairs.filter(|&(one, other)| may_share(&order, &all[one], &all[other])).collect())
 }
 
 fn main() -> Result<(), Refusal> {
     let image = program();
-    for (number, allocation) in sir_analyses::allocations(&image)?.iter().enumerate() {
+    for (number, allocation) in sir_analyses::all_allocations(&image)?.iter().enumerate() {
         println!("{number}: {allocation:?}");
     }
     println!("may share their memory: {:?}", pairs(&image)?);

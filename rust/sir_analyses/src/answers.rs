@@ -1,6 +1,6 @@
 //! Answers, decoded.
 
-use sir_questions::{BlockId, FunctionId, Id, LocalId, OpIdx};
+use sir_questions::{AllocId, BlockId, FunctionId, Id, LocalId, OpIdx};
 
 /// A function of the order and its blocks.
 #[derive(Clone, Debug, PartialEq, Eq)]
@@ -99,6 +99,18 @@ pub(crate) fn ids<I: Id>(words: &[u32]) -> Vec<I> {
     words.iter().map(|&word| I::new(word)).collect()
 }
 
+/// Answers in turn, each after its length in words.
+pub(crate) fn each<T>(words: &[u32], answer: impl Fn(&[u32]) -> T) -> Vec<T> {
+    let mut rest = words;
+    let mut all = Vec::new();
+    while let [length, after @ ..] = rest {
+        let (words, after) = after.split_at(*length as usize);
+        all.push(answer(words));
+        rest = after;
+    }
+    all
+}
+
 pub(crate) fn order(words: &[u32]) -> Vec<FunctionBlocks> {
     let mut rest = words;
     let mut order = Vec::new();
@@ -131,6 +143,10 @@ pub(crate) fn intervals(words: &[u32]) -> Vec<Interval> {
     words.as_chunks().0.iter().map(interval).collect()
 }
 
+pub(crate) fn owner(words: &[u32]) -> Option<AllocId> {
+    words[0].checked_sub(1).map(AllocId)
+}
+
 pub(crate) fn allocation(words: &[u32]) -> Allocation {
     let size = match words[3] {
         0 => Size::Static { size: words[4], id: words[5] },
@@ -160,6 +176,13 @@ mod tests {
             interval(4, Start::Operation(OpIdx(6)), End::Operation(OpIdx(8))),
         ];
         assert_eq!(intervals(&words), expected);
+    }
+
+    #[test]
+    fn answers_in_turn() {
+        assert_eq!(each(&[0, 2, 7, 8, 1, 9], ids::<LocalId>), [vec![], vec![LocalId(7), LocalId(8)], vec![LocalId(9)]]);
+        assert_eq!(each(&[1, 0, 1, 3], owner), [None, Some(AllocId(2))]);
+        assert_eq!(each(&[], owner), []);
     }
 
     #[test]

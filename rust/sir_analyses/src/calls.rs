@@ -4,7 +4,7 @@
 //! 32-bit words, and bytes past it stay. A refusal gives its number and length 0, and the result slice keeps its bytes. Of
 //! several refusals that apply the first in the sequence of [`Refusal::ALL`] is given.
 //!
-//! The C functions are declared as in `include/sir_analyses.h`, each as the function here behind `sir_`.
+//! The C functions are declared as in `include/sir_analyses.h`, each as the function here after `sir_`.
 #![cfg_attr(sir_linked, allow(unsafe_code))]
 
 use sir_questions::*;
@@ -31,7 +31,10 @@ impl Answer {
 
 /// Declares the functions where there is a library, and wraps each in a safe one.
 macro_rules! functions {
-    ($($(#[$doc:meta])* $number:literal $question:ident $(($($id:ident: $type:ident),+))? = $name:ident;)*) => {
+    ($(
+        $(#[$doc:meta])*
+        $number:literal $question:ident $(($($id:ident: $type:ident),+))? $(of $one:ident)? = $name:ident;
+    )*) => {
         /// Puts any question.
         pub fn ask(question: Question, image: &[u8], result: &mut [u8]) -> Answer {
             match question {

@@ -5,6 +5,9 @@
 //! [`calls::ask`] does so for any [`Question`]. A function of this module takes the image and the ids, lends as much memory
 //! as the answer needs, and gives the answer decoded, or the [`Refusal`].
 //!
+//! A question about one id has a form for all ids, as [`all_uses`] for [`uses`]: one call, which reads the image once and gives
+//! the answers for ids 0, 1, .. in turn.
+//!
 //! ```no_run
 //! use sir_analyses::BlockId;
 //!
@@ -12,6 +15,9 @@
 //! let image = std::fs::read("typical.img")?;
 //! for function in sir_analyses::order(&image)? {
 //!     println!("{:?}: {:?}", function.function, function.blocks);
+//! }
+//! for (number, allocation) in sir_analyses::all_allocations(&image)?.iter().enumerate() {
+//!     println!("allocation {number}: {:?}", allocation.intervals);
 //! }
 //! println!("live at the end of block 0: {:?}", sir_analyses::exit_set(&image, BlockId(0))?);
 //! # Ok(())
@@ -29,11 +35,17 @@
 //! An allocation whose pointer is never read has no interval; where the operation that makes it clears its bytes, they must
 //! be its own there all the same. `examples/ask.rs` goes by both.
 //!
+//! # How long an answer may be
+//!
+//! Operations and operands may be shared by many blocks, so an answer may be far longer than the image: a legal image has one
+//! local with 2^30 uses, which take 12 GiB. The functions of this module lend whatever is needed. Where an image comes from
+//! elsewhere, call [`calls`] with a slice of a length of your choice: a longer answer is refused with 14.
+//!
 //! # The library
 //!
 //! The library is `libsir_capi.a` of the repository's `target/staticlib`, which `rt staticlib sir_capi` builds, or of the
-//! folder `SIR_ANALYSES_LIB`. Where it is missing, this crate builds without it: [`LINKED`] is false, and every question
-//! panics.
+//! folder that the environment variable `SIR_ANALYSES_LIB` names. Where that variable is not set and there is none, this
+//! crate builds without it: [`LINKED`] is false, and every question panics.
 
 mod answers;
 pub mod calls;
@@ -85,7 +97,7 @@ pub fn intervals(image: &[u8], local: LocalId) -> Result<Vec<Interval>, Refusal>
 
 /// The allocation that owns a local, if any.
 pub fn owner(image: &[u8], local: LocalId) -> Result<Option<AllocId>, Refusal> {
-    Ok(words(image, Question::Owner(local))?[0].checked_sub(1).map(AllocId))
+    Ok(answers::owner(&words(image, Question::Owner(local))?))
 }
 
 /// An allocation.
@@ -93,27 +105,57 @@ pub fn allocation(image: &[u8], allocation: AllocId) -> Result<Allocation, Refus
     Ok(answers::allocation(&words(image, Question::Allocation(allocation))?))
 }
 
-/// All allocations, by number.
-pub fn allocations(image: &[u8]) -> Result<Vec<Allocation>, Refusal> {
-    let mut all = Vec::new();
-    loop {
-        match allocation(image, AllocId(all.len() as u32)) {
-            Ok(allocation) => all.push(allocation),
-            Err(Refusal::UNKNOWN_ID) => return Ok(all),
-            Err(refusal) => return Err(refusal),
-        }
-    }
+/// The predecessors of every block, repeats kept.
+pub fn all_predecessors(image: &[u8]) -> Result<Vec<Vec<BlockId>>, Refusal> {
+    all(image, Question::AllPredecessors, answers::ids)
+}
+
+/// The locals that are live at the entry of each block, ascending.
+pub fn all_entry_sets(image: &[u8]) -> Result<Vec<Vec<LocalId>>, Refusal> {
+    all(image, Question::AllEntrySets, answers::ids)
+}
+
+/// The locals that are live at the exit of each block, ascending.
+pub fn all_exit_sets(image: &[u8]) -> Result<Vec<Vec<LocalId>>, Refusal> {
+    all(image, Question::AllExitSets, answers::ids)
+}
+
+/// The uses of every local.
+pub fn all_uses(image: &[u8]) -> Result<Vec<Vec<Use>>, Refusal> {
+    all(image, Question::AllUses, answers::uses)
+}
+
+/// The intervals of every local.
+pub fn all_intervals(image: &[u8]) -> Result<Vec<Vec<Interval>>, Refusal> {
+    all(image, Question::AllIntervals, answers::intervals)
+}
+
+/// The allocation that owns each local, if any.
+pub fn all_owners(image: &[u8]) -> Result<Vec<Option<AllocId>>, Refusal> {
+    all(image, Question::AllOwners, answers::owner)
+}
+
+/// All allocations.
+pub fn all_allocations(image: &[u8]) -> Result<Vec<Allocation>, Refusal> {
+    all(image, Question::AllAllocations, answers::allocation)
+}
+
+/// The answers for all ids, decoded.
+fn all<T>(image: &[u8], question: Question, answer: impl Fn(&[u32]) -> T) -> Result<Vec<T>, Refusal> {
+    Ok(answers::each(&words(image, question)?, answer))
 }
 
 /// The words of an answer.
 fn words(image: &[u8], question: Question) -> Result<Vec<u32>, Refusal> {
-    let bytes = bytes(|result| calls::ask(question, image, result))?;
+    // Answers for all ids are long, and a slice that is too short costs a whole call.
+    let first = if question.kind().single().is_some() { 1 << 18 } else { 1 << 12 };
+    let bytes = bytes(first, |result| calls::ask(question, image, result))?;
     Ok(bytes.as_chunks().0.iter().map(|&word| u32::from_le_bytes(word)).collect())
 }
 
 /// The bytes of an answer. Since a short slice is refused without telling what would do, more is lent until it does.
-fn bytes(call: impl Fn(&mut [u8]) -> Answer) -> Result<Vec<u8>, Refusal> {
-    let mut result = vec![0; 1 << 12];
+fn bytes(first: usize, call: impl Fn(&mut [u8]) -> Answer) -> Result<Vec<u8>, Refusal> {
+    let mut result = vec![0; first];
     loop {
         match call(&mut result).length() {
             Ok(length) => {
@@ -133,7 +175,7 @@ mod tests {
     /// A slice is made longer until the answer has room, and other refusals are told.
     #[test]
     fn bytes_of_an_answer() {
-        let answered = bytes(|result| match result.get_mut(..20_000) {
+        let answered = bytes(1 << 12, |result| match result.get_mut(..20_000) {
             Some(part) => {
                 part.fill(1);
                 Answer { number: 0, length: 20_000 }
@@ -141,7 +183,7 @@ mod tests {
             None => Answer { number: 14, length: 0 },
         });
         assert_eq!(answered, Ok(vec![1; 20_000]));
-        assert_eq!(bytes(|_| Answer { number: 13, length: 0 }), Err(Refusal::UNKNOWN_ID));
-        assert_eq!(bytes(|_| Answer { number: 0, length: 0 }), Ok(vec![]));
+        assert_eq!(bytes(1 << 12, |_| Answer { number: 13, length: 0 }), Err(Refusal::UNKNOWN_ID));
+        assert_eq!(bytes(1 << 12, |_| Answer { number: 0, length: 0 }), Ok(vec![]));
     }
 }

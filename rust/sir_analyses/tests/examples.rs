@@ -12,7 +12,7 @@ mod ask;
 
 #[test]
 fn from_rust() {
-    let all = sir_analyses::allocations(&ask::program()).unwrap();
+    let all = sir_analyses::all_allocations(&ask::program()).unwrap();
     assert_eq!(all.iter().map(|allocation| allocation.marked).collect::<Vec<_>>(), [false, false, true]);
     assert_eq!(ask::pairs(&ask::program()), Ok(vec![(0, 1)]));
 }
@@ -33,7 +33,7 @@ fn caller_and_callee() {
     image.function(0);
     image.function(1);
     let image = image.pages();
-    let all = sir_analyses::allocations(&image).unwrap();
+    let all = sir_analyses::all_allocations(&image).unwrap();
     assert_eq!(
         all.iter().map(|allocation| (allocation.marked, allocation.block.0)).collect::<Vec<_>>(),
         [(false, 0), (false, 1)]
@@ -51,7 +51,7 @@ fn an_unread_buffer() {
     image.block(&[], &[], image.operations_from(0), Control::LastOpTerminates);
     image.function(0);
     let image = image.pages();
-    assert!(sir_analyses::allocations(&image).unwrap()[1].intervals.is_empty());
+    assert!(sir_analyses::all_allocations(&image).unwrap()[1].intervals.is_empty());
     assert_eq!(ask::pairs(&image), Ok(vec![]));
 }
 

@@ -4,6 +4,7 @@
 use sir_analyses::{AllocId, BlockId, Cause, FunctionId, LocalId, OpIdx, Question, Refusal};
 use sir_analyses::{Answer, End, FunctionBlocks, Interval, Place, Size, Start, Use, calls};
 use sir_image::{Block, Control, Image, MAX_BLOCKS, MAX_OPERANDS, MAX_OPERATIONS, Operation, Span, samples};
+use sir_questions::Id;
 use std::{fs, path::Path};
 
 /// Number, length and every byte of the result slice are the paper's.
@@ -43,17 +44,38 @@ fn report_allocations_decoded() {
     let second = Interval { block: BlockId(1), start: Start::Block, end: End::Operation(OpIdx(3)) };
     let owners = [2, 0].map(|local| sir_analyses::owner(&image, LocalId(local)));
     assert_eq!(owners, [Ok(Some(AllocId(0))), Ok(None)]);
-    let all = sir_analyses::allocations(&image).unwrap();
+    let all = sir_analyses::all_allocations(&image).unwrap();
     assert_eq!(all.len(), 1);
     assert_eq!((all[0].block, all[0].operation, all[0].base), (BlockId(0), OpIdx(1), LocalId(1)));
     assert!(!all[0].marked);
     assert_eq!((all[0].size, &all[0].intervals), (Size::Static { size: 32, id: 0 }, &vec![first, second]));
 }
 
+/// The answers for all ids are those for each id, in turn.
+#[test]
+fn all_ids_decoded() {
+    fn each<I: Id, T>(ask: impl Fn(I) -> Result<T, Refusal>) -> Result<Vec<T>, Refusal> {
+        let answers = (0..).map(|id| ask(I::new(id)));
+        answers.take_while(|answer| answer.as_ref().err() != Some(&Refusal::UNKNOWN_ID)).collect()
+    }
+    let path = Path::new(env!("CARGO_MANIFEST_DIR")).join("../../examples/functions.img");
+    let image = &fs::read(path).unwrap();
+    assert_eq!(sir_analyses::all_predecessors(image), each(|block| sir_analyses::predecessors(image, block)));
+    assert_eq!(sir_analyses::all_entry_sets(image), each(|block| sir_analyses::entry_set(image, block)));
+    assert_eq!(sir_analyses::all_exit_sets(image), each(|block| sir_analyses::exit_set(image, block)));
+    assert_eq!(sir_analyses::all_uses(image), each(|local| sir_analyses::uses(image, local)));
+    assert_eq!(sir_analyses::all_intervals(image), each(|local| sir_analyses::intervals(image, local)));
+    assert_eq!(sir_analyses::all_owners(image), each(|local| sir_analyses::owner(image, local)));
+    assert_eq!(sir_analyses::all_allocations(image), each(|allocation| sir_analyses::allocation(image, allocation)));
+    let lengths = [sir_analyses::all_uses(image).unwrap().len(), sir_analyses::all_allocations(image).unwrap().len()];
+    assert_eq!(lengths, [16, 3]);
+}
+
 #[test]
 fn refusals_decoded() {
     let image = samples::report().pages();
     assert_eq!(sir_analyses::order(&image[..511]), Err(Refusal::LENGTH));
+    assert_eq!(sir_analyses::all_uses(&image[..511]), Err(Refusal::LENGTH));
     assert_eq!(sir_analyses::uses(&image, LocalId(4)), Err(Refusal::UNKNOWN_ID));
     assert_eq!(Refusal::UNKNOWN_ID.number(), 13);
 }
@@ -99,6 +121,7 @@ fn long_answers() {
     assert_eq!(blocks, sir_image::MAX_BLOCKS);
     assert_as_the_paper(Question::Uses(LocalId(511)), &image, 1 << 20);
     assert_as_the_paper(Question::EntrySet(BlockId(0)), &image, 4096);
+    assert_as_the_paper(Question::AllEntrySets, &image, 1 << 20);
 }
 
 /// Every question keeps within the stack that the header states.
@@ -131,7 +154,9 @@ fn longest_uses() {
         let operations = Span { start: 0, end: MAX_OPERATIONS as u32 };
         image.blocks.push(Block { inputs: Span::default(), outputs: Span::default(), operations, control });
     }
-    let mut result = [7u8; 64];
-    let answer = calls::uses(&image.pages(), LocalId(0), &mut result);
-    assert_eq!((answer, result), (Answer { number: 14, length: 0 }, [7u8; 64]));
+    for question in [Question::Uses(LocalId(0)), Question::AllUses] {
+        let mut result = [7u8; 64];
+        let answer = calls::ask(question, &image.pages(), &mut result);
+        assert_eq!((answer, result), (Answer { number: 14, length: 0 }, [7u8; 64]), "{question}");
+    }
 }

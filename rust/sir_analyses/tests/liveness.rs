@@ -41,7 +41,7 @@ fn stop(image: &mut Image) {
     image.block(&[], &[], image.operations_from(first), Control::LastOpTerminates);
 }
 
-/// Block 0 gives local 0 and goes on to block 1.
+/// Block 0 defines local 0 and goes on to block 1.
 fn started(locals: u32) -> Image {
     let mut image = Image::new(locals);
     image.operation(Code::SetSmallConst, &[], &[0]);
@@ -58,8 +58,8 @@ fn loop_of_one_block() {
     let image = image.pages();
     assert_eq!((entry_set(&image, 0), exit_set(&image, 0)), (Ok(vec![]), Ok(vec![0])));
     assert_eq!((entry_set(&image, 1), exit_set(&image, 1)), (Ok(vec![0]), Ok(vec![0])));
-    let given = Interval { block: BlockId(0), start: Start::Operation(OpIdx(0)), end: End::Block };
-    assert_eq!(intervals(&image, 0), Ok(vec![given, WHOLE(1)]));
+    let defined = Interval { block: BlockId(0), start: Start::Operation(OpIdx(0)), end: End::Block };
+    assert_eq!(intervals(&image, 0), Ok(vec![defined, WHOLE(1)]));
     assert_eq!(rounds(&image), Ok(2));
 }
 
@@ -77,7 +77,7 @@ fn loop_of_two_blocks() {
     assert_eq!(rounds(&image), Ok(3));
 }
 
-/// An operation that reads and gives one local.
+/// An operation that reads and defines one local.
 #[test]
 fn self_loop() {
     let mut image = Image::new(1);
@@ -85,9 +85,9 @@ fn self_loop() {
     image.function(0);
     let image = image.pages();
     assert_eq!((entry_set(&image, 0), exit_set(&image, 0), rounds(&image)), (Ok(vec![0]), Ok(vec![0]), Ok(2)));
-    let given = Interval { block: BlockId(0), start: Start::Operation(OpIdx(0)), end: End::Block };
+    let defined = Interval { block: BlockId(0), start: Start::Operation(OpIdx(0)), end: End::Block };
     let read = Interval { block: BlockId(0), start: Start::Block, end: End::Operation(OpIdx(0)) };
-    assert_eq!(intervals(&image, 0), Ok(vec![given, read]));
+    assert_eq!(intervals(&image, 0), Ok(vec![defined, read]));
 }
 
 /// A loop that is entered at both of its blocks.

@@ -5,7 +5,8 @@ use std::fmt::{self, Display, Formatter};
 use std::str::FromStr;
 
 /// Hands the table of the questions to a macro. A line is: number, name with ids and their types, name of the function that
-/// answers (in C behind `sir_`). Numbers are those of recorded files, so that none changes.
+/// answers (in C after `sir_`). `of` names the question about one id whose answers for all ids are given. Numbers are those
+/// of recorded files, so that none changes.
 #[macro_export]
 macro_rules! questions {
     ($then:ident) => {
@@ -29,12 +30,29 @@ macro_rules! questions {
             7 Owner(local: LocalId) = owner;
             /// The rounds of liveness: one word.
             8 Rounds = rounds;
+            /// The predecessors of all blocks: those of block 0, 1, .., each answer after its length in words.
+            9 AllPredecessors of predecessors = all_predecessors;
+            /// The entry sets of all blocks: that of block 0, 1, .., each answer after its length in words.
+            10 AllEntrySets of entry_set = all_entry_sets;
+            /// The exit sets of all blocks: that of block 0, 1, .., each answer after its length in words.
+            11 AllExitSets of exit_set = all_exit_sets;
+            /// The uses of all locals: those of local 0, 1, .., each answer after its length in words.
+            12 AllUses of uses = all_uses;
+            /// The intervals of all locals: those of local 0, 1, .., each answer after its length in words.
+            13 AllIntervals of intervals = all_intervals;
+            /// All allocations: allocation 0, 1, .., each answer after its length in words.
+            14 AllAllocations of allocation = all_allocations;
+            /// The owners of all locals: that of local 0, 1, .., each answer after its length in words, 1.
+            15 AllOwners of owner = all_owners;
         }
     };
 }
 
 macro_rules! define {
-    ($($(#[$doc:meta])* $number:literal $question:ident $(($($id:ident: $type:ident),+))? = $name:ident;)*) => {
+    ($(
+        $(#[$doc:meta])*
+        $number:literal $question:ident $(($($id:ident: $type:ident),+))? $(of $one:ident)? = $name:ident;
+    )*) => {
         /// A question about an image, with the ids that it is about.
         #[derive(Clone, Copy, Debug, PartialEq, Eq, Hash)]
         pub enum Question {
@@ -47,6 +65,7 @@ macro_rules! define {
                 number: $number,
                 name: stringify!($name),
                 ids: &[$($($type::KIND),+)?],
+                of: &[$(stringify!($one))?],
             }),*];
 
             /// The question of a number and ids, where there is such a question and it takes so many.
@@ -92,9 +111,16 @@ pub struct QuestionKind {
     pub name: &'static str,
     /// What its ids number.
     pub ids: &'static [IdKind],
+    /// The name of the question about one id that it puts for all ids, if it does.
+    of: &'static [&'static str],
 }
 
 impl QuestionKind {
+    /// The question about one id whose answers for all ids this one gives, where it is such a question.
+    pub fn single(&self) -> Option<&'static QuestionKind> {
+        Question::KINDS.iter().find(|kind| self.of.contains(&kind.name))
+    }
+
     /// The question of this kind about these ids.
     ///
     /// # Panics
@@ -138,7 +164,7 @@ impl QuestionKind {
     }
 }
 
-/// As a user types it: the name; behind a colon the ids, parted by commas.
+/// As a user types it: the name; after a colon the ids, parted by commas.
 impl Display for Question {
     fn fmt(&self, f: &mut Formatter<'_>) -> fmt::Result {
         f.write_str(self.kind().name)?;
@@ -193,6 +219,17 @@ mod tests {
         }
     }
 
+    /// Each question about one id has one for all ids, which takes none; no other question has.
+    #[test]
+    fn all_of_a_question() {
+        for kind in Question::KINDS {
+            let all: Vec<_> = Question::KINDS.iter().filter(|other| other.single() == Some(kind)).collect();
+            assert_eq!(all.len(), kind.ids.len(), "{}", kind.name);
+            assert!(all.iter().all(|all| all.ids.is_empty()));
+            assert_eq!(kind.single().is_some(), kind.name.starts_with("all_"), "{}", kind.name);
+        }
+    }
+
     #[test]
     fn texts() {
         assert_eq!("order".parse(), Ok(Question::Order));
@@ -217,7 +254,7 @@ mod tests {
 
     #[test]
     fn lists_of_two_ids() {
-        let two = QuestionKind { number: 99, name: "two", ids: &[IdKind::Block, IdKind::Operation] };
+        let two = QuestionKind { number: 99, name: "two", ids: &[IdKind::Block, IdKind::Operation], of: &[] };
         let count = |kind| if kind == IdKind::Block { 2 } else { 3 };
         assert_eq!(two.id_lists(count, |_| 1), [[0, 0], [0, 1], [0, 2], [1, 0], [1, 1], [1, 2]]);
         assert_eq!(two.id_lists(count, |count| count - 1), [[0, 0], [0, 2], [1, 0], [1, 2]]);

@@ -1,6 +1,6 @@
 //! Plank's analyses.
 //!
-//! Shims: the module `analyses` itself, its `cache::Analysis`, and [`analyses::AnalysesStore`] with `reachable_blocks`.
+//! Shims: the module `analyses` itself, its `cache::Analysis`, and `analyses::AnalysesStore` with `reachable_blocks`.
 #![cfg_attr(plank_sources, allow(missing_docs, clippy::all))]
 
 #[cfg(plank_sources)]

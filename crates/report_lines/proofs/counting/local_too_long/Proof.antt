@@ -1,43 +1,52 @@
 -- `local_too_long` meets its contract.
-use mathlib.Core.Path.{_≡_, refl, sym, _∙_}
+use mathlib.Core.Path.{_≡_, sym, _∙_}
 use Prim.Native.Nat.{_-_, _≤_, _<_}
 use native.Mathlib.Omega.{arith}
-use lib.ListN.{length}
 use Rattle.plank_core.specs.Lists.{any, range}
 use Rattle.plank_core.specs.laws.Loops.{any-step, any-stop, any-end}
 use Rattle.sir_data.specs.Records.{locals}
 use Rattle.sir_analyses.specs.Answers.{intervalsAnswer}
 use Rattle.report_lines.specs.Counting.{localTooLong}
 use Rattle.report_lines.proofs.TooLong.{is-long, not-long, longLocal, locals-start}
+use borrow.Author.Needs.{needs}
 use Rattle.report_lines.proofs.counting.local_too_long.Statement.{statement}
 use Rattle.report_lines.proofs.counting.local_too_long.Tie as tie
 
 abbrev Inv-loop : tie.InvT-loop
-Inv-loop words rpo reads writes exits ends out₀ count v₀ out v = (v ≤ count) × (length out ≡ length out₀) × (any (longLocal words) (range v (locals words)) ≡ localTooLong words)
+Inv-loop words visit live count v₀ v = (v ≤ count) × (any (longLocal words) (range v (locals words)) ≡ localTooLong words)
 
 abbrev μ-loop : tie.MeasureT-loop
-μ-loop words rpo reads writes exits ends out₀ count v₀ out v = count - v
+μ-loop words visit live count v₀ v = count - v
 
 local-count-requires : tie.Need-local-count-requires Inv-loop μ-loop
-local-count-requires c κs = omega (arith, c .before .before .before .before .before .before .before .pre .0 .sized .size)
+local-count-requires c κs = omega (arith, c .before .before .before .pre .0 .well-formed .sized .size)
 
 loop-holds : tie.Need-loop-holds Inv-loop μ-loop
-loop-holds c = (omega arith, refl, locals-start (c .before .before .before .before .before .before .before .before .args .words .now))
+loop-holds c =
+    let start = c .before .before .before .before in
+    (omega arith, locals-start (start .args .words .now))
+
+slice-aggregate-put-intervals : tie.Need-slice-aggregate-put-intervals Inv-loop μ-loop
+slice-aggregate-put-intervals c = search needs
 
 put-intervals-requires : tie.Need-put-intervals-requires Inv-loop μ-loop
 put-intervals-requires c κs =
-    let b3 = c .before .before .before in
-    let b11 = b3 .before .before .before .before .before .before .before .before in
-    (b11 .pre .0, (b11 .pre .1 .0, (b11 .pre .1 .1, (omega (arith, c .before .loop-test .taken, b3 .local-count .ensures), omega arith))))
-
-same-length : tie.Need-same-length Inv-loop μ-loop
-same-length c = omega (arith, c .before .before .before .put-intervals .kept, c .before .before .before .before .before .before .loop .inv .1)
+    let at-loop-test = c .before in
+    let at-local-count = at-loop-test .before .before in
+    let start = at-local-count .before .before .before .before in
+    (start .pre .0, (start .pre .1, omega (arith, at-loop-test .loop-test .taken, at-local-count .local-count .ensures)))
 
 returns : tie.Need-returns Inv-loop μ-loop
-returns c = let w = c .before .before .before .before .before .before .before .before .before .before .before .before .before .before .before .args .words .now in
-    let v = c .before .before .before .before .before .before .loop .v in
-    let l : v < locals w = omega (arith, c .before .before .before .before .before .loop-test .taken, c .before .before .before .before .before .before .before .local-count .ensures) in
-    sym (any-stop (longLocal w) v (locals w) l (is-long (intervalsAnswer w v) (c .before .before .before .put-intervals .ensures .1) (c .if1 .taken))) ∙ c .before .before .before .before .before .before .loop .inv .2
+returns c =
+    let at-put-intervals = c .before .before in
+    let at-loop-test = at-put-intervals .before .before in
+    let at-loop = at-loop-test .before in
+    let at-local-count = at-loop .before in
+    let start = at-local-count .before .before .before .before in
+    let w = start .args .words .now in
+    let v = at-loop .loop .v in
+    let l : v < locals w = omega (arith, at-loop-test .loop-test .taken, at-local-count .local-count .ensures) in
+    sym (any-stop (longLocal w) v (locals w) l (is-long (intervalsAnswer w v) (at-put-intervals .put-intervals .ensures .1) (c .if1 .taken))) ∙ at-loop .loop .inv .1
 
 add-v : tie.Need-add-v Inv-loop μ-loop
 add-v c = omega arith
@@ -47,22 +56,23 @@ loop-less c = omega arith
 
 loop-again : tie.Need-loop-again Inv-loop μ-loop
 loop-again c =
-    let b3 = c .before .before .before in
-    let b5 = b3 .before .before in
-    let b6 = b5 .before in
-    let b7 = b6 .before in
-    let b15 = b7 .before .before .before .before .before .before .before .before in
-    let w = b15 .args .words .now in
-    let v = b6 .loop .v in
-    let l : v < locals w = omega (arith, b5 .loop-test .taken, b7 .local-count .ensures) in
-    (omega arith, omega (arith, b3 .put-intervals .kept, b6 .loop .inv .1), any-step (longLocal w) v (locals w) l (not-long (intervalsAnswer w v) (b3 .put-intervals .ensures .1) (c .if1 .left)) ∙ b6 .loop .inv .2)
-
-same-length-2 : tie.Need-same-length-2 Inv-loop μ-loop
-same-length-2 c = c .before .loop .inv .1
+    let at-put-intervals = c .before .before in
+    let at-loop-test = at-put-intervals .before .before in
+    let at-loop = at-loop-test .before in
+    let at-local-count = at-loop .before in
+    let start = at-local-count .before .before .before .before in
+    let w = start .args .words .now in
+    let v = at-loop .loop .v in
+    let l : v < locals w = omega (arith, at-loop-test .loop-test .taken, at-local-count .local-count .ensures) in
+    (omega arith, any-step (longLocal w) v (locals w) l (not-long (intervalsAnswer w v) (at-put-intervals .put-intervals .ensures .1) (c .if1 .left)) ∙ at-loop .loop .inv .1)
 
 returns-2 : tie.Need-returns-2 Inv-loop μ-loop
-returns-2 c = let w = c .before .before .before .before .before .before .before .before .before .before .args .words .now in
-    sym (any-end (longLocal w) (c .before .loop .v) (locals w) (omega (arith, c .loop-test .left, c .before .before .local-count .ensures))) ∙ c .before .loop .inv .2
+returns-2 c =
+    let at-loop = c .before in
+    let at-local-count = at-loop .before in
+    let start = at-local-count .before .before .before .before in
+    let w = start .args .words .now in
+    sym (any-end (longLocal w) (at-loop .loop .v) (locals w) (omega (arith, c .loop-test .left, at-local-count .local-count .ensures))) ∙ at-loop .loop .inv .1
 
 pub local-too-long-spec : {M : Type 1} → statement M
 local-too-long-spec =
@@ -72,11 +82,10 @@ local-too-long-spec =
     μ-loop
     local-count-requires
     loop-holds
+    slice-aggregate-put-intervals
     put-intervals-requires
-    same-length
     returns
     add-v
     loop-less
     loop-again
-    same-length-2
     returns-2)

@@ -1,5 +1,6 @@
 -- `say_blocks` meets its contract.
-use mathlib.Core.Path.{_≡_, refl, sym}
+use mathlib.Core.Path.{_≡_, refl, sym, _∙_}
+use Rattle.sir_data.specs.Records.{blocks}
 use mathlib.Core.Logic.{⊎-elim}
 use Prim.Native.Nat.{_-_, _≤_, _<_}
 use native.Mathlib.Omega.{arith}
@@ -10,33 +11,42 @@ use Rattle.report_lines.proofs.printing.say_blocks.Statement.{statement
 use Rattle.report_lines.proofs.printing.say_blocks.Tie as tie
 
 abbrev Inv-loop : tie.InvT-loop
-Inv-loop words seen uses defs exits line₀ count b₀ line b = (b ≤ count) × (length line ≡ length line₀)
+Inv-loop words visit live line₀ count b₀ line b = (b ≤ count) × (length line ≡ length line₀)
 
 abbrev μ-loop : tie.MeasureT-loop
-μ-loop words seen uses defs exits line₀ count b₀ line b = count - b
+μ-loop words visit live line₀ count b₀ line b = count - b
 
 block-count-requires : tie.Need-block-count-requires Inv-loop μ-loop
-block-count-requires c κs = omega (arith, c .before .before .before .before .before .before .pre .0 .sized .size)
+block-count-requires c κs =
+    let start = c .before .before .before .before in
+    omega (arith, start .pre .0 .well-formed .sized .size)
 
 loop-holds : tie.Need-loop-holds Inv-loop μ-loop
 loop-holds c = (omega arith, refl)
 
-row-contains-requires : tie.Need-row-contains-requires Inv-loop μ-loop
-row-contains-requires c κs =
-    let b9 = c .before .before .before .before .before .before .before .before .before in
-    (omega (arith, b9 .pre .1 .0 .0 .wide), omega (arith, b9 .pre .0 .sized .blocks-most, c .before .before .block-count .ensures, c .loop-test .taken))
+is-visited-requires : tie.Need-is-visited-requires Inv-loop μ-loop
+is-visited-requires c κs =
+    let at-block-count = c .before .before in
+    let start = at-block-count .before .before .before .before .before in
+    (start .pre .0 .long, omega (arith, start .pre .0 .well-formed .sized .blocks-most, at-block-count .block-count .ensures, c .loop-test .taken))
 
 block-text-requires : tie.Need-block-text-requires Inv-loop μ-loop
-block-text-requires c κs = let P = c .before .before .before .before .before .before .before .before .before .before .before .before .pre in
-    let l : c .before .before .before .before .loop .b < 256 = omega (arith, P .0 .sized .blocks-most, c .before .before .before .before .before .block-count .ensures, c .before .before .before .loop-test .taken) in
-    let t = P .1 .0 .1 in
-    ((omega (arith, t .block-rows .uses-long), omega (arith, t .block-rows .defs-long), omega (arith, t .exits-long)), omega (arith, P .1 .1, c .before .before .before .before .loop .inv .1))
+block-text-requires c κs =
+    let at-if1 = c .before in
+    let at-is-visited = at-if1 .before in
+    let at-loop-test = at-is-visited .before in
+    let at-loop = at-loop-test .before in
+    let at-block-count = at-loop .before in
+    let start = at-block-count .before .before .before .before .before in
+    let P = start .pre in
+    let l : at-loop .loop .b < blocks (start .args .words .now) = omega (arith, at-block-count .block-count .ensures, at-loop-test .loop-test .taken) in
+    (P .1 .0, (l, sym (P .0 .visited-is (at-loop .loop .b) l) ∙ sym (at-is-visited .is-visited .ensures) ∙ at-if1 .if1 .taken, omega (arith, P .1 .1, at-loop .loop .inv .1)))
 
 slice-reshare-prefix-say : tie.Need-slice-reshare-prefix-say Inv-loop μ-loop
-slice-reshare-prefix-say c = c .before .before .block-text .ensures .0
+slice-reshare-prefix-say c = omega (arith, c .before .before .block-text .ensures .fits, c .before .before .block-text .ensures .long)
 
 slice-aggregate-say : tie.Need-slice-aggregate-say Inv-loop μ-loop
-slice-aggregate-say c = sym (length-take-le _ _ (c .before .before .before .block-text .ensures .0))
+slice-aggregate-say c = sym (length-take-le _ _ (omega (arith, c .before .before .before .block-text .ensures .fits, c .before .before .before .block-text .ensures .long)))
 
 say-requires : tie.Need-say-requires Inv-loop μ-loop
 say-requires c κs = search needs
@@ -48,8 +58,12 @@ loop-less : tie.Need-loop-less Inv-loop μ-loop
 loop-less c = omega arith
 
 loop-again : tie.Need-loop-again Inv-loop μ-loop
-loop-again c = let L = c .before .before .before .loop in
-    let g : length (c .if1 .line) ≡ length (c .before .before .before .before .before .before .before .before .before .before .before .args .line .now) =
+loop-again c =
+    let at-loop = c .before .before .before in
+    let at-shared-slice-known = at-loop .before .before .before .before .before in
+    let start = at-shared-slice-known .before in
+    let L = at-loop .loop in
+    let g : length (c .if1 .line) ≡ length (start .args .line .now) =
     ⊎-elim (λ x. rw (x .7) (omega (arith, x .2 .kept, L .inv .1))) (λ x. rw (x .1) (L .inv .1)) (c .if1 .came) in
     (omega arith, g)
 
@@ -67,7 +81,7 @@ say-blocks-spec =
     μ-loop
     block-count-requires
     loop-holds
-    row-contains-requires
+    is-visited-requires
     block-text-requires
     slice-reshare-prefix-say
     slice-aggregate-say

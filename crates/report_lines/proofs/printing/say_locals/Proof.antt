@@ -11,31 +11,39 @@ use Rattle.report_lines.proofs.printing.say_locals.Statement.{statement
 use Rattle.report_lines.proofs.printing.say_locals.Tie as tie
 
 abbrev Inv-loop : tie.InvT-loop
-Inv-loop words rpo reads writes exits ends out₀ line₀ count v₀ out line v = (v ≤ count) × (length out ≡ length out₀) × (length line ≡ length line₀)
+Inv-loop words visit live out₀ line₀ count v₀ out line v = (v ≤ count) × (length out ≡ length out₀) × (length line ≡ length line₀)
 
 abbrev μ-loop : tie.MeasureT-loop
-μ-loop words rpo reads writes exits ends out₀ line₀ count v₀ out line v = count - v
+μ-loop words visit live out₀ line₀ count v₀ out line v = count - v
 
 local-count-requires : tie.Need-local-count-requires Inv-loop μ-loop
-local-count-requires c κs = omega (arith, c .before .before .before .before .before .before .before .before .pre .0 .sized .size)
+local-count-requires c κs =
+    let start = c .before .before .before .before .before in
+    omega (arith, start .pre .0 .well-formed .sized .size)
 
 loop-holds : tie.Need-loop-holds Inv-loop μ-loop
 loop-holds c = (omega arith, refl, refl)
 
 local-text-requires : tie.Need-local-text-requires Inv-loop μ-loop
 local-text-requires c κs =
-    let b3 = c .before .before .before in
-    let b4 = b3 .before in
-    let b13 = b4 .before .before .before .before .before .before .before .before .before in
-    let P = b13 .pre in
-    let l : b3 .loop .v < locals (b13 .args .words .now) = omega (arith, b4 .local-count .ensures, c .before .before .loop-test .taken) in
-    (P .0, (P .1 .0, (P .1 .1 .0, ((l, local-short (b13 .args .words .now) (P .1 .1 .1 .0) l), (omega (arith, P .1 .1 .1 .1 .0, b3 .loop .inv .1), omega (arith, P .1 .1 .1 .1 .1, b3 .loop .inv .2))))))
+    let at-loop-test = c .before .before in
+    let at-loop = at-loop-test .before in
+    let at-local-count = at-loop .before in
+    let at-shared-slice-known = at-local-count .before .before .before .before .before in
+    let start = at-shared-slice-known .before in
+    let P = start .pre in
+    let l : at-loop .loop .v < locals (start .args .words .now) = omega (arith, at-local-count .local-count .ensures, at-loop-test .loop-test .taken) in
+    (P .0, (P .1 .0 .0, ((l, local-short (start .args .words .now) (P .1 .0 .1) l), (omega (arith, P .1 .1 .0, at-loop .loop .inv .1), omega (arith, P .1 .1 .1, at-loop .loop .inv .2)))))
 
 slice-reshare-prefix-say : tie.Need-slice-reshare-prefix-say Inv-loop μ-loop
-slice-reshare-prefix-say c = omega (arith, c .before .before .before .before .local-text .ensures .fits, c .before .before .before .before .local-text .ensures .long)
+slice-reshare-prefix-say c =
+    let at-local-text = c .before .before .before .before in
+    omega (arith, at-local-text .local-text .ensures .fits, at-local-text .local-text .ensures .long)
 
 slice-aggregate-say : tie.Need-slice-aggregate-say Inv-loop μ-loop
-slice-aggregate-say c = sym (length-take-le _ _ (omega (arith, c .before .before .before .before .before .local-text .ensures .fits, c .before .before .before .before .before .local-text .ensures .long)))
+slice-aggregate-say c =
+    let at-local-text = c .before .before .before .before .before in
+    sym (length-take-le _ _ (omega (arith, at-local-text .local-text .ensures .fits, at-local-text .local-text .ensures .long)))
 
 say-requires : tie.Need-say-requires Inv-loop μ-loop
 say-requires c κs = search needs
@@ -48,9 +56,10 @@ loop-less c = omega arith
 
 loop-again : tie.Need-loop-again Inv-loop μ-loop
 loop-again c =
-    let b6 = c .before .before .before .before .before .before in
-    let b10 = b6 .before .before .before .before in
-    (omega arith, omega (arith, b6 .local-text .kept, b10 .loop .inv .1), b6 .local-text .ensures .long ∙ b10 .loop .inv .2)
+    let at-out = c .before .before .before .before .before in
+    let at-local-text = at-out .before in
+    let at-loop = at-local-text .before .before .before .before in
+    (omega arith, omega (arith, at-local-text .local-text .kept, at-loop .loop .inv .1), at-local-text .local-text .ensures .long ∙ at-loop .loop .inv .2)
 
 same-length : tie.Need-same-length Inv-loop μ-loop
 same-length c = c .before .loop .inv .1

@@ -60,6 +60,17 @@ slice-aggregate-words-answer c = search needs
 words-answer-requires : tie.Need-words-answer-requires
 words-answer-requires c κs = search needs
 
+enum-told : tie.Need-enum-told
+enum-told c = search needs
+
+slice-aggregate-all-owners-answer : tie.Need-slice-aggregate-all-owners-answer
+slice-aggregate-all-owners-answer c = search needs
+
+all-owners-answer-requires : tie.Need-all-owners-answer-requires
+all-owners-answer-requires c κs =
+    let at-compute-pointers = c .before .before .before .before .before in
+    at-compute-pointers .compute-pointers .ensures
+
 same-length : tie.Need-same-length
 same-length c = search needs
 
@@ -87,6 +98,18 @@ returns-2 c =
     let w = a .words .now in
     at-words-answer .words-answer .ensures ∙ ap (λ (n : ℕ). answered (bind (n ∷ []) bytesOf) (a .out .now)) (at-owner-of .owner-of .ensures ∙ at-compute-pointers .compute-pointers .ensures .discovered .owner-is _ (known-below locals _ w (own-as Question.OfPointers w (at-question2 .question2 .given .1) (start .pre .1 .1)))) ∙ answered-as Question.OfPointers w (at-question2 .question2 .given .1) (a .out .now)
 
+same-length-3 : tie.Need-same-length-3
+same-length-3 c = search needs
+
+returns-3 : tie.Need-returns-3
+returns-3 c =
+    let at-all-owners-answer = c .before .before in
+    let at-enum-told = at-all-owners-answer .before .before .before in
+    let at-slice-known = at-enum-told .before .before .before .before .before in
+    let start = at-slice-known .before .before .before .before in
+    let a = start .args in
+    at-all-owners-answer .all-owners-answer .ensures ∙ answered-as Question.OfPointers (a .words .now) (at-enum-told .enum-told .given .1) (a .out .now)
+
 pub pointer-answer-spec : {M : Type 1} → statement M
 pointer-answer-spec =
     tie.close
@@ -101,7 +124,12 @@ pointer-answer-spec =
     owner-of-requires
     slice-aggregate-words-answer
     words-answer-requires
+    enum-told
+    slice-aggregate-all-owners-answer
+    all-owners-answer-requires
     same-length
     returns
     same-length-2
-    returns-2)
+    returns-2
+    same-length-3
+    returns-3)

@@ -90,6 +90,41 @@ slice-aggregate-words-answer c = search needs
 words-answer-requires : tie.Need-words-answer-requires
 words-answer-requires c κs = search needs
 
+enum-told-2 : tie.Need-enum-told-2
+enum-told-2 c = search needs
+
+slice-aggregate-all-entry-sets-answer : tie.Need-slice-aggregate-all-entry-sets-answer
+slice-aggregate-all-entry-sets-answer c = search needs
+
+all-entry-sets-answer-requires : tie.Need-all-entry-sets-answer-requires
+all-entry-sets-answer-requires c κs =
+    let at-live-sets = c .before .before .before .before .before in
+    let start = at-live-sets .before .before .before .before .before in
+    (start .pre .0, at-live-sets .live-sets .ensures .1)
+
+enum-told-3 : tie.Need-enum-told-3
+enum-told-3 c = search needs
+
+slice-aggregate-all-exit-sets-answer : tie.Need-slice-aggregate-all-exit-sets-answer
+slice-aggregate-all-exit-sets-answer c = search needs
+
+all-exit-sets-answer-requires : tie.Need-all-exit-sets-answer-requires
+all-exit-sets-answer-requires c κs =
+    let at-live-sets = c .before .before .before .before .before in
+    at-live-sets .live-sets .ensures .1
+
+enum-told-4 : tie.Need-enum-told-4
+enum-told-4 c = search needs
+
+slice-aggregate-all-intervals-answer : tie.Need-slice-aggregate-all-intervals-answer
+slice-aggregate-all-intervals-answer c = search needs
+
+all-intervals-answer-requires : tie.Need-all-intervals-answer-requires
+all-intervals-answer-requires c κs =
+    let at-live-sets = c .before .before .before .before .before in
+    let start = at-live-sets .before .before .before .before .before in
+    (start .pre .0, at-live-sets .live-sets .ensures .1)
+
 same-length : tie.Need-same-length
 same-length c = search needs
 
@@ -140,6 +175,42 @@ returns-4 c =
     let a = start .args in
     at-words-answer .words-answer .ensures ∙ ap (λ (n : ℕ). answered (bind (n ∷ []) bytesOf) (a .out .now)) (at-live-sets .live-sets .ensures .0) ∙ answered-as Question.OfLiveness (a .words .now) (at-enum-told .enum-told .given .1) (a .out .now)
 
+same-length-5 : tie.Need-same-length-5
+same-length-5 c = search needs
+
+returns-5 : tie.Need-returns-5
+returns-5 c =
+    let at-all-entry-sets-answer = c .before .before in
+    let at-enum-told2 = at-all-entry-sets-answer .before .before .before in
+    let at-slice-known = at-enum-told2 .before .before .before .before .before in
+    let start = at-slice-known .before .before .before in
+    let a = start .args in
+    at-all-entry-sets-answer .all-entry-sets-answer .ensures ∙ answered-as Question.OfLiveness (a .words .now) (at-enum-told2 .enum-told2 .given .1) (a .out .now)
+
+same-length-6 : tie.Need-same-length-6
+same-length-6 c = search needs
+
+returns-6 : tie.Need-returns-6
+returns-6 c =
+    let at-all-exit-sets-answer = c .before .before in
+    let at-enum-told3 = at-all-exit-sets-answer .before .before .before in
+    let at-slice-known = at-enum-told3 .before .before .before .before .before in
+    let start = at-slice-known .before .before .before in
+    let a = start .args in
+    at-all-exit-sets-answer .all-exit-sets-answer .ensures ∙ answered-as Question.OfLiveness (a .words .now) (at-enum-told3 .enum-told3 .given .1) (a .out .now)
+
+same-length-7 : tie.Need-same-length-7
+same-length-7 c = search needs
+
+returns-7 : tie.Need-returns-7
+returns-7 c =
+    let at-all-intervals-answer = c .before .before in
+    let at-enum-told4 = at-all-intervals-answer .before .before .before in
+    let at-slice-known = at-enum-told4 .before .before .before .before .before in
+    let start = at-slice-known .before .before .before in
+    let a = start .args in
+    at-all-intervals-answer .all-intervals-answer .ensures ∙ answered-as Question.OfLiveness (a .words .now) (at-enum-told4 .enum-told4 .given .1) (a .out .now)
+
 pub live-answer-spec : {M : Type 1} → statement M
 live-answer-spec =
     tie.close
@@ -161,6 +232,15 @@ live-answer-spec =
     enum-told
     slice-aggregate-words-answer
     words-answer-requires
+    enum-told-2
+    slice-aggregate-all-entry-sets-answer
+    all-entry-sets-answer-requires
+    enum-told-3
+    slice-aggregate-all-exit-sets-answer
+    all-exit-sets-answer-requires
+    enum-told-4
+    slice-aggregate-all-intervals-answer
+    all-intervals-answer-requires
     same-length
     returns
     same-length-2
@@ -168,4 +248,10 @@ live-answer-spec =
     same-length-3
     returns-3
     same-length-4
-    returns-4)
+    returns-4
+    same-length-5
+    returns-5
+    same-length-6
+    returns-6
+    same-length-7
+    returns-7)

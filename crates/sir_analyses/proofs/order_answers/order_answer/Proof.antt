@@ -29,6 +29,24 @@ enum-known-question-2 c = search needs
 uses-answer-requires : tie.Need-uses-answer-requires
 uses-answer-requires c κs = search needs
 
+enum-told-2 : tie.Need-enum-told-2
+enum-told-2 c = search needs
+
+all-predecessors-answer-requires : tie.Need-all-predecessors-answer-requires
+all-predecessors-answer-requires c κs =
+    let at-shared-slice-known2 = c .before .before .before .before .before in
+    let start = at-shared-slice-known2 .before .before in
+    start .pre .1
+
+enum-told-3 : tie.Need-enum-told-3
+enum-told-3 c = search needs
+
+all-uses-answer-requires : tie.Need-all-uses-answer-requires
+all-uses-answer-requires c κs =
+    let at-shared-slice-known2 = c .before .before .before .before .before in
+    let start = at-shared-slice-known2 .before .before in
+    start .pre .1
+
 same-length : tie.Need-same-length
 same-length c = search needs
 
@@ -65,6 +83,30 @@ returns-3 c =
     let a = start .args in
     at-uses-answer .uses-answer .ensures ∙ answered-as Question.OfOrder (a .words .now) (at-question2 .question2 .given .1) (a .out .now)
 
+same-length-4 : tie.Need-same-length-4
+same-length-4 c = search needs
+
+returns-4 : tie.Need-returns-4
+returns-4 c =
+    let at-all-predecessors-answer = c .before .before in
+    let at-enum-told2 = at-all-predecessors-answer .before .before in
+    let at-shared-slice-known = at-enum-told2 .before .before .before .before .before in
+    let start = at-shared-slice-known .before in
+    let a = start .args in
+    at-all-predecessors-answer .all-predecessors-answer .ensures ∙ answered-as Question.OfOrder (a .words .now) (at-enum-told2 .enum-told2 .given .1) (a .out .now)
+
+same-length-5 : tie.Need-same-length-5
+same-length-5 c = search needs
+
+returns-5 : tie.Need-returns-5
+returns-5 c =
+    let at-all-uses-answer = c .before .before in
+    let at-enum-told3 = at-all-uses-answer .before .before in
+    let at-shared-slice-known = at-enum-told3 .before .before .before .before .before in
+    let start = at-shared-slice-known .before in
+    let a = start .args in
+    at-all-uses-answer .all-uses-answer .ensures ∙ answered-as Question.OfOrder (a .words .now) (at-enum-told3 .enum-told3 .given .1) (a .out .now)
+
 pub order-answer-spec : {M : Type 1} → statement M
 order-answer-spec =
     tie.close
@@ -75,9 +117,17 @@ order-answer-spec =
     predecessors-answer-requires
     enum-known-question-2
     uses-answer-requires
+    enum-told-2
+    all-predecessors-answer-requires
+    enum-told-3
+    all-uses-answer-requires
     same-length
     returns
     same-length-2
     returns-2
     same-length-3
-    returns-3)
+    returns-3
+    same-length-4
+    returns-4
+    same-length-5
+    returns-5)

@@ -36,6 +36,12 @@ local-count-requires c κs = search needs
 id-refusal-requires-2 : tie.Need-id-refusal-requires-2
 id-refusal-requires-2 c κs = search needs
 
+enum-told-2 : tie.Need-enum-told-2
+enum-told-2 c = search needs
+
+enum-told-3 : tie.Need-enum-told-3
+enum-told-3 c = search needs
+
 enum-known-question-2 : tie.Need-enum-known-question-2
 enum-known-question-2 c = search needs
 
@@ -66,8 +72,17 @@ local-count-requires-2 c κs = search needs
 id-refusal-requires-5 : tie.Need-id-refusal-requires-5
 id-refusal-requires-5 c κs = search needs
 
-enum-told-2 : tie.Need-enum-told-2
-enum-told-2 c = search needs
+enum-told-4 : tie.Need-enum-told-4
+enum-told-4 c = search needs
+
+enum-told-5 : tie.Need-enum-told-5
+enum-told-5 c = search needs
+
+enum-told-6 : tie.Need-enum-told-6
+enum-told-6 c = search needs
+
+enum-told-7 : tie.Need-enum-told-7
+enum-told-7 c = search needs
 
 enum-known-question-3 : tie.Need-enum-known-question-3
 enum-known-question-3 c = search needs
@@ -90,66 +105,94 @@ local-count-requires-3 c κs = search needs
 id-refusal-requires-7 : tie.Need-id-refusal-requires-7
 id-refusal-requires-7 c κs = search needs
 
+enum-told-8 : tie.Need-enum-told-8
+enum-told-8 c = search needs
+
 returns : tie.Need-returns
 returns c = search needs
 
 returns-2 : tie.Need-returns-2
 returns-2 c =
-    let at-q = c .before .before .before in
+    let at-block-count = c .before in
+    let at-q = at-block-count .before .before in
     let at-question = at-q .before .before .before in
     let start = at-question .before .before .before .before in
     let w = start .args .words .now in
-    (rw (c .before .block-count .ensures) at (c .id-refusal .ensures)) ∙ ap (λ (q : OrderQuestion). first (ownRules (Question.OfOrder q) w)) (sym (at-q .q .given .1)) ∙ ap (λ (q : Question). first (ownRules q w)) (sym (at-question .question .given .1))
+    (rw (at-block-count .block-count .ensures) at (c .id-refusal .ensures)) ∙ ap (λ (q : OrderQuestion). first (ownRules (Question.OfOrder q) w)) (sym (at-q .q .given .1)) ∙ ap (λ (q : Question). first (ownRules q w)) (sym (at-question .question .given .1))
 
 returns-3 : tie.Need-returns-3
 returns-3 c =
-    let at-q2 = c .before .before .before in
+    let at-local-count = c .before in
+    let at-q2 = at-local-count .before .before in
     let at-question = at-q2 .before .before .before in
     let start = at-question .before .before .before .before in
     let w = start .args .words .now in
-    (rw (c .before .local-count .ensures) at (c .id-refusal2 .ensures)) ∙ ap (λ (q : OrderQuestion). first (ownRules (Question.OfOrder q) w)) (sym (at-q2 .q2 .given .1)) ∙ ap (λ (q : Question). first (ownRules q w)) (sym (at-question .question .given .1))
+    (rw (at-local-count .local-count .ensures) at (c .id-refusal2 .ensures)) ∙ ap (λ (q : OrderQuestion). first (ownRules (Question.OfOrder q) w)) (sym (at-q2 .q2 .given .1)) ∙ ap (λ (q : Question). first (ownRules q w)) (sym (at-question .question .given .1))
 
 returns-4 : tie.Need-returns-4
-returns-4 c =
-    let at-q3 = c .before .before .before in
-    let at-question2 = at-q3 .before .before .before in
-    let start = at-question2 .before .before .before .before in
-    let w = start .args .words .now in
-    (rw (c .before .block-count2 .ensures) at (c .id-refusal3 .ensures)) ∙ ap (λ (q : LiveQuestion). first (ownRules (Question.OfLiveness q) w)) (sym (at-q3 .q3 .given .1)) ∙ ap (λ (q : Question). first (ownRules q w)) (sym (at-question2 .question2 .given .1))
+returns-4 c = search needs
 
 returns-5 : tie.Need-returns-5
-returns-5 c =
-    let at-q4 = c .before .before .before in
-    let at-question2 = at-q4 .before .before .before in
-    let start = at-question2 .before .before .before .before in
-    let w = start .args .words .now in
-    (rw (c .before .block-count3 .ensures) at (c .id-refusal4 .ensures)) ∙ ap (λ (q : LiveQuestion). first (ownRules (Question.OfLiveness q) w)) (sym (at-q4 .q4 .given .1)) ∙ ap (λ (q : Question). first (ownRules q w)) (sym (at-question2 .question2 .given .1))
+returns-5 c = search needs
 
 returns-6 : tie.Need-returns-6
 returns-6 c =
-    let at-q5 = c .before .before .before in
-    let at-question2 = at-q5 .before .before .before in
+    let at-block-count2 = c .before in
+    let at-q3 = at-block-count2 .before .before in
+    let at-question2 = at-q3 .before .before .before in
     let start = at-question2 .before .before .before .before in
     let w = start .args .words .now in
-    (rw (c .before .local-count2 .ensures) at (c .id-refusal5 .ensures)) ∙ ap (λ (q : LiveQuestion). first (ownRules (Question.OfLiveness q) w)) (sym (at-q5 .q5 .given .1)) ∙ ap (λ (q : Question). first (ownRules q w)) (sym (at-question2 .question2 .given .1))
+    (rw (at-block-count2 .block-count2 .ensures) at (c .id-refusal3 .ensures)) ∙ ap (λ (q : LiveQuestion). first (ownRules (Question.OfLiveness q) w)) (sym (at-q3 .q3 .given .1)) ∙ ap (λ (q : Question). first (ownRules q w)) (sym (at-question2 .question2 .given .1))
 
 returns-7 : tie.Need-returns-7
-returns-7 c = search needs
+returns-7 c =
+    let at-block-count3 = c .before in
+    let at-q4 = at-block-count3 .before .before in
+    let at-question2 = at-q4 .before .before .before in
+    let start = at-question2 .before .before .before .before in
+    let w = start .args .words .now in
+    (rw (at-block-count3 .block-count3 .ensures) at (c .id-refusal4 .ensures)) ∙ ap (λ (q : LiveQuestion). first (ownRules (Question.OfLiveness q) w)) (sym (at-q4 .q4 .given .1)) ∙ ap (λ (q : Question). first (ownRules q w)) (sym (at-question2 .question2 .given .1))
 
 returns-8 : tie.Need-returns-8
 returns-8 c =
-    let at-question3 = c .before .before .before .before .before in
-    let start = at-question3 .before .before .before .before in
+    let at-local-count2 = c .before in
+    let at-q5 = at-local-count2 .before .before in
+    let at-question2 = at-q5 .before .before .before in
+    let start = at-question2 .before .before .before .before in
     let w = start .args .words .now in
-    (rw (ap length (start .pre .1 .0) ∙ keys-long w) at (c .id-refusal6 .ensures)) ∙ ap (λ (q : PointerQuestion). first (ownRules (Question.OfPointers q) w)) (sym (c .before .before .q6 .given .1)) ∙ ap (λ (q : Question). first (ownRules q w)) (sym (at-question3 .question3 .given .1))
+    (rw (at-local-count2 .local-count2 .ensures) at (c .id-refusal5 .ensures)) ∙ ap (λ (q : LiveQuestion). first (ownRules (Question.OfLiveness q) w)) (sym (at-q5 .q5 .given .1)) ∙ ap (λ (q : Question). first (ownRules q w)) (sym (at-question2 .question2 .given .1))
 
 returns-9 : tie.Need-returns-9
-returns-9 c =
-    let at-q7 = c .before .before .before in
+returns-9 c = search needs
+
+returns-10 : tie.Need-returns-10
+returns-10 c = search needs
+
+returns-11 : tie.Need-returns-11
+returns-11 c = search needs
+
+returns-12 : tie.Need-returns-12
+returns-12 c = search needs
+
+returns-13 : tie.Need-returns-13
+returns-13 c =
+    let at-q6 = c .before .before in
+    let at-question3 = at-q6 .before .before .before in
+    let start = at-question3 .before .before .before .before in
+    let w = start .args .words .now in
+    (rw (ap length (start .pre .1 .0) ∙ keys-long w) at (c .id-refusal6 .ensures)) ∙ ap (λ (q : PointerQuestion). first (ownRules (Question.OfPointers q) w)) (sym (at-q6 .q6 .given .1)) ∙ ap (λ (q : Question). first (ownRules q w)) (sym (at-question3 .question3 .given .1))
+
+returns-14 : tie.Need-returns-14
+returns-14 c =
+    let at-local-count3 = c .before in
+    let at-q7 = at-local-count3 .before .before in
     let at-question3 = at-q7 .before .before .before in
     let start = at-question3 .before .before .before .before in
     let w = start .args .words .now in
-    (rw (c .before .local-count3 .ensures) at (c .id-refusal7 .ensures)) ∙ ap (λ (q : PointerQuestion). first (ownRules (Question.OfPointers q) w)) (sym (at-q7 .q7 .given .1)) ∙ ap (λ (q : Question). first (ownRules q w)) (sym (at-question3 .question3 .given .1))
+    (rw (at-local-count3 .local-count3 .ensures) at (c .id-refusal7 .ensures)) ∙ ap (λ (q : PointerQuestion). first (ownRules (Question.OfPointers q) w)) (sym (at-q7 .q7 .given .1)) ∙ ap (λ (q : Question). first (ownRules q w)) (sym (at-question3 .question3 .given .1))
+
+returns-15 : tie.Need-returns-15
+returns-15 c = search needs
 
 pub own-refusal-spec : {M : Type 1} → statement M
 own-refusal-spec =
@@ -163,6 +206,8 @@ own-refusal-spec =
     enum-known-q-2
     local-count-requires
     id-refusal-requires-2
+    enum-told-2
+    enum-told-3
     enum-known-question-2
     enum-known-q-3
     block-count-requires-2
@@ -173,7 +218,10 @@ own-refusal-spec =
     enum-known-q-5
     local-count-requires-2
     id-refusal-requires-5
-    enum-told-2
+    enum-told-4
+    enum-told-5
+    enum-told-6
+    enum-told-7
     enum-known-question-3
     enum-known-q-6
     cast-id-refusal
@@ -181,6 +229,7 @@ own-refusal-spec =
     enum-known-q-7
     local-count-requires-3
     id-refusal-requires-7
+    enum-told-8
     returns
     returns-2
     returns-3
@@ -189,4 +238,10 @@ own-refusal-spec =
     returns-6
     returns-7
     returns-8
-    returns-9)
+    returns-9
+    returns-10
+    returns-11
+    returns-12
+    returns-13
+    returns-14
+    returns-15)

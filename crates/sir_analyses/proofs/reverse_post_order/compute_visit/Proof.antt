@@ -1,6 +1,6 @@
 -- `compute_visit` meets its contract.
 use mathlib.Core.Path.{refl, sym, _∙_}
-use Rattle.sir_analyses.proofs.Loads.{blocks-fit, keys-fit, front-length, order-stage}
+use Rattle.sir_analyses.proofs.Loads.{blocks-fit, finished-fit, front-length, order-stage}
 use Rattle.sir_analyses.proofs.VisitTables.{table-long, rpo-room, blocks-few, rpo-put-long, flags-empty, flags-put-long, visit-stage}
 use Rattle.sir_analyses.specs.Stages.{part}
 use borrow.Author.Needs.{needs}
@@ -21,14 +21,14 @@ slice-reshare-prefix-blocks-rpo c =
     let at-visit = c .before .before .before in
     let at-shared-slice-known = at-visit .before .before .before .before .before in
     let start = at-shared-slice-known .before in
-    keys-fit (start .pre .0) (at-visit .visit .ensures)
+    finished-fit (start .pre .0) (at-visit .visit .ensures)
 
 slice-aggregate-blocks-rpo : tie.Need-slice-aggregate-blocks-rpo
 slice-aggregate-blocks-rpo c =
     let at-visit = c .before .before .before .before in
     let at-shared-slice-known = at-visit .before .before .before .before .before in
     let start = at-shared-slice-known .before in
-    front-length _ _ (keys-fit (start .pre .0) (at-visit .visit .ensures))
+    front-length _ _ (finished-fit (start .pre .0) (at-visit .visit .ensures))
 
 sub-blocks-rpo : tie.Need-sub-blocks-rpo
 sub-blocks-rpo c = omega arith
@@ -128,7 +128,7 @@ returns c =
     let at-visit = at-seen2 .before in
     let at-shared-slice-known = at-visit .before .before .before .before .before in
     let start = at-shared-slice-known .before in
-    (keys-fit (start .pre .0) (at-visit .visit .ensures), order-stage (start .pre .0) (at-visit .visit .ensures), visit-stage (start .pre .0) (at-visit .visit .ensures) (start .pre .1 .1) (at-blocks-rpo .blocks-rpo .ensures) (at-flag-visited .flag-visited .last .1 .1 .0) (at-flag-visited .flag-visited .ensures))
+    (finished-fit (start .pre .0) (at-visit .visit .ensures), order-stage (start .pre .0) (at-visit .visit .ensures), visit-stage (start .pre .0) (at-visit .visit .ensures) (start .pre .1 .1) (at-blocks-rpo .blocks-rpo .ensures) (at-flag-visited .flag-visited .last .1 .1 .0) (at-flag-visited .flag-visited .ensures))
 
 pub compute-visit-spec : {M : Type 1} → statement M
 compute-visit-spec =

@@ -10,8 +10,8 @@
 //! library has no part in this.
 //!
 //! The second writes one file, with the reference's answers to the questions about one image, and prints them. A question
-//! is its name, behind a colon its ids parted by commas, and behind a slash the length of the result slice where it is not
-//! to be that of the answer: `order`, `exit_set:3`, `uses:4/0`.
+//! is its name, after a colon its ids parted by commas, and after a slash the length of the result slice where it is not
+//! to be that of the answer: `order`, `exit_set:3`, `uses:4/0`, `all_uses`.
 
 mod one;
 mod stored;

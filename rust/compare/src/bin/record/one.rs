@@ -17,7 +17,7 @@ pub fn write(file: &str, image: &str, questions: &[String]) -> Result<(), String
     fs::write(file, recording.bytes()).map_err(|error| format!("{file}: {error}"))
 }
 
-/// The call that a text states: a question, and behind a slash the length of the result slice.
+/// The call that a text states: a question, and after a slash the length of the result slice.
 fn call(text: &str, image: &[u8]) -> Result<Recorded, String> {
     let (question, room) = match text.split_once('/') {
         Some((question, room)) => (question, Some(room.parse().map_err(|_| format!("{room} is no length"))?)),
@@ -29,7 +29,7 @@ fn call(text: &str, image: &[u8]) -> Result<Recorded, String> {
     Ok(Recorded::by_reference(question, image, room))
 }
 
-/// Bytes behind a colon, in hexadecimal.
+/// Bytes after a colon, in hexadecimal.
 fn shown(bytes: &[u8]) -> String {
     let digits: String = bytes.iter().map(|byte| format!(" {byte:02x}")).collect();
     if digits.is_empty() { digits } else { format!(":{digits}") }

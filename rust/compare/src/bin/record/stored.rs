@@ -23,26 +23,75 @@ const DAMAGED: usize = 6;
 const SOME_IDS: u32 = 6;
 /// Answers that are longer are left out.
 const LONGEST: usize = 12_000;
+/// Of how many small images of each kind the questions for all ids are recorded; of large ones the first of each kind.
+const SMALL_FOR_ALL: u64 = 4;
+/// The result slice for an answer to such a question that is longer.
+const TOO_SHORT: usize = 16;
+
+/// Which questions a file has: those about one id or none, or those for all ids.
+#[derive(Clone, Copy, PartialEq)]
+enum Asked {
+    /// About all ids, or some of them, and about none.
+    Ids,
+    /// For all ids in one answer.
+    All,
+}
+
+impl Asked {
+    fn kinds(self) -> impl Iterator<Item = &'static QuestionKind> {
+        Question::KINDS.iter().filter(move |kind| kind.single().is_some() == (self == Asked::All))
+    }
+
+    /// The name of the file about an image.
+    fn file(self, image: &str) -> String {
+        match self {
+            Asked::Ids => image.to_string(),
+            Asked::All => format!("all_{image}"),
+        }
+    }
+}
+
+/// An image that Plank takes.
+struct Sample {
+    name: String,
+    image: Image,
+    /// Whether it is asked about all ids, or about some.
+    small: bool,
+    /// Whether the questions for all ids are recorded.
+    for_all: bool,
+}
+
+/// A damaged image, and the number that refuses it.
+struct Damaged {
+    name: String,
+    image: Vec<u8>,
+    number: u32,
+    /// Whether the questions for all ids are recorded.
+    for_all: bool,
+}
 
 /// Every question about an image that Plank takes: all ids or some, one id too many, and one slice that is one byte too
 /// short.
-fn of_image(name: String, image: &Image, all: bool) -> Recording {
+fn of_image(sample: &Sample, asked: Asked) -> Recording {
+    let Sample { name, image, .. } = sample;
     let bytes = image.pages();
     let paper = match Reference::new(&bytes) {
         Ok(paper) => paper,
-        Err(number) => return refused(name, bytes, number),
+        Err(number) => return refused(name, &bytes, number, asked),
     };
     let program = Program::new(image).expect("Plank's files are there");
     let plank = program.analyses();
-    assert!(!plank.shares_a_base() && plank.allocations() == paper.count(IdKind::Allocation), "{name}");
+    assert!(!plank.shares_a_base() && plank.count(IdKind::Allocation) == paper.count(IdKind::Allocation), "{name}");
     let mut calls: Vec<Recorded> = Vec::new();
-    for kind in Question::KINDS {
-        let step = |count: u32| if all { 1 } else { count / SOME_IDS };
+    for kind in asked.kinds() {
+        let step = |count: u32| if sample.small { 1 } else { count / SOME_IDS };
         let mut longest: Option<(usize, Question)> = None;
         for question in kind.about_all(|id| paper.count(id), step) {
             let answer = agreed(&paper, &plank, question);
             let length = answer.len();
             if length > LONGEST {
+                let short = Recorded::refusal(question, Refusal::SHORT_RESULT.number(), TOO_SHORT);
+                calls.extend((asked == Asked::All).then_some(short));
                 continue;
             }
             calls.push(Recorded::answer(question, answer, [0, 1, 7][calls.len() % 3]));
@@ -55,7 +104,7 @@ fn of_image(name: String, image: &Image, all: bool) -> Recording {
         let refused = short.into_iter().chain(unknown.map(|question| (question, Refusal::UNKNOWN_ID, 5)));
         calls.extend(refused.map(|(question, refusal, room)| Recorded::refusal(question, refusal.number(), room)));
     }
-    Recording { name, image: bytes, calls }
+    Recording { name: asked.file(name), image: bytes, calls }
 }
 
 /// Plank's answer, or the reference's where Plank has none.
@@ -68,44 +117,63 @@ fn agreed(paper: &Reference, plank: &Analyses, question: Question) -> Vec<u8> {
 }
 
 /// Every question about an image that some rule refuses.
-fn refused(name: String, image: Vec<u8>, number: u32) -> Recording {
-    let questions = Question::KINDS.iter().map(QuestionKind::about_zeros);
+fn refused(name: &str, image: &[u8], number: u32, asked: Asked) -> Recording {
+    let questions = asked.kinds().map(QuestionKind::about_zeros);
     let calls = questions.map(|question| Recorded::refusal(question, number, 9)).collect();
-    Recording { name, image, calls }
+    Recording { name: asked.file(name), image: image.to_vec(), calls }
+}
+
+/// Images that Plank takes, by kinds and then the worst.
+fn samples() -> Vec<Sample> {
+    let mut all = Vec::new();
+    for (group, count, for_all) in [(Kind::SMALL, SMALL, SMALL_FOR_ALL), (Kind::LARGE, LARGE, 1)] {
+        for &kind in group {
+            all.extend((0..count).map(|index| Sample {
+                name: format!("{kind:?}_{index}").to_lowercase(),
+                image: generate(kind, SEED + index),
+                small: group == Kind::SMALL,
+                for_all: index < for_all,
+            }));
+        }
+    }
+    let worst = worst(Size::MEDIUM).into_iter().enumerate();
+    all.extend(worst.map(|(index, (_, image))| Sample {
+        name: format!("worst_{index}"),
+        image,
+        small: false,
+        for_all: true,
+    }));
+    all
 }
 
 /// Damaged images, so many of each refusal.
-fn damaged_images() -> Vec<Recording> {
+fn damaged_images() -> Vec<Damaged> {
     let rng = &mut Rng::new(SEED);
-    let mut found: BTreeMap<u32, Vec<Recording>> = BTreeMap::new();
+    let mut found: BTreeMap<u32, Vec<Damaged>> = BTreeMap::new();
     let numbers: Vec<u32> = Refusal::of_images().map(Refusal::number).collect();
     while numbers.iter().any(|number| found.get(number).is_none_or(|all| all.len() < DAMAGED)) {
         let kind = rng.pick(Kind::SMALL);
         let image = damaged(&generate(kind, rng.next_u64()), rng);
         let number = paper_reference::refusal(&image);
         let all = found.entry(number).or_default();
-        if number > 0 && all.len() < DAMAGED {
-            all.push(refused(format!("damaged_{number:02}_{}", all.len()), image, number));
+        let index = all.len();
+        if number > 0 && index < DAMAGED {
+            all.push(Damaged { name: format!("damaged_{number:02}_{index}"), image, number, for_all: index == 0 });
         }
     }
     found.into_values().flatten().collect()
 }
 
+/// The questions about ids of all images, then those for all ids.
 fn recordings() -> Vec<Recording> {
-    let mut all = Vec::new();
-    for (group, count) in [(Kind::SMALL, SMALL), (Kind::LARGE, LARGE)] {
-        for &kind in group {
-            for index in 0..count {
-                let name = format!("{kind:?}_{index}").to_lowercase();
-                all.push(of_image(name, &generate(kind, SEED + index), group == Kind::SMALL));
-            }
-        }
-    }
-    for (index, (_, image)) in worst(Size::MEDIUM).iter().enumerate() {
-        all.push(of_image(format!("worst_{index}"), image, false));
-    }
-    all.extend(damaged_images());
-    all
+    let (samples, damaged) = (samples(), damaged_images());
+    let of = |asked: Asked| {
+        let samples = samples.iter().filter(move |sample| asked == Asked::Ids || sample.for_all);
+        let damaged = damaged.iter().filter(move |image| asked == Asked::Ids || image.for_all);
+        let samples = samples.map(move |sample| of_image(sample, asked));
+        samples.chain(damaged.map(move |image| refused(&image.name, &image.image, image.number, asked)))
+    };
+    of(Asked::Ids).chain(of(Asked::All)).collect()
 }
 
 /// The files of `crates/replay` that are written, by their names there.
@@ -159,6 +227,9 @@ fn readme(files: usize, size: usize, by_number: &BTreeMap<u32, usize>) -> String
          ones of each of {} kinds and the worst of medium size, about {SOME_IDS} ids of each question and no answer above\n\
          {LONGEST} bytes; {DAMAGED} damaged images of each number that refuses an image. Each accepted image also has an unknown id\n\
          (13) and a slice one byte too short (14) for each question that can be so refused.\n\
+         \n\
+         Files all_* have the questions for all ids: of {SMALL_FOR_ALL} small images of each kind, of one large one, of the worst, and of one\n\
+         damaged image of each number; where an answer is longer, with a slice of {TOO_SHORT} bytes (14).\n\
          \n\
          How often each number is to be given: {}.\n",
         Kind::SMALL.len(),

@@ -80,7 +80,7 @@ pub fn operation_on(code: Code, inputs: &[u32], outputs: &[u32]) -> Image {
     image
 }
 
-/// An operation on so many locals from v0 on, that gives so many from v8 on.
+/// An operation on so many locals from v0 on, that defines so many from v8 on.
 pub fn operation(code: Code, inputs: u32, outputs: u32) -> Vec<u8> {
     operation_on(code, &locals(0, inputs), &locals(8, outputs)).pages()
 }
@@ -123,7 +123,7 @@ pub fn eleven_blocks() -> Image {
     image
 }
 
-/// Two blocks that share an operation, which reads what it gives.
+/// Two blocks that share an operation, which reads what it defines.
 pub fn overlapping() -> Image {
     let mut image = operation_on(Code::SetCopy, &[3], &[3]);
     image.operations[0].outputs = image.operations[0].inputs;
@@ -201,7 +201,7 @@ pub fn header(at: usize, value: u32) -> Vec<u8> {
     set(small().pages(), at, value)
 }
 
-/// An image that breaks this rule and every one behind it in the sequence.
+/// An image that breaks this rule and every one after it in the sequence.
 pub fn breaks_from(first: u32) -> Vec<u8> {
     let place = |rule: u32| Refusal::ALL.iter().position(|refusal| refusal.number() == rule);
     let breaks = |rule: u32| place(first) <= place(rule);

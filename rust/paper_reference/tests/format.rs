@@ -1,0 +1,178 @@
+//! `docs/FORMAT.md` says what the tables say: codes, limits, control kinds, refusals, questions and its example.
+
+use paper_reference::{Reference, codes, report};
+use sir_image::{
+    Code, Control, Count, MAX_BLOCKS, MAX_FUNCTIONS, MAX_LOCALS, MAX_OPERANDS, MAX_OPERATIONS, MAX_TARGETS,
+};
+use sir_questions::{Question, Refusal};
+use std::collections::BTreeSet;
+use std::{fs, path::Path};
+
+fn page() -> String {
+    fs::read_to_string(Path::new(env!("CARGO_MANIFEST_DIR")).join("../../docs/FORMAT.md")).unwrap()
+}
+
+/// The cells of the rows of the table whose head is this, without marks for code.
+fn table(head: &str) -> Vec<Vec<String>> {
+    let page = page();
+    let (_, rest) = page.split_once(&format!("\n{head}\n")).unwrap_or_else(|| panic!("no table {head}"));
+    let rows = rest.lines().skip(1).take_while(|line| line.starts_with('|'));
+    let cell = |cell: &str| cell.trim().trim_matches('`').to_string();
+    rows.map(|row| row.trim_matches('|').split('|').map(cell).collect()).collect()
+}
+
+/// What stands between the fences of this name.
+fn fenced(name: &str) -> String {
+    let page = page();
+    let (_, rest) = page.split_once(&format!("\n```{name}\n")).unwrap_or_else(|| panic!("no ```{name}"));
+    rest.split_once("```\n").expect("a closing fence").0.to_string()
+}
+
+fn numbers(text: &str) -> Vec<u32> {
+    text.split_whitespace().map(|word| word.parse().expect("a number")).collect()
+}
+
+fn shown(count: Count) -> String {
+    match count {
+        Count::Exactly(count) => count.to_string(),
+        Count::Any => "any".to_string(),
+    }
+}
+
+/// More positions than any code but the calls has.
+const POSITIONS: std::ops::Range<usize> = 0..12;
+
+fn escaping(code: u32) -> String {
+    let positions: Vec<String> =
+        POSITIONS.filter(|&position| codes::escapes(code, position)).map(|position| position.to_string()).collect();
+    match positions.len() {
+        0 => "none".to_string(),
+        all if all == POSITIONS.len() => "all".to_string(),
+        _ => positions.join(", "),
+    }
+}
+
+#[test]
+fn every_code() {
+    let rows = table("| code | name | inputs | outputs | extras | derives | escaping inputs |");
+    assert_eq!(rows.len(), Code::ALL.len());
+    for (row, code) in rows.iter().zip(Code::ALL) {
+        let number = u32::from(code);
+        let (inputs, outputs) = code.operand_counts();
+        let extras = match number {
+            _ if codes::is_call(number) => "callee, 0",
+            _ if codes::is_static_allocation(number) => "size, static id",
+            _ => "0, 0",
+        };
+        let derives = if codes::derives(number) { "yes" } else { "no" };
+        let expected = [
+            number.to_string(),
+            format!("{code:?}"),
+            shown(inputs),
+            shown(outputs),
+            extras.to_string(),
+            derives.to_string(),
+            escaping(number),
+        ];
+        assert_eq!(row, &expected);
+    }
+}
+
+/// The two tables of operand counts, of the builder and of the reference, agree.
+#[test]
+fn operand_counts() {
+    for code in Code::ALL {
+        let (inputs, outputs) = code.operand_counts();
+        let fits = |count: Count, operands: u32| count == Count::Any || count == Count::Exactly(operands);
+        for given in 0..12 {
+            for made in 0..4 {
+                let expected = fits(inputs, given) && fits(outputs, made);
+                assert_eq!(codes::counts_fit(code.into(), given, made), expected, "{code:?} {given} {made}");
+            }
+        }
+    }
+}
+
+#[test]
+fn limits() {
+    let limits =
+        table("| words | holds | limit |").into_iter().map(|row| row[2].clone()).filter(|limit| !limit.is_empty());
+    let limits: Vec<usize> = limits.map(|limit| limit.parse().unwrap()).collect();
+    let expected = [MAX_FUNCTIONS, MAX_BLOCKS, MAX_OPERATIONS, MAX_OPERANDS, MAX_TARGETS, MAX_LOCALS as usize];
+    assert_eq!(limits, expected);
+}
+
+/// A field is 0 in the table just where the kind does not use it.
+#[test]
+fn control_kinds() {
+    let rows = table("| kind | name | field 0 | field 1 | field 2 | field 3 | successors, in turn |");
+    let used = [
+        ("LastOpTerminates", Control::LastOpTerminates),
+        ("InternalReturn", Control::InternalReturn),
+        ("ContinuesTo", Control::ContinuesTo(7)),
+        ("Branches", Control::Branches { condition: 7, non_zero: 7, zero: 7 }),
+        ("Switch", Control::Switch { condition: 7, first: 7, count: 7, fallback: Some(7) }),
+    ];
+    assert_eq!(rows.len(), used.len());
+    for (row, (name, control)) in rows.iter().zip(used) {
+        let words = control.words();
+        assert_eq!((&row[0], row[1].as_str()), (&words[0].to_string(), name));
+        for (field, word) in row[2..6].iter().zip(&words[1..]) {
+            assert_eq!(field == "0", *word == 0, "{name}: {field}");
+        }
+    }
+}
+
+#[test]
+fn refusals() {
+    let rows = table("| number | name | what is wrong | look first at |");
+    let named: Vec<(String, String)> = rows.into_iter().map(|row| (row[0].clone(), row[1].clone())).collect();
+    let expected =
+        Refusal::ALL.iter().map(|refusal| (refusal.number().to_string(), refusal.name().unwrap().to_string()));
+    assert_eq!(named, expected.collect::<Vec<_>>());
+}
+
+/// Each question has its row, is about as many ids, and one for all ids names the one for each.
+#[test]
+fn questions() {
+    let rows = table("| question | about | words |");
+    assert_eq!(rows.len(), Question::KINDS.len());
+    for (row, kind) in rows.iter().zip(Question::KINDS) {
+        assert_eq!(row[0], format!("sir_{}", kind.name));
+        assert_eq!(row[1].is_empty(), kind.ids.is_empty(), "{}", kind.name);
+        if let Some(single) = kind.single() {
+            assert!(row[2].ends_with(&format!("of `sir_{}", single.name)), "{}", kind.name);
+        }
+    }
+}
+
+#[test]
+fn example_payload() {
+    let words = fenced("payload").lines().flat_map(|line| numbers(line.split('#').next().unwrap())).collect::<Vec<_>>();
+    let image = sir_image::samples::report();
+    assert_eq!(words, image.words());
+    let page_words = numbers_of(&image.pages());
+    assert!(page().contains(&format!("{} words of padding and {} for the check", 126 - words.len(), page_words[127])));
+}
+
+fn numbers_of(bytes: &[u8]) -> Vec<u32> {
+    bytes.as_chunks().0.iter().map(|&word| u32::from_le_bytes(word)).collect()
+}
+
+#[test]
+fn example_answers() {
+    let reference = Reference::new(&sir_image::samples::report().pages()).unwrap();
+    let mut names = BTreeSet::new();
+    for line in fenced("answers").lines() {
+        let (question, words) = line.split_once(' ').expect("a question and words");
+        let question: Question = question.parse().unwrap();
+        names.insert(question.kind().name);
+        assert_eq!(reference.answer(question), Ok(numbers(words)), "{question}");
+    }
+    assert!(names.len() > 8);
+}
+
+#[test]
+fn example_report() {
+    assert_eq!(fenced("report"), report(&sir_image::samples::report().pages()));
+}
