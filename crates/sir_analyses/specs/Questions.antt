@@ -29,6 +29,7 @@ ownRules (Question.OfLiveness LiveQuestion.AllExitSets) = noRules
 ownRules (Question.OfLiveness LiveQuestion.AllIntervals) = noRules
 ownRules (Question.OfPointers (PointerQuestion.Allocation a)) = known (λ w. length (allocs w)) (a .0)
 ownRules (Question.OfPointers (PointerQuestion.Owner v)) = known locals (v .0)
+ownRules (Question.OfPointers PointerQuestion.AllAllocations) = noRules
 ownRules (Question.OfPointers PointerQuestion.AllOwners) = noRules
 
 -- the words that answer a question
@@ -47,4 +48,5 @@ answerWords (Question.OfLiveness LiveQuestion.AllExitSets) w = all blocks exitAn
 answerWords (Question.OfLiveness LiveQuestion.AllIntervals) w = all locals intervalsAnswer w
 answerWords (Question.OfPointers (PointerQuestion.Allocation a)) w = allocationAnswer w (a .0)
 answerWords (Question.OfPointers (PointerQuestion.Owner v)) w = ownerAnswer w (v .0)
+answerWords (Question.OfPointers PointerQuestion.AllAllocations) w = all (λ x. length (allocs x)) allocationAnswer w
 answerWords (Question.OfPointers PointerQuestion.AllOwners) w = all locals ownerAnswer w

@@ -1,4 +1,5 @@
 // The answers that need pointers: the record of an allocation, and the owner of a local.
+use crate::all_allocations::all_allocations_answer;
 use crate::all_sets::all_owners_answer;
 use crate::allocation_liveness::AllocSite;
 use crate::allocation_liveness::discover_allocations;
@@ -32,6 +33,7 @@ ghost use Rattle.sir_data.specs.Pages.{bytesOf};
 ghost use Rattle.sir_data.specs.Records.{locals};
 ghost use Rattle.sir_data.specs.Rules.{first};
 ghost use Rattle.sir_data.specs.WellFormed.{WellFormed};
+ghost use Rattle.sir_analyses.specs.All.{all};
 ghost use Rattle.sir_analyses.specs.Allocation.{allocs, marked};
 ghost use Rattle.sir_analyses.specs.Answers.{allocationAnswer};
 ghost use Rattle.sir_analyses.specs.Calls.{made, answered, inWords};
@@ -133,6 +135,17 @@ fn one_allocation(
     allocation_answer(words, visit, &live, pointers, a, out)
 }
 
+// The records of all allocations, with the tables of liveness made here.
+fn every_allocation(words: &[u32], visit: &[u32], pointers: &[u32], out: &mut [u8]) -> Answer
+    requires { ⌜ VisitStage (now words) (now visit) ⌝ }
+    requires { ⌜ PointerStage (now words) (now pointers) ⌝ }
+    ensures { λ r. ⌜ made (r .number) (r .length) (now (out .exit)) ≡ answered (bind (all (λ w. length (allocs w)) allocationAnswer (now (words .entry))) bytesOf) (now (out .entry)) ⌝ }
+{
+    let mut live = [0u64; LIVE];
+    live_sets(words, visit, &mut live);
+    all_allocations_answer(words, visit, &live, pointers, out)
+}
+
 // All tables of pointers, to an array that is empty at first.
 pub fn compute_pointers(words: &[u32], visit: &[u32], sites: &[u32], pointers: &mut [u32])
     requires { ⌜ VisitStage (now words) (now visit) ⌝ }
@@ -162,6 +175,7 @@ pub fn pointer_answer(
     match question {
         PointerQuestion::Allocation(a) => one_allocation(words, visit, &pointers, a, out),
         PointerQuestion::Owner(v) => words_answer(&[owner_of(&pointers, v)], out),
+        PointerQuestion::AllAllocations => every_allocation(words, visit, &pointers, out),
         PointerQuestion::AllOwners => all_owners_answer(words, &pointers, out),
     }
 }

@@ -35,6 +35,7 @@ pub enum LiveQuestion {
 pub enum PointerQuestion {
     Allocation(AllocId),
     Owner(LocalId),
+    AllAllocations,
     AllOwners,
 }
 
@@ -80,6 +81,7 @@ pub fn own_refusal(words: &[u32], keys: &[u32], question: Question) -> u32
         Question::OfPointers(q) => match q {
             PointerQuestion::Allocation(a) => id_refusal(a.0, keys.len() as u32),
             PointerQuestion::Owner(v) => id_refusal(v.0, local_count(words)),
+            PointerQuestion::AllAllocations => 0,
             PointerQuestion::AllOwners => 0,
         },
     }

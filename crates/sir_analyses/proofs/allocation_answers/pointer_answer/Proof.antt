@@ -63,6 +63,19 @@ words-answer-requires c κs = search needs
 enum-told : tie.Need-enum-told
 enum-told c = search needs
 
+slice-aggregate-every-allocation : tie.Need-slice-aggregate-every-allocation
+slice-aggregate-every-allocation c = search needs
+
+every-allocation-requires : tie.Need-every-allocation-requires
+every-allocation-requires c κs =
+    let at-compute-pointers = c .before .before .before .before .before in
+    let at-shared-slice-known = at-compute-pointers .before .before .before .before .before in
+    let start = at-shared-slice-known .before in
+    (start .pre .0, at-compute-pointers .compute-pointers .ensures)
+
+enum-told-2 : tie.Need-enum-told-2
+enum-told-2 c = search needs
+
 slice-aggregate-all-owners-answer : tie.Need-slice-aggregate-all-owners-answer
 slice-aggregate-all-owners-answer c = search needs
 
@@ -103,12 +116,24 @@ same-length-3 c = search needs
 
 returns-3 : tie.Need-returns-3
 returns-3 c =
-    let at-all-owners-answer = c .before .before in
-    let at-enum-told = at-all-owners-answer .before .before .before in
+    let at-every-allocation = c .before .before in
+    let at-enum-told = at-every-allocation .before .before .before in
     let at-slice-known = at-enum-told .before .before .before .before .before in
     let start = at-slice-known .before .before .before .before in
     let a = start .args in
-    at-all-owners-answer .all-owners-answer .ensures ∙ answered-as Question.OfPointers (a .words .now) (at-enum-told .enum-told .given .1) (a .out .now)
+    at-every-allocation .every-allocation .ensures ∙ answered-as Question.OfPointers (a .words .now) (at-enum-told .enum-told .given .1) (a .out .now)
+
+same-length-4 : tie.Need-same-length-4
+same-length-4 c = search needs
+
+returns-4 : tie.Need-returns-4
+returns-4 c =
+    let at-all-owners-answer = c .before .before in
+    let at-enum-told2 = at-all-owners-answer .before .before .before in
+    let at-slice-known = at-enum-told2 .before .before .before .before .before in
+    let start = at-slice-known .before .before .before .before in
+    let a = start .args in
+    at-all-owners-answer .all-owners-answer .ensures ∙ answered-as Question.OfPointers (a .words .now) (at-enum-told2 .enum-told2 .given .1) (a .out .now)
 
 pub pointer-answer-spec : {M : Type 1} → statement M
 pointer-answer-spec =
@@ -125,6 +150,9 @@ pointer-answer-spec =
     slice-aggregate-words-answer
     words-answer-requires
     enum-told
+    slice-aggregate-every-allocation
+    every-allocation-requires
+    enum-told-2
     slice-aggregate-all-owners-answer
     all-owners-answer-requires
     same-length
@@ -132,4 +160,6 @@ pointer-answer-spec =
     same-length-2
     returns-2
     same-length-3
-    returns-3)
+    returns-3
+    same-length-4
+    returns-4)

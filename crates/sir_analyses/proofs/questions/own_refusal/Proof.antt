@@ -108,6 +108,9 @@ id-refusal-requires-7 c κs = search needs
 enum-told-8 : tie.Need-enum-told-8
 enum-told-8 c = search needs
 
+enum-told-9 : tie.Need-enum-told-9
+enum-told-9 c = search needs
+
 returns : tie.Need-returns
 returns c = search needs
 
@@ -194,6 +197,9 @@ returns-14 c =
 returns-15 : tie.Need-returns-15
 returns-15 c = search needs
 
+returns-16 : tie.Need-returns-16
+returns-16 c = search needs
+
 pub own-refusal-spec : {M : Type 1} → statement M
 own-refusal-spec =
     tie.close
@@ -230,6 +236,7 @@ own-refusal-spec =
     local-count-requires-3
     id-refusal-requires-7
     enum-told-8
+    enum-told-9
     returns
     returns-2
     returns-3
@@ -244,4 +251,5 @@ own-refusal-spec =
     returns-12
     returns-13
     returns-14
-    returns-15)
+    returns-15
+    returns-16)

@@ -1,0 +1,40 @@
+-- `every_allocation` meets its contract.
+use mathlib.Core.Path.{refl}
+use borrow.Author.Needs.{needs}
+use Rattle.sir_analyses.proofs.allocation_answers.every_allocation.Statement.{statement}
+use Rattle.sir_analyses.proofs.allocation_answers.every_allocation.Tie as tie
+
+slice-aggregate-live-sets : tie.Need-slice-aggregate-live-sets
+slice-aggregate-live-sets c = search needs
+
+live-sets-requires : tie.Need-live-sets-requires
+live-sets-requires c κs =
+    let start = c .before .before .before .before .before in
+    (start .pre .0, refl)
+
+slice-aggregate-all-allocations-answer : tie.Need-slice-aggregate-all-allocations-answer
+slice-aggregate-all-allocations-answer c = search needs
+
+all-allocations-answer-requires : tie.Need-all-allocations-answer-requires
+all-allocations-answer-requires c κs =
+    let at-live-sets = c .before .before .before in
+    let at-shared-slice-known = at-live-sets .before .before .before .before .before in
+    let start = at-shared-slice-known .before in
+    (start .pre .0, (at-live-sets .live-sets .ensures .1, start .pre .1))
+
+same-length : tie.Need-same-length
+same-length c = search needs
+
+returns : tie.Need-returns
+returns c = c .before .before .all-allocations-answer .ensures
+
+pub every-allocation-spec : {M : Type 1} → statement M
+every-allocation-spec =
+    tie.close
+    (tie.spec
+    slice-aggregate-live-sets
+    live-sets-requires
+    slice-aggregate-all-allocations-answer
+    all-allocations-answer-requires
+    same-length
+    returns)
