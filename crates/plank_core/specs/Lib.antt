@@ -1,3 +1,3 @@
 pub mod Lists
-pub mod DenseIndexSet
+pub mod inner
 pub mod laws

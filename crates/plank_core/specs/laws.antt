@@ -5,3 +5,5 @@ pub mod Bits
 pub mod DenseIndexSet
 pub mod Members
 pub mod Distinct
+pub mod Prefixes
+pub mod Folds

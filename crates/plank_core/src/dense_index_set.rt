@@ -4,7 +4,7 @@ ghost use mathlib.Core.Path.{_≡_};
 ghost use mathlib.Core.List.{_++_};
 ghost use Prim.Native.Nat.{_≤_};
 ghost use lib.ListN.{length, drop};
-ghost use Rattle.plank_core.specs.DenseIndexSet.{isEmpty, meets, members};
+ghost use Rattle.plank_core.specs.inner.DenseIndexSet.{isEmpty, meets, members};
 
 pub struct DenseIndexSet {
     pub words: [u64; 8],

@@ -3,7 +3,7 @@ ghost use mathlib.Core.Path.{_≡_};
 ghost use mathlib.Core.Bool.{not};
 ghost use Prim.Native.Nat.{_+_, _*_, _≤_, _<_};
 ghost use lib.ListN.{length};
-ghost use Rattle.plank_core.specs.DenseIndexSet.{contains, added, removed, rowOf, rowUnion, rowDifference, grows};
+ghost use Rattle.plank_core.specs.inner.DenseIndexSet.{contains, added, removed, rowOf, rowUnion, rowDifference, grows};
 
 // A row by itself: that part of the table.
 pub fn row_of(table: &[u64], row: usize) -> &[u64]

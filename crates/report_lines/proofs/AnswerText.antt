@@ -17,7 +17,7 @@ use Rattle.sir_analyses.specs.Kinds.{kindOf, kindWords}
 use Rattle.sir_analyses.specs.declared.allocation_words.AllocKind.{AllocKind}
 use Rattle.sir_analyses.specs.laws.Writing.{length-bytes}
 use Rattle.report_lines.specs.Lines.{ascii, named, intervalText, interval, localText, allocationText}
-use Rattle.report_lines.specs.Putting.{Words, intervalAt, intervalsAt, EndsSome, localLine, mark, allocationHead, allocationLine}
+use Rattle.report_lines.specs.inner.Putting.{Words, intervalAt, intervalsAt, EndsSome, localLine, mark, allocationHead, allocationLine}
 use Rattle.report_lines.proofs.Fields.{Good, Goods, intervals-good, merged-good, alloc-small, base-small}
 
 -- word i of some words as bytes
@@ -38,9 +38,9 @@ word-bytes (x ∷ xs) (suc i) h l =
     let e₃ : 4 * suc i + 3 ≡ suc (suc (suc (suc (4 * i + 3)))) = omega arith in
     rw (e₁, e₂, e₃, e₀) (word-bytes xs i (omega arith) l)
 
--- word j behind some front
-word-behind : {xs : List ℕ} (front ys : List ℕ) (j : ℕ) → xs ≡ front ++ ys → j < length ys → getD ys j 0 < 4294967296 → wordAt (bind xs bytesOf) (length front + j) ≡ getD ys j 0
-word-behind {xs} front ys j e h l =
+-- word j after some front
+word-after : {xs : List ℕ} (front ys : List ℕ) (j : ℕ) → xs ≡ front ++ ys → j < length ys → getD ys j 0 < 4294967296 → wordAt (bind xs bytesOf) (length front + j) ≡ getD ys j 0
+word-after {xs} front ys j e h l =
     let g : getD xs (length front + j) 0 ≡ getD ys j 0 = ap (λ (l : List ℕ). getD l (length front + j) 0) e ∙ getD-append-add front ys j 0 in
     word-bytes xs (length front + j) (omega (arith, ap length e, length-append front ys)) (omega (arith, g)) ∙ g
 
@@ -50,15 +50,15 @@ three i = i .block ∷ i .from ∷ i .to ∷ []
 
 module _ {xs : List ℕ} (front : List ℕ) (i : Interval) (is : List Interval) (e : xs ≡ front ++ intervalWords (i ∷ is)) (g : Good i) where
   end-at : wordAt (bind xs bytesOf) (length front + 2) ≡ i .to
-  end-at = word-behind front (intervalWords (i ∷ is)) 2 e (omega arith) (g .end-small)
+  end-at = word-after front (intervalWords (i ∷ is)) 2 e (omega arith) (g .end-small)
 
   text-at : intervalAt (bind xs bytesOf) (length front) ≡ intervalText i
   unfolding intervalAt
   text-at =
       let z : length front + 0 ≡ length front = omega arith in
       let a : wordAt (bind xs bytesOf) (length front) ≡ i .block =
-      ap (wordAt (bind xs bytesOf)) (sym z) ∙ word-behind front (intervalWords (i ∷ is)) 0 e (omega arith) (g .block-small) in
-      let b : wordAt (bind xs bytesOf) (length front + 1) ≡ i .from = word-behind front (intervalWords (i ∷ is)) 1 e (omega arith) (g .start-small) in
+      ap (wordAt (bind xs bytesOf)) (sym z) ∙ word-after front (intervalWords (i ∷ is)) 0 e (omega arith) (g .block-small) in
+      let b : wordAt (bind xs bytesOf) (length front + 1) ≡ i .from = word-after front (intervalWords (i ∷ is)) 1 e (omega arith) (g .start-small) in
       ap (λ (n : ℕ). interval n (wordAt (bind xs bytesOf) (length front + 1)) (wordAt (bind xs bytesOf) (length front + 2))) a
       ∙ ap (λ (n : ℕ). interval (i .block) n (wordAt (bind xs bytesOf) (length front + 2))) b
       ∙ ap (λ (n : ℕ). interval (i .block) (i .from) n) end-at

@@ -1,4 +1,4 @@
--- Laws of putting texts into a line, one behind the other.
+-- Laws of putting texts into a line, one after the other.
 use mathlib.Core.Path.{_≡_, refl, sym, ap, _∙_}
 use mathlib.Core.List.{List, [], _∷_, _++_, append-assoc, append-nil}
 use Prim.Native.Nat.{ℕ, _+_, _≤_, _<_}
@@ -8,7 +8,7 @@ use lib.ListN.{length, getD, take, set, length-append, length-set}
 use lib.Seq.{take-suc, take-suc-set, take-all}
 use Rattle.plank_core.specs.Lists.{bind, upto}
 use Rattle.plank_core.specs.laws.Loops.{bind-snoc, upto-more}
-use Rattle.report_lines.specs.Putting.{Put}
+use Rattle.report_lines.specs.inner.Putting.{Put}
 
 pub put-as : {xs ys : List ℕ} {at r : ℕ} {old new : List ℕ} → xs ≡ ys → Put xs at old new r → Put ys at old new r
 put-as e k = rw e at k

@@ -10,7 +10,7 @@ use lib.Seq.{take-at, length-take-le, getD-take, getD-drop}
 use lib.Dec.{ltb}
 use borrow.Author.Tests.{lt-ltb, le-ltb, ltb-false}
 use Rattle.plank_core.specs.Lists.{bind, any, range, upto, _∈_}
-use Rattle.plank_core.specs.DenseIndexSet.{contains, setOf, rowOf, members}
+use Rattle.plank_core.specs.inner.DenseIndexSet.{contains, setOf, rowOf, members}
 use Rattle.plank_core.specs.laws.Lists.{any-not, keep-out, mem-upto}
 use Rattle.plank_core.specs.laws.DenseIndexSet.{contains-setOf}
 use Rattle.plank_core.specs.laws.Members.{members-most}
@@ -20,11 +20,11 @@ use Rattle.sir_data.specs.Records.{blocks, locals}
 use Rattle.sir_analyses.specs.Allocation.{allocs}
 use Rattle.sir_analyses.specs.Answers.{orderAnswer, entryAnswer, exitAnswer, intervalsAnswer, allocationAnswer}
 use Rattle.sir_analyses.specs.Calls.{Outcome, made, refused, answered}
-use Rattle.sir_analyses.specs.Discovery.{allocKey, allocKeys}
+use Rattle.sir_analyses.specs.inner.Discovery.{allocSite, allocSites}
 use Rattle.sir_analyses.specs.Order.{blocksRpo, isVisited}
-use Rattle.sir_analyses.specs.Stages.{part, rpoIn, sitesIn, VisitStage, PointerStage}
-use Rattle.sir_analyses.specs.Tables.{LiveRows}
-use Rattle.sir_analyses.specs.Writing.{Puts}
+use Rattle.sir_analyses.specs.inner.Stages.{part, rpoIn, sitesIn, VisitStage, PointerStage}
+use Rattle.sir_analyses.specs.inner.Tables.{LiveRows}
+use Rattle.sir_analyses.specs.inner.Writing.{Puts}
 use Rattle.sir_analyses.specs.laws.Writing.{length-bytes, puts-within}
 use Rattle.report_lines.specs.Counting.{tooLong, localTooLong, allocationTooLong, someTooLong}
 use Rattle.report_lines.specs.Lines.{visitedBlocks}
@@ -74,9 +74,9 @@ module _ (xs out : List ℕ) {n l : ℕ} {out′ : List ℕ} (long : length out 
 
 -- ---- all of some answers
 
-pub keys-long : (w : List ℕ) → length (allocKeys w) ≡ length (allocs w)
-unfolding allocKeys
-keys-long w = length-map (allocs w) allocKey
+pub sites-long : (w : List ℕ) → length (allocSites w) ≡ length (allocs w)
+unfolding allocSites
+sites-long w = length-map (allocs w) allocSite
 
 abbrev pub longLocal : List ℕ → ℕ → Bool
 longLocal w v = tooLong (intervalsAnswer w v)
@@ -173,7 +173,7 @@ rpo-small {w} {visit} v h k = rw (sym (v .rpo-is)) (part-small 1 (getD visit 0 0
 
 -- there are as many sites as allocations
 pub sites-count : {w p : List ℕ} → PointerStage w p → {n : ℕ} → n ≡ length (sitesIn p) → n ≡ length (allocs w)
-sites-count {w} S e = e ∙ ap length (S .sites-are) ∙ keys-long w
+sites-count {w} S e = e ∙ ap length (S .sites-are) ∙ sites-long w
 
 pub sites-most : {w p : List ℕ} → PointerStage w p → length (sitesIn p) ≤ 512
 unfolding part

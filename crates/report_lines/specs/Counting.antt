@@ -28,7 +28,7 @@ printed w =
 unfoldable pub someTooLong : List ℕ → Bool
 someTooLong w = any tooLong (printed w)
 
--- 0, or the number that is printed behind `refused`
+-- 0, or the number that is printed after `refused`
 unfoldable pub reported : List ℕ → ℕ
 reported image = cond (eqb (refusal image) 0) (cond (someTooLong (payload image)) 14 0) (refusal image)
 

@@ -22,7 +22,7 @@ paperWords =
     ∷ 82 ∷ 1 ∷ 1 ∷ 1 ∷ 2 ∷ 32 ∷ 0
     -- op 2 `MemoryStore` v1, v0
     ∷ 24 ∷ 2 ∷ 4 ∷ 4 ∷ 4 ∷ 0 ∷ 0
-    -- op 3 `MemoryLoad` v2 giving v3
+    -- op 3 `MemoryLoad` v2 defining v3
     ∷ 84 ∷ 5 ∷ 6 ∷ 6 ∷ 7 ∷ 0 ∷ 0
     -- op 4 `Stop`
     ∷ 77 ∷ 7 ∷ 7 ∷ 7 ∷ 7 ∷ 0 ∷ 0

@@ -1,4 +1,4 @@
 pub mod Lines
-pub mod Putting
 pub mod Counting
+pub mod inner
 pub mod Examples

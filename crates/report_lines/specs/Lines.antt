@@ -51,7 +51,7 @@ startText s = cond (eqb s 0) (ascii "start") (number (s - 1))
 abbrev pub endText : ℕ → List ℕ
 endText e = cond (eqb e 4294967295) (ascii "end") (number (e - 1))
 
--- " bB S..E": an interval behind its block
+-- " bB S..E": an interval after its block
 abbrev pub interval : ℕ → ℕ → ℕ → List ℕ
 interval b s e = named (ascii " b") b ++ ascii " " ++ startText s ++ ascii ".." ++ endText e
 

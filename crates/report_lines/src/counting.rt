@@ -2,12 +2,12 @@
 use plank_core::index::AllocId;
 use plank_core::index::LocalId;
 use sir_analyses::allocation_answers::allocation_answer;
-use sir_analyses::local_intervals::put_intervals;
+use sir_analyses::local_intervals::compute_intervals;
 use sir_analyses::stages::alloc_sites;
 use sir_data::records::local_count;
 ghost use mathlib.Core.Path.{_≡_};
 ghost use lib.ListN.{length};
-ghost use Rattle.sir_analyses.specs.Stages.{VisitStage, LivenessStage, PointerStage};
+ghost use Rattle.sir_analyses.specs.inner.Stages.{VisitStage, LivenessStage, PointerStage};
 ghost use Rattle.report_lines.specs.Counting.{localTooLong, allocationTooLong};
 
 // Whether the intervals of some local need more than 65,536 bytes.
@@ -19,7 +19,7 @@ pub fn local_too_long(words: &[u32], visit: &[u32], live: &[u64]) -> bool
     let count = local_count(words);
     let mut v: u32 = 0;
     while v < count {
-        let n = put_intervals(words, visit, live, LocalId(v), &mut []);
+        let n = compute_intervals(words, visit, live, LocalId(v), &mut []);
         if 16384 < n {
             return true;
         }

@@ -9,7 +9,7 @@ use sir_data::pages::word_at;
 ghost use Prim.Native.Nat.{_-_, _/_, _≤_};
 ghost use lib.ListN.{length};
 ghost use Rattle.report_lines.specs.Lines.{refusedLine, orderLine, roundsLine, blockLine};
-ghost use Rattle.report_lines.specs.Putting.{Put, localLine, allocationHead, allocationLine, EndsSome};
+ghost use Rattle.report_lines.specs.inner.Putting.{Put, localLine, allocationHead, allocationLine, EndsSome};
 
 // `refused` and the number.
 pub fn refused_line(number: u32, line: &mut [u8]) -> usize

@@ -16,9 +16,9 @@ use plank_core::rows::row_of;
 use sir_analyses::allocation_answers::allocation_answer;
 use sir_analyses::allocation_answers::compute_pointers;
 use sir_analyses::loading::load;
-use sir_analyses::local_intervals::put_intervals;
-use sir_analyses::local_liveness::entry;
-use sir_analyses::local_liveness::live_sets;
+use sir_analyses::local_intervals::compute_intervals;
+use sir_analyses::local_liveness::compute_liveness;
+use sir_analyses::local_liveness::compute_liveness_at_block_entry;
 use sir_analyses::stages::LIVE;
 use sir_analyses::stages::POINTERS;
 use sir_analyses::stages::POSTORDER;
@@ -42,9 +42,9 @@ ghost use Rattle.sir_analyses.specs.Order.{isVisited};
 ghost use Rattle.sir_analyses.specs.Liveness.{rounds};
 ghost use Rattle.sir_analyses.specs.Allocation.{allocs};
 ghost use Rattle.sir_analyses.specs.Answers.{orderAnswer, intervalsAnswer, allocationAnswer};
-ghost use Rattle.sir_analyses.specs.Stages.{VisitStage, AcceptedStage, LivenessStage, PointerStage};
+ghost use Rattle.sir_analyses.specs.inner.Stages.{VisitStage, AcceptedStage, LivenessStage, PointerStage};
 ghost use Rattle.report_lines.specs.Lines.{orderText, roundsText, blockText, localText, allocationText};
-ghost use Rattle.report_lines.specs.Putting.{Put};
+ghost use Rattle.report_lines.specs.inner.Putting.{Put};
 ghost use Rattle.report_lines.specs.Counting.{tooLong, localTooLong, allocationTooLong, someTooLong, reported};
 
 // Prints some bytes.
@@ -100,7 +100,7 @@ fn block_text(words: &[u32], live: &[u64], b: BlockId, line: &mut [u8]) -> usize
     requires { ⌜ (b .0 < blocks (now words)) × (isVisited (now words) (b .0) ≡ true) × (196608 ≤ length (now line)) ⌝ }
     ensures { λ r. ⌜ Put (blockText (now (words .entry)) (b .0)) 0 (now (line .entry)) (now (line .exit)) r ⌝ }
 {
-    let set = entry(live, b);
+    let set = compute_liveness_at_block_entry(live, b);
     let mut into = [0u32; 512];
     let n = list(&set.words, &mut into);
     let mut from = [0u32; 512];
@@ -139,7 +139,7 @@ fn local_text(
     requires { ⌜ (length (now out) ≡ 65536) × (196608 ≤ length (now line)) ⌝ }
     ensures { λ r. ⌜ Put (localText (now (words .entry)) (v .0)) 0 (now (line .entry)) (now (line .exit)) r ⌝ }
 {
-    let n = put_intervals(words, visit, live, v, out);
+    let n = compute_intervals(words, visit, live, v, out);
     if n == 0 {
         return 0;
     }
@@ -235,7 +235,7 @@ fn report_words(words: &[u32], visit: &[u32], sites: &[u32]) -> u32
     ensures { λ r. ⌜ r ≡ cond (someTooLong (now (words .entry))) 14 0 ⌝ }
 {
     let mut live = [0u64; LIVE];
-    let done = live_sets(words, visit, &mut live);
+    let done = compute_liveness(words, visit, &mut live);
     let mut pointers = [0u32; POINTERS];
     compute_pointers(words, visit, sites, &mut pointers);
     report_tables(words, visit, &live, &pointers, done)
@@ -246,10 +246,10 @@ pub fn report(image: &[u8]) -> u32
     ensures { λ r. ⌜ r ≡ reported (now (image .entry)) ⌝ }
 {
     let mut words = [0u32; WORDS];
-    let mut post = [0u32; POSTORDER];
+    let mut postorder = [0u32; POSTORDER];
     let mut visit = [0u32; VISIT];
     let mut sites = [0u32; 512];
-    let sizes = load(image, &mut words, &mut post, &mut visit, &mut sites);
+    let sizes = load(image, &mut words, &mut postorder, &mut visit, &mut sites);
     let number = sizes.number;
     if number != 0 {
         say_refused(number, &mut [0u8; 32]);

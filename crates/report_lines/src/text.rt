@@ -1,11 +1,11 @@
-// Pieces of a line. Each is put behind the first `at` bytes of a line; the answer is where it ends.
+// Pieces of a line. Each is put after the first `at` bytes of a line; the answer is where it ends.
 use sir_data::pages::word_at;
 ghost use Prim.Native.Nat.{_+_, _*_, _≤_, _<_};
 ghost use lib.ListN.{length};
 ghost use Rattle.plank_core.specs.Lists.{bind};
 ghost use Rattle.sir_data.specs.Pages.{wordAt};
 ghost use Rattle.report_lines.specs.Lines.{number, named, localsText, blocksText, membersText, startText, endText, interval};
-ghost use Rattle.report_lines.specs.Putting.{Put, intervalAt, intervalsAt, EndsSome};
+ghost use Rattle.report_lines.specs.inner.Putting.{Put, intervalAt, intervalsAt, EndsSome};
 
 // Some bytes as they are.
 pub fn put_text(line: &mut [u8], at: usize, text: &[u8]) -> usize

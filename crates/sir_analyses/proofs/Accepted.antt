@@ -11,9 +11,9 @@ use Rattle.plank_core.specs.Lists.{_∈_}
 use Rattle.plank_core.specs.laws.Lists.{and-true-left, and-true-right, or-cases}
 use Rattle.sir_data.specs.Records.{blocks, operations, locals, outputs, ops, control, successors, returned, code, ins, outs}
 use Rattle.sir_data.specs.Codes.{arityOk, isStaticAlloc, isDynamicAlloc, isAlloc}
-use Rattle.sir_data.specs.WellFormed.{WellFormed}
+use Rattle.sir_data.specs.inner.WellFormed.{WellFormed}
 use Rattle.sir_analyses.specs.Order.{blocksRpo}
-use Rattle.sir_analyses.proofs.OrderProof.{blocks-below}
+use Rattle.sir_analyses.proofs.claims.order.OrderProof.{blocks-below}
 
 -- the operand counts of an allocation: one output
 alloc-out : (c i o : ℕ) → isAlloc c ≡ true → arityOk c i o ≡ true → o ≡ 1

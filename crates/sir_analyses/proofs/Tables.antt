@@ -1,20 +1,17 @@
 -- Laws of tables that show sets: rows filled one after the other, and members added step by step.
 use mathlib.Core.Path.{_≡_, refl, sym, ap, _∙_}
-use mathlib.Core.Bool.{Bool, true, false, _&&_, _||_, or-false, or-assoc, and-false, and-or-distrib-left}
-use mathlib.Core.List.{List, [], _∷_, map}
+use mathlib.Core.Bool.{Bool, false, _&&_, _||_, or-false, or-assoc, and-false}
+use mathlib.Core.List.{List, [], _∷_}
 use Prim.Native.Nat.{ℕ, _+_, _*_, _≤_, _<_}
 use native.Mathlib.Omega.{arith}
-use native.Mathlib.Numerals.{add-one}
-use lib.ListN.{length, getD, take, replicate, length-replicate}
-use lib.Seq.{take-suc, take-all}
+use lib.ListN.{length, replicate, length-replicate}
 use lib.Dec.{eqb, ltb}
-use borrow.Author.Tests.{lt-ltb, le-ltb, eqb-true, eqb-false, eq-eqb, ltb-true, ltb-false}
+use borrow.Author.Tests.{lt-ltb, le-ltb}
 use Rattle.plank_core.specs.Lists.{mem}
-use Rattle.plank_core.specs.laws.Lists.{mem-snoc}
-use Rattle.plank_core.specs.laws.Loops.{map-append}
-use Rattle.plank_core.specs.DenseIndexSet.{contains, added, rowUnion}
+use Rattle.plank_core.specs.inner.DenseIndexSet.{contains, added, rowUnion}
 use Rattle.plank_core.specs.laws.DenseIndexSet.{contains-cleared, contains-row-added, contains-union, length-added, length-union}
-use Rattle.sir_analyses.specs.Tables.{Rows, Adds}
+use Rattle.sir_analyses.specs.inner.Tables.{Rows, Adds}
+use Rattle.plank_core.specs.laws.Prefixes.{below-more}
 
 -- ---- a table of zeros
 
@@ -65,18 +62,6 @@ Filled t n k f = Rows t n (λ r i. ltb r k && f r i)
 pub filled-starts : (t : List ℕ) (m n : ℕ) (f : ℕ → ℕ → Bool) → t ≡ replicate m 0 → Filled t n 0 f
 filled-starts t m n f e r i l h = cleared-row t m r i e ∙ rw (le-ltb r 0 (omega arith))
 
--- one more of those below k
-pub below-more : (r k : ℕ) (f : ℕ → Bool) → ((ltb r k && f r) || (eqb r k && f k)) ≡ (ltb r (k + 1) && f r)
-below-more r k f = go (eqb r k) refl (ltb r k) refl
-  where
-    go : (x : Bool) → eqb r k ≡ x → (y : Bool) → ltb r k ≡ y → ((ltb r k && f r) || (eqb r k && f k)) ≡ (ltb r (k + 1) && f r)
-    go true e y d = let q : r ≡ k = eqb-true r k e in rw (q, le-ltb k k (omega arith), eq-eqb k k refl, lt-ltb k (k + 1) (omega arith))
-    go false e true d = let q : r < k = ltb-true r k d in rw (e, d, lt-ltb r (k + 1) (omega arith)) (or-false (f r))
-    go false e false d =
-        let q : k ≤ r = ltb-false r k d in
-        let n : r ≡ k → ⊥ = eqb-false r k e in
-        rw (e, d, le-ltb r (k + 1) (omega arith))
-
 pub filled-more : (t t′ : List ℕ) (n k : ℕ) (f : ℕ → ℕ → Bool) → 8 * n ≤ length t → Filled t n k f → Adds t (λ r i. eqb r k && f k i) t′ → Filled t′ n (k + 1) f
 filled-more t t′ n k f w g a r i l h =
     a .same r i (omega arith) h ∙ ap (λ (x : Bool). x || (eqb r k && f k i)) (g r i l h) ∙ below-more r k (λ q. f q i)
@@ -87,18 +72,3 @@ filled-not t n k f l g i h = g k i l h ∙ rw (le-ltb k k (omega arith))
 
 pub filled-ends : (t : List ℕ) (n k m : ℕ) (f : ℕ → ℕ → Bool) → m ≤ k → m ≤ n → Filled t n k f → Rows t m f
 filled-ends t n k m f h j g r i l b = g r i (omega arith) b ∙ rw (lt-ltb r k (omega arith))
-
--- ---- a list taken one by one
-
-pub taken-next : (xs : List ℕ) (k : ℕ) → k < length xs → (x : ℕ) → (mem x (take k xs) || eqb x (getD xs k 0)) ≡ mem x (take (k + 1) xs)
-taken-next xs k h x = rw (add-one, take-suc xs k 0 h) (sym (mem-snoc x (getD xs k 0) (take k xs)))
-
-pub mapped-next : (f : ℕ → ℕ) (xs : List ℕ) (k : ℕ) → k < length xs → (x : ℕ) → (mem x (map f (take k xs)) || eqb x (f (getD xs k 0))) ≡ mem x (map f (take (k + 1) xs))
-mapped-next f xs k h x = rw (add-one, take-suc xs k 0 h, map-append) (sym (mem-snoc x (f (getD xs k 0)) (map f (take k xs))))
-
--- each together with a test
-pub and-next : (a : Bool) (xs : List ℕ) (k : ℕ) → k < length xs → (x : ℕ) → ((a && mem x (take k xs)) || (a && eqb x (getD xs k 0))) ≡ (a && mem x (take (k + 1) xs))
-and-next a xs k h x = sym (and-or-distrib-left a (mem x (take k xs)) (eqb x (getD xs k 0))) ∙ ap (λ (t : Bool). a && t) (taken-next xs k h x)
-
-pub and-all : (a : Bool) (xs : List ℕ) (k : ℕ) → length xs ≤ k → (x : ℕ) → (a && mem x (take k xs)) ≡ (a && mem x xs)
-and-all a xs k h x = ap (λ (ys : List ℕ). a && mem x ys) (take-all k xs h)

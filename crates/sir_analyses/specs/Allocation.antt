@@ -16,7 +16,7 @@ pub record Alloc : Type 0 where
   pub block : ℕ
   pub op : ℕ
 
--- allocations: the allocation operations met in visited blocks
+-- allocations: the allocation operations of visited blocks
 abbrev pub allocs : List ℕ → List Alloc
 allocs w = bind (blocksRpo w) (λ b. map (λ o. record { block = b; op = o }) (keep (λ o. isAlloc (code w o)) (ops w b)))
 
@@ -108,7 +108,7 @@ abbrev pub give : List ℕ → List ℕ → ℕ → List ℕ
 give owner [] a = owner
 give owner (v ∷ vs) a = give (set owner v (suc a)) vs a
 
--- the turn of allocation a: it takes all that is linked from its base and, behind it, from locals that nobody had
+-- the turn of allocation a: it takes all that is linked from its base and, after it, from locals that nobody had
 abbrev pub link : List ℕ → List ℕ → ℕ → List ℕ
 link w owner a = give owner (nextOf w (spread w (unowned w owner) (base w (allocAt w a)))) a
 

@@ -161,7 +161,7 @@ module _ (w : List ℕ) where
     pub allocations-same : discovered w .allocations ≡ allocs w
     pub bases-same : discovered w .owner ≡ bases w
     pub asserted : discovered w .failed ≡ false
-    -- behind each allocation its work list is empty: the bound in `drain` cuts nothing off
+    -- after each allocation its work list is empty: the bound in `drain` cuts nothing off
     pub drained : (n : ℕ) → n ≤ length (allocs w) → sourceAfter w n .work ≡ []
     pub marks : (a : ℕ) → a < length (allocs w) → sourceMarked w a ≡ marked w a
     pub owners-same : sourceState w .owner ≡ owners w

@@ -22,11 +22,11 @@ use Rattle.sir_analyses.specs.Walk.{Event, op, edge, Walk, enter, step, 
 
 -- ---- images of one page, written as blocks with their operations
 
--- an operation: its code, what it reads and gives, its two extras
+-- an operation: its code, what it reads and defines, its two extras
 record Op : Type 0 where
   code : ℕ
   reads : List ℕ
-  gives : List ℕ
+  defines : List ℕ
   extras : ℕ × ℕ
 
 -- a block; its control is the kind, then four fields
@@ -38,7 +38,7 @@ record Block : Type 0 where
 
 -- the operand words of an operation
 abbrev opOperands : Op → List ℕ
-opOperands o = o .reads ++ o .gives
+opOperands o = o .reads ++ o .defines
 
 -- the operand words of a block: those of its operations, then its inputs, then its outputs
 abbrev blockOperands : Block → List ℕ
@@ -49,7 +49,7 @@ abbrev opWords : ℕ → List Op → List ℕ
 opWords v [] = []
 opWords v (o ∷ os) =
     let i = v + length (o .reads) in
-    let e = i + length (o .gives) in
+    let e = i + length (o .defines) in
     o .code ∷ v ∷ i ∷ i ∷ e ∷ o .extras .0 ∷ o .extras .1 ∷ opWords e os
 
 -- the words of the operations of all blocks; v: operand words before
@@ -82,11 +82,11 @@ pageBytes w =
     let words : List ℕ = 0 ∷ w in
     bind words bytesOf ++ bytesOf (checkOf (pageWord (bind words bytesOf) 0))
 
--- ---- operations, by what they give and read, and controls
+-- ---- operations, by what they define and read, and controls
 
 -- an operation of code c without extras
 abbrev plain : ℕ → List ℕ → List ℕ → Op
-plain c gives reads = record { code = c; reads = reads; gives = gives; extras = (0, 0) }
+plain c defines reads = record { code = c; reads = reads; defines = defines; extras = (0, 0) }
 
 -- `SetSmallConst`
 abbrev setConst : ℕ → Op
@@ -94,7 +94,7 @@ setConst v = plain 86 (v ∷ []) []
 
 -- `StaticAllocZeroed` of 32 bytes with id 0
 abbrev alloc : ℕ → Op
-alloc v = record { code = 82; reads = []; gives = v ∷ []; extras = (32, 0) }
+alloc v = record { code = 82; reads = []; defines = v ∷ []; extras = (32, 0) }
 
 -- `Add`
 abbrev add : ℕ → ℕ → ℕ → Op
@@ -110,7 +110,7 @@ store address v = plain 24 [] (address ∷ v ∷ [])
 
 -- `InternalCall` without operands
 abbrev call : ℕ → Op
-call f = record { code = 25; reads = []; gives = []; extras = (f, 0) }
+call f = record { code = 25; reads = []; defines = []; extras = (f, 0) }
 
 -- `Stop`
 abbrev stop : Op
@@ -230,8 +230,8 @@ abbrev later-owner : Row
 later-owner = (ownerAnswer added 3, 2 ∷ [])
 
 -- removing outputs after adding inputs, which loses `v = v + 1`
-abbrev read-and-given : Row
-read-and-given = (entryAnswer increments 0, 0 ∷ [])
+abbrev read-and-defined : Row
+read-and-defined = (entryAnswer increments 0, 0 ∷ [])
 
 -- stopping after one pass of a loop: v1 comes to the exit of block 1 in the second
 abbrev second-pass : Row
@@ -327,7 +327,7 @@ table =
     -- misreadings: taking non-zero first
     ∷ (orderAnswer (branching 1 2), 0 ∷ 3 ∷ 0 ∷ 1 ∷ 2 ∷ [])
     -- removing outputs after adding inputs, which loses `v = v + 1`
-    ∷ read-and-given
+    ∷ read-and-defined
     -- stopping after one pass of a loop
     ∷ (roundsAnswer looping, 3 ∷ [])
     ∷ second-pass

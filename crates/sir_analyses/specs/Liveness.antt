@@ -59,26 +59,26 @@ members s = keep (has s) (upto (length s))
 
 -- ---- the equations
 
--- what is read behind a block's operations: a branch or switch condition, or an `InternalReturn` block's outputs
+-- what is read after a block's operations: a branch or switch condition, or an `InternalReturn` block's outputs
 abbrev pub endReads : List ℕ → ℕ → List ℕ
 endReads w b = condition w b ++ returned w b
 
--- the entry set of b from its exit set: plus what is read behind its operations, then operations backwards, outputs removed before
+-- the entry set of b from its exit set: plus what is read after its operations, then operations backwards, outputs removed before
 -- inputs are added
 abbrev pub entryFrom : List ℕ → ℕ → Set → Set
 entryFrom w b exit =
     foldr (λ o s. addAll (removeAll s (outs w o)) (ins w o)) (addAll exit (endReads w b)) (ops w b)
 
--- is v read by the operations before one of them gives it? `end` is read behind them
+-- is v read by the operations before one of them defines it? `end` is read after them
 abbrev pub readFirst : List ℕ → List ℕ → List ℕ → ℕ → Bool
 readFirst w end [] v = mem v end
 readFirst w end (o ∷ os) v = mem v (ins w o) || (not (mem v (outs w o)) && readFirst w end os v)
 
--- the use set of b: the locals that it reads before it gives them
+-- the use set of b: the locals that it reads before it defines them
 abbrev pub useSet : List ℕ → ℕ → Set
 useSet w b = map (readFirst w (endReads w b) (ops w b)) (upto (locals w))
 
--- the def set of b: the locals that an operation of b gives
+-- the def set of b: the locals that an operation of b defines
 abbrev pub defSet : List ℕ → ℕ → Set
 defSet w b = map (λ v. any (λ o. mem v (outs w o)) (ops w b)) (upto (locals w))
 
@@ -169,7 +169,7 @@ pub record Scan : Type 0 where
   pub open′ : ℕ
   pub closed : List Interval
 
--- the end that is open behind a block's operations, by whether one is live there
+-- the end that is open after a block's operations, by whether one is live there
 abbrev pub endOpen : Bool → ℕ
 endOpen live = cond live blockEnd 0
 
@@ -177,11 +177,11 @@ endOpen live = cond live blockEnd 0
 abbrev pub closing : ℕ → ℕ → ℕ → List Interval
 closing b from to = cond (eqb to 0) [] (record { block = b; from = from; to = to } ∷ [])
 
--- an open interval gets its start, and goes behind those closed so far
+-- an open interval gets its start, and goes after those closed so far
 abbrev pub close : ℕ → ℕ → Scan → Scan
 close b from c = record { open′ = 0; closed = c .closed ++ closing b from (c .open′) }
 
--- operation o is passed: where it gives v it closes what is open, then where it reads v and nothing is open it opens an end
+-- operation o is passed: where it defines v it closes what is open, then where it reads v and nothing is open it opens an end
 abbrev pub scanOp : List ℕ → ℕ → ℕ → ℕ → Scan → Scan
 scanOp w b v o c =
     let d = cond (mem v (outs w o)) (close b (suc o) c) c in

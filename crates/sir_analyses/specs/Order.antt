@@ -26,7 +26,7 @@ seeFunction v f = record { seenBlocks = v .seenBlocks; seenFunctions = f ∷ v .
 abbrev pub seeBlock : Visit → ℕ → Visit
 seeBlock v b = record { seenBlocks = b ∷ v .seenBlocks; seenFunctions = v .seenFunctions; finished = v .finished; finishedFunctions = v .finishedFunctions }
 
--- function f is finished, behind those finished before
+-- function f is finished, after those finished before
 abbrev pub finishFunction : Visit → ℕ → Visit
 finishFunction v f = record { seenBlocks = v .seenBlocks; seenFunctions = v .seenFunctions; finished = v .finished; finishedFunctions = v .finishedFunctions ++ (f ∷ []) }
 

@@ -29,19 +29,19 @@ linkLocal a s v =
 abbrev pub mark : ℕ → State → State
 mark a s = record { owner = s .owner; marks = addAll (s .marks) (a ∷ []); work = s .work }
 
--- a local is followed at once: xs, all that it carries, are linked, and where it harms the allocation is marked
+-- a local is followed at once: xs, all that it carries, are linked, and where it escapes the allocation is marked
 abbrev pub follow : List ℕ → Bool → ℕ → State → State
-follow xs harms a s = let t = foldl (linkLocal a) s xs in cond harms (mark a t) t
+follow xs escaping a s = let t = foldl (linkLocal a) s xs in cond escaping (mark a t) t
 
--- the latest local of the work list is followed, some times over; `links` and `harms` tell what of each local
-pub data Runs (links : ℕ → List ℕ) (harms : ℕ → Bool) (a : ℕ) (s : State) : State → Type 0 where
-  begun : Runs links harms a s s
-  more : {t : State} {v : ℕ} {vs : List ℕ} → Runs links harms a s t → t .work ≡ v ∷ vs
-      → Runs links harms a s (follow (links v) (harms v) a (record { owner = t .owner; marks = t .marks; work = vs }))
+-- the latest local of the work list is followed, some times over; `links` and `escaping` tell what of each local
+pub data Runs (links : ℕ → List ℕ) (escaping : ℕ → Bool) (a : ℕ) (s : State) : State → Type 0 where
+  begun : Runs links escaping a s s
+  more : {t : State} {v : ℕ} {vs : List ℕ} → Runs links escaping a s t → t .work ≡ v ∷ vs
+      → Runs links escaping a s (follow (links v) (escaping v) a (record { owner = t .owner; marks = t .marks; work = vs }))
 
 -- allocation a is followed from its base v until the work list is empty
-pub record Propagates (links : ℕ → List ℕ) (harms : ℕ → Bool) (a v : ℕ) (s s′ : State) : Type 0 where
-  pub runs : Runs links harms a (record { owner = s .owner; marks = s .marks; work = v ∷ [] }) s′
+pub record Propagates (links : ℕ → List ℕ) (escaping : ℕ → Bool) (a v : ℕ) (s s′ : State) : Type 0 where
+  pub runs : Runs links escaping a (record { owner = s .owner; marks = s .marks; work = v ∷ [] }) s′
   pub ended : s′ .work ≡ []
 
 -- every base first for its own, and no marks
@@ -49,6 +49,6 @@ abbrev pub start : List ℕ → State
 start w = record { owner = bases w; marks = replicate (length (allocs w)) false; work = [] }
 
 -- the first n allocations were followed in turn
-pub data Followed (w : List ℕ) (links : ℕ → List ℕ) (harms : ℕ → Bool) : ℕ → State → Type 0 where
-  none : Followed w links harms 0 (start w)
-  next : {a : ℕ} {s s′ : State} → Followed w links harms a s → Propagates links harms a (base w (allocAt w a)) s s′ → Followed w links harms (suc a) s′
+pub data Followed (w : List ℕ) (links : ℕ → List ℕ) (escaping : ℕ → Bool) : ℕ → State → Type 0 where
+  none : Followed w links escaping 0 (start w)
+  next : {a : ℕ} {s s′ : State} → Followed w links escaping a s → Propagates links escaping a (base w (allocAt w a)) s s′ → Followed w links escaping (suc a) s′

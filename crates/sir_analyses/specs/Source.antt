@@ -39,7 +39,7 @@ abbrev pub discovered : List ℕ → Discoveries
 discovered w =
     foldl (λ d b. foldl (discoverOperation w b) d (ops w b)) (record { allocations = []; owner = replicate (locals w) 0; failed = false }) (blocksRpo w)
 
--- behind 219: none escapes yet, and the work list is empty
+-- after 219: none escapes yet, and the work list is empty
 abbrev pub sourceStart : List ℕ → State
 sourceStart w = let d = discovered w in record { owner = d .owner; marks = replicate (length (d .allocations)) false; work = [] }
 

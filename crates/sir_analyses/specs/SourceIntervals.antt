@@ -31,7 +31,7 @@ cmp a b = cond (eqb a b) equal (cond (ltb a b) less greater)
 abbrev pub startCmp : ℕ → ℕ → Ordering
 startCmp a b = cond (eqb a b) equal (cond (eqb a 0) less (cond (eqb b 0) greater (cmp a b)))
 
--- of `IntervalEnd` (43 to 52): `BlockEnd` is behind every operation
+-- of `IntervalEnd` (43 to 52): `BlockEnd` is after every operation
 abbrev pub endCmp : ℕ → ℕ → Ordering
 endCmp a b = cond (eqb a b) equal (cond (eqb a blockEnd) greater (cond (eqb b blockEnd) less (cmp a b)))
 
@@ -79,7 +79,7 @@ noInterval = record { block = 0; from = 0; to = 0 }
 abbrev pub overlaps : Interval → Interval → Bool
 overlaps prev cur = eqb (prev .block) (cur .block) && (eqb (prev .to) blockEnd || eqb (cur .from) 0 || leb (cur .from) (prev .to))
 
--- 349 to 367, the interval at `src`: one that overlaps that at `dst` moves its end, another goes behind it
+-- 349 to 367, the interval at `src`: one that overlaps that at `dst` moves its end, another goes after it
 abbrev pub mergeAt : Merging → ℕ → Merging
 mergeAt m src =
     let prev = getD (m .intervals) (m .dst) noInterval in

@@ -87,7 +87,7 @@ endAtOperation o s v = cond (eqb (getD (s .ends) v 0) 0) (record { ends = set (s
 abbrev pub intervalsAtOp : List ℕ → ℕ → Ends → ℕ → Ends
 intervalsAtOp w b s o = foldl (endAtOperation o) (foldl (removeEnd b (suc o)) s (outs w o)) (ins w o)
 
--- 194 to 232, block b: what is live at its exit (197 to 199), what is read behind its operations (201 to 214), its operations backwards
+-- 194 to 232, block b: what is live at its exit (197 to 199), what is read after its operations (201 to 214), its operations backwards
 -- (216 to 227); then the ends that are left are drained
 abbrev pub intervalsAtBlock : List ℕ → List Set → Ends → ℕ → Ends
 intervalsAtBlock w exits s b =

@@ -42,10 +42,10 @@ ghost use Rattle.sir_analyses.specs.All.{all};
 ghost use Rattle.sir_analyses.specs.Allocation.{allocs, merged};
 ghost use Rattle.sir_analyses.specs.Answers.{intervalWords, allocationAnswer};
 ghost use Rattle.sir_analyses.specs.Calls.{made, answered};
-ghost use Rattle.sir_analyses.specs.Stages.{VisitStage, LivenessStage, PointerStage};
-ghost use Rattle.sir_analyses.specs.Scatter.{numberAt, backward, Below, Fits, Scatters, Counts};
-ghost use Rattle.sir_analyses.specs.IntervalPieces.{closedPieces};
-ghost use Rattle.sir_analyses.specs.AllocationPieces.{ownerIn, OwnedTables, LiveOwners, SplitOwners, sweepPieces, visitedPieces, headOf, headPieces, recordPieces};
+ghost use Rattle.sir_analyses.specs.inner.Stages.{VisitStage, LivenessStage, PointerStage};
+ghost use Rattle.sir_analyses.specs.inner.Scatter.{numberAt, backward, Below, Fits, Scatters, Counts};
+ghost use Rattle.sir_analyses.specs.inner.IntervalPieces.{closedPieces};
+ghost use Rattle.sir_analyses.specs.inner.AllocationPieces.{ownerIn, OwnedTables, LiveOwners, SplitOwners, sweepPieces, visitedPieces, headOf, headPieces, recordPieces};
 
 // What a start closes for each of some allocations, where an end is open, in front of what each has.
 fn close_before(

@@ -3,7 +3,7 @@
 use crate::answers::Answer;
 use crate::answers::finish;
 use crate::local_intervals::BLOCK_END;
-use crate::local_liveness::entry;
+use crate::local_liveness::compute_liveness_at_block_entry;
 use crate::scatter::append;
 use crate::scatter::put_lengths;
 use crate::scatter::total_words;
@@ -25,15 +25,15 @@ ghost use lib.ListN.{length, take};
 ghost use lib.Dec.{eqb};
 ghost use Rattle.plank_core.specs.Lists.{bind, mem, _∈_};
 ghost use Rattle.sir_data.specs.Pages.{bytesOf};
-ghost use Rattle.plank_core.specs.DenseIndexSet.{contains, members, rowOf};
+ghost use Rattle.plank_core.specs.inner.DenseIndexSet.{contains, members, rowOf};
 ghost use Rattle.sir_data.specs.Records.{blocks, locals, ops};
 ghost use Rattle.sir_analyses.specs.Liveness.{endOpen};
 ghost use Rattle.sir_analyses.specs.All.{all};
 ghost use Rattle.sir_analyses.specs.Answers.{intervalsAnswer};
 ghost use Rattle.sir_analyses.specs.Calls.{made, answered};
-ghost use Rattle.sir_analyses.specs.Stages.{VisitStage, LivenessStage, endsIn, exitsIn};
-ghost use Rattle.sir_analyses.specs.Scatter.{numberAt, forward, Below, Fits, Scatters, Counts};
-ghost use Rattle.sir_analyses.specs.IntervalPieces.{closedPieces, OpenEnds, operationsPieces, startPieces, blockPieces, localPieces};
+ghost use Rattle.sir_analyses.specs.inner.Stages.{VisitStage, LivenessStage, endsIn, exitsIn};
+ghost use Rattle.sir_analyses.specs.inner.Scatter.{numberAt, forward, Below, Fits, Scatters, Counts};
+ghost use Rattle.sir_analyses.specs.inner.IntervalPieces.{closedPieces, OpenEnds, operationsPieces, startPieces, blockPieces, localPieces};
 
 // The members of a row of a table, ascending, to the front of `ids`: how many.
 pub fn list_row(table: &[u64], row: usize, ids: &mut [u32]) -> usize
@@ -153,7 +153,7 @@ fn close_block(
     requires { ⌜ (length (now cursors) ≡ locals (now words)) × Fits forward (startPieces (now words) (b .0)) (now cursors) ⌝ }
     ensures { λ _. ⌜ Scatters forward (startPieces (now (words .entry)) (b .0)) (now (cursors .entry)) (now (out .entry)) (now (cursors .exit)) (now (out .exit)) ⌝ }
 {
-    let set = entry(live, b);
+    let set = compute_liveness_at_block_entry(live, b);
     let mut ids = [0u32; 512];
     let n = list(&set.words, &mut ids);
     close_ends(&ids[..n], till, b, 0, cursors, out);

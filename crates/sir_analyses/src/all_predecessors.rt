@@ -15,13 +15,13 @@ ghost use lib.ListN.{length, getD};
 ghost use Rattle.plank_core.specs.Lists.{bind};
 ghost use Rattle.sir_data.specs.Pages.{bytesOf};
 ghost use Rattle.sir_data.specs.Records.{blocks};
-ghost use Rattle.sir_data.specs.WellFormed.{WellFormed};
+ghost use Rattle.sir_data.specs.inner.WellFormed.{WellFormed};
 ghost use Rattle.sir_analyses.specs.All.{all};
 ghost use Rattle.sir_analyses.specs.Answers.{predecessorsAnswer};
 ghost use Rattle.sir_analyses.specs.Calls.{made, answered};
-ghost use Rattle.sir_analyses.specs.Pieces.{edgePieces, predecessorPieces};
-ghost use Rattle.sir_analyses.specs.Scatter.{forward, Fits, Scatters, Counts};
-ghost use Rattle.sir_analyses.specs.Stages.{VisitStage};
+ghost use Rattle.sir_analyses.specs.inner.Pieces.{edgePieces, predecessorPieces};
+ghost use Rattle.sir_analyses.specs.inner.Scatter.{forward, Fits, Scatters, Counts};
+ghost use Rattle.sir_analyses.specs.inner.Stages.{VisitStage};
 
 // Block p, for each of its successors.
 fn scan_edges(words: &[u32], p: BlockId, cursors: &mut [usize], out: &mut [u8])

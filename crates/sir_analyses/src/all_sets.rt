@@ -3,7 +3,7 @@ use crate::answers::Answer;
 use crate::answers::finish;
 use crate::answers::put_word;
 use crate::answers::put_words;
-use crate::local_liveness::entry;
+use crate::local_liveness::compute_liveness_at_block_entry;
 use crate::stages::exits;
 use crate::stages::is_visited;
 use crate::stages::owner_of;
@@ -18,14 +18,14 @@ ghost use mathlib.Core.List.{_∷_};
 ghost use Prim.Native.Nat.{_+_, _*_, _<_, _≤_, _^_};
 ghost use lib.ListN.{length};
 ghost use Rattle.plank_core.specs.Lists.{bind};
-ghost use Rattle.plank_core.specs.DenseIndexSet.{members};
+ghost use Rattle.plank_core.specs.inner.DenseIndexSet.{members};
 ghost use Rattle.sir_data.specs.Pages.{bytesOf};
 ghost use Rattle.sir_data.specs.Records.{blocks, locals};
 ghost use Rattle.sir_analyses.specs.All.{all};
 ghost use Rattle.sir_analyses.specs.Answers.{entryAnswer, exitAnswer, ownerAnswer};
 ghost use Rattle.sir_analyses.specs.Calls.{made, answered};
-ghost use Rattle.sir_analyses.specs.Stages.{VisitStage, LivenessStage, PointerStage};
-ghost use Rattle.sir_analyses.specs.Writing.{Puts};
+ghost use Rattle.sir_analyses.specs.inner.Stages.{VisitStage, LivenessStage, PointerStage};
+ghost use Rattle.sir_analyses.specs.inner.Writing.{Puts};
 
 // The members of a set after their number.
 fn put_set(set: &[u64], n: usize, out: &mut [u8]) -> usize
@@ -54,7 +54,7 @@ fn put_entry_set(
     if !is_visited(visit, b) {
         return put_set(&[0u64; 8], n, out);
     }
-    let set = entry(live, b);
+    let set = compute_liveness_at_block_entry(live, b);
     put_set(&set.words, n, out)
 }
 

@@ -26,14 +26,14 @@ ghost use lib.ListN.{length, getD};
 ghost use Rattle.plank_core.specs.Lists.{bind};
 ghost use Rattle.sir_data.specs.Pages.{bytesOf};
 ghost use Rattle.sir_data.specs.Records.{blocks, locals};
-ghost use Rattle.sir_data.specs.WellFormed.{WellFormed};
+ghost use Rattle.sir_data.specs.inner.WellFormed.{WellFormed};
 ghost use Rattle.sir_analyses.specs.All.{all};
 ghost use Rattle.sir_analyses.specs.Answers.{usesAnswer};
 ghost use Rattle.sir_analyses.specs.Calls.{made, answered};
 ghost use Rattle.sir_analyses.specs.Order.{blocksRpo};
-ghost use Rattle.sir_analyses.specs.Pieces.{operationPieces, conditionPieces, outputPieces, endPieces, blockPieces, onePieces, OperationTimes, inputPieces};
-ghost use Rattle.sir_analyses.specs.Stages.{VisitStage};
-ghost use Rattle.sir_analyses.specs.Scatter.{forward, Fits, Scatters, Counts};
+ghost use Rattle.sir_analyses.specs.inner.Pieces.{operationPieces, conditionPieces, outputPieces, endPieces, blockPieces, onePieces, OperationTimes, inputPieces};
+ghost use Rattle.sir_analyses.specs.inner.Stages.{VisitStage};
+ghost use Rattle.sir_analyses.specs.inner.Scatter.{forward, Fits, Scatters, Counts};
 
 // A block's operations in turn, for each input.
 fn scan_operations(words: &[u32], b: BlockId, cursors: &mut [usize], out: &mut [u8])

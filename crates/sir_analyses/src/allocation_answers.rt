@@ -8,7 +8,7 @@ use crate::allocation_words::put_head;
 use crate::answers::Answer;
 use crate::answers::finish;
 use crate::answers::words_answer;
-use crate::local_liveness::live_sets;
+use crate::local_liveness::compute_liveness;
 use crate::merged_intervals::populate_intervals_from_local_liveness;
 use crate::pointer_links::pointer_links;
 use crate::questions::PointerQuestion;
@@ -28,18 +28,18 @@ ghost use Prim.Native.Nat.{ℕ, _+_, _<_};
 ghost use lib.ListN.{length, getD, replicate};
 ghost use lib.Dec.{eqb, ltb};
 ghost use Rattle.plank_core.specs.Lists.{bind};
-ghost use Rattle.plank_core.specs.DenseIndexSet.{contains};
+ghost use Rattle.plank_core.specs.inner.DenseIndexSet.{contains};
 ghost use Rattle.sir_data.specs.Pages.{bytesOf};
 ghost use Rattle.sir_data.specs.Records.{locals};
 ghost use Rattle.sir_data.specs.Rules.{first};
-ghost use Rattle.sir_data.specs.WellFormed.{WellFormed};
+ghost use Rattle.sir_data.specs.inner.WellFormed.{WellFormed};
 ghost use Rattle.sir_analyses.specs.All.{all};
 ghost use Rattle.sir_analyses.specs.Allocation.{allocs, marked};
 ghost use Rattle.sir_analyses.specs.Answers.{allocationAnswer};
 ghost use Rattle.sir_analyses.specs.Calls.{made, answered, inWords};
-ghost use Rattle.sir_analyses.specs.Questions.{ownRules, answerWords};
-ghost use Rattle.sir_analyses.specs.Discovery.{Site, Unmarked};
-ghost use Rattle.sir_analyses.specs.Stages.{VisitStage, AcceptedStage, LivenessStage, PointerStage, ownersIn};
+ghost use Rattle.sir_analyses.specs.inner.Questions.{ownRules, answerWords};
+ghost use Rattle.sir_analyses.specs.inner.Discovery.{Site, Unmarked};
+ghost use Rattle.sir_analyses.specs.inner.Stages.{VisitStage, AcceptedStage, LivenessStage, PointerStage, ownersIn};
 ghost use Rattle.sir_analyses.specs.declared.questions.Question.{Question};
 
 // Adds the locals that allocation a owns to an empty set.
@@ -131,7 +131,7 @@ fn one_allocation(
         return marked_answer(words, site_of(alloc_sites(pointers), a), out);
     }
     let mut live = [0u64; LIVE];
-    live_sets(words, visit, &mut live);
+    compute_liveness(words, visit, &mut live);
     allocation_answer(words, visit, &live, pointers, a, out)
 }
 
@@ -142,7 +142,7 @@ fn every_allocation(words: &[u32], visit: &[u32], pointers: &[u32], out: &mut [u
     ensures { λ r. ⌜ made (r .number) (r .length) (now (out .exit)) ≡ answered (bind (all (λ w. length (allocs w)) allocationAnswer (now (words .entry))) bytesOf) (now (out .entry)) ⌝ }
 {
     let mut live = [0u64; LIVE];
-    live_sets(words, visit, &mut live);
+    compute_liveness(words, visit, &mut live);
     all_allocations_answer(words, visit, &live, pointers, out)
 }
 

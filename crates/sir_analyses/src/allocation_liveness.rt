@@ -1,4 +1,4 @@
-// Allocations: the allocation operations met in visited blocks, in the order's sequence; their owners and marks.
+// Allocations: the allocation operations of visited blocks, in the order's sequence; their owners and marks.
 use crate::stages::ALLOCATIONS;
 use crate::stages::LEFT;
 use crate::stages::MARKS;
@@ -23,22 +23,22 @@ ghost use mathlib.Core.Bool.{true};
 ghost use mathlib.Core.List.{List, _∷_, []};
 ghost use Prim.Native.Nat.{ℕ, _+_, _*_, _<_, _≤_};
 ghost use lib.ListN.{length, getD, replicate};
-ghost use Rattle.plank_core.specs.DenseIndexSet.{contains};
+ghost use Rattle.plank_core.specs.inner.DenseIndexSet.{contains};
 ghost use Rattle.sir_data.specs.Records.{blocks, operations, locals, code, outs};
 ghost use Rattle.sir_data.specs.Codes.{isAlloc};
-ghost use Rattle.sir_data.specs.WellFormed.{WellFormed};
+ghost use Rattle.sir_data.specs.inner.WellFormed.{WellFormed};
 ghost use Rattle.sir_analyses.specs.Allocation.{rule12, allocs, allocAt, base, bases};
-ghost use Rattle.sir_analyses.specs.Pointers.{PointerRows};
+ghost use Rattle.sir_analyses.specs.inner.Pointers.{PointerRows};
 ghost use Rattle.sir_analyses.specs.Propagation.{linkLocal, follow};
-ghost use Rattle.sir_analyses.specs.Discovery.{allocKeys, blockKeys, Capped, Site, linksIn};
-ghost use Rattle.sir_analyses.specs.Stages.{VisitStage, AcceptedStage, PointerStage, PointerRoom, PointerStep, PointersFollowed, SitesStored, leftIn};
+ghost use Rattle.sir_analyses.specs.inner.Discovery.{allocSites, blockSites, Capped, Site, linksIn};
+ghost use Rattle.sir_analyses.specs.inner.Stages.{VisitStage, AcceptedStage, PointerStage, PointerRoom, PointerStep, PointersFollowed, SitesStored, leftIn};
 
-// The allocations of a block behind the first `at` of `keys`, each as one number: 1024 times the block, plus the operation. Where
-// there is no room for one of them, a number past the end of `keys`.
-fn block_allocations(words: &[u32], b: BlockId, keys: &mut [u32], at: usize) -> usize
+// The allocations of a block after the first `at` of `sites`, each as one number: 1024 times the block, plus the operation. Where
+// there is no room for one of them, a number past the end of `sites`.
+fn block_allocations(words: &[u32], b: BlockId, sites: &mut [u32], at: usize) -> usize
     requires { ⌜ WellFormed (now words) ⌝ }
-    requires { ⌜ (b .0 < blocks (now words)) × (at ≤ length (now keys)) ⌝ }
-    ensures { λ r. ⌜ Capped (blockKeys (now (words .entry)) (b .0)) at (now (keys .entry)) (now (keys .exit)) r ⌝ }
+    requires { ⌜ (b .0 < blocks (now words)) × (at ≤ length (now sites)) ⌝ }
+    ensures { λ r. ⌜ Capped (blockSites (now (words .entry)) (b .0)) at (now (sites .entry)) (now (sites .exit)) r ⌝ }
 {
     let span = block_operations(words, b);
     let last = span.end;
@@ -48,10 +48,10 @@ fn block_allocations(words: &[u32], b: BlockId, keys: &mut [u32], at: usize) -> 
         let id = o;
         o += 1;
         if is_alloc(op_word(words, OpIdx(id), 0)) {
-            if m == keys.len() {
+            if m == sites.len() {
                 return m + 1;
             }
-            keys[m] = 1024 * b.0 + id;
+            sites[m] = 1024 * b.0 + id;
             m += 1;
         }
     }
@@ -59,16 +59,16 @@ fn block_allocations(words: &[u32], b: BlockId, keys: &mut [u32], at: usize) -> 
 }
 
 // The allocations of all visited blocks, in the order's sequence.
-pub fn find_allocations(words: &[u32], visit: &[u32], keys: &mut [u32]) -> usize
+pub fn find_allocations(words: &[u32], visit: &[u32], sites: &mut [u32]) -> usize
     requires { ⌜ VisitStage (now words) (now visit) ⌝ }
-    ensures { λ r. ⌜ Capped (allocKeys (now (words .entry))) 0 (now (keys .entry)) (now (keys .exit)) r ⌝ }
+    ensures { λ r. ⌜ Capped (allocSites (now (words .entry))) 0 (now (sites .entry)) (now (sites .exit)) r ⌝ }
 {
     let order = rpo(visit);
     let mut m: usize = 0;
     let mut i: usize = 0;
     while i < order.len() {
-        m = block_allocations(words, BlockId(order[i]), keys, m);
-        if m > keys.len() {
+        m = block_allocations(words, BlockId(order[i]), sites, m);
+        if m > sites.len() {
             return m;
         }
         i += 1;
@@ -82,15 +82,15 @@ pub struct AllocSite {
     pub op: OpIdx,
 }
 
-// The site of allocation a, from the keys of all allocations.
-pub fn site_of(keys: &[u32], a: AllocId) -> AllocSite
-    requires { ⌜ a .0 < length (now keys) ⌝ }
-    ensures { λ r. ⌜ ((w : List ℕ) → WellFormed w → now (keys .entry) ≡ allocKeys w → Site w (a .0) (r .block .0) (r .op .0)) ⌝ }
+// The site of allocation a, from the sites of all allocations.
+pub fn site_of(sites: &[u32], a: AllocId) -> AllocSite
+    requires { ⌜ a .0 < length (now sites) ⌝ }
+    ensures { λ r. ⌜ ((w : List ℕ) → WellFormed w → now (sites .entry) ≡ allocSites w → Site w (a .0) (r .block .0) (r .op .0)) ⌝ }
 {
-    let key = keys[a.0 as usize];
+    let site = sites[a.0 as usize];
     AllocSite {
-        block: BlockId(key / 1024),
-        op: OpIdx(key % 1024),
+        block: BlockId(site / 1024),
+        op: OpIdx(site % 1024),
     }
 }
 
@@ -105,25 +105,25 @@ pub fn base_ptr(words: &[u32], o: OpIdx) -> LocalId
 }
 
 // The base local of allocation a.
-fn base_of(words: &[u32], keys: &[u32], a: AllocId) -> LocalId
+fn base_of(words: &[u32], sites: &[u32], a: AllocId) -> LocalId
     requires { ⌜ WellFormed (now words) ⌝ }
-    requires { ⌜ (now keys ≡ allocKeys (now words)) × (a .0 < length (now keys)) ⌝ }
+    requires { ⌜ (now sites ≡ allocSites (now words)) × (a .0 < length (now sites)) ⌝ }
     ensures { λ r. ⌜ (r .0 ≡ base (now (words .entry)) (allocAt (now (words .entry)) (a .0))) × (r .0 < locals (now (words .entry))) ⌝ }
 {
-    let site = site_of(keys, a);
+    let site = site_of(sites, a);
     base_ptr(words, site.op)
 }
 
 // Rule 12: two of these allocations have one base local.
-pub fn rule_12(words: &[u32], keys: &[u32]) -> bool
+pub fn rule_12(words: &[u32], sites: &[u32]) -> bool
     requires { ⌜ WellFormed (now words) ⌝ }
-    requires { ⌜ (now keys ≡ allocKeys (now words)) × (length (now keys) ≤ 512) ⌝ }
+    requires { ⌜ (now sites ≡ allocSites (now words)) × (length (now sites) ≤ 512) ⌝ }
     ensures { λ r. ⌜ r ≡ rule12 (now (words .entry)) ⌝ }
 {
     let mut bases = [0u64; 8];
     let mut a: usize = 0;
-    while a < keys.len() {
-        let base = base_of(words, keys, AllocId(a as u32));
+    while a < sites.len() {
+        let base = base_of(words, sites, AllocId(a as u32));
         a += 1;
         if !row_add(&mut bases, 0, base.0) {
             return true;
@@ -133,14 +133,14 @@ pub fn rule_12(words: &[u32], keys: &[u32]) -> bool
 }
 
 // Every base first for its own.
-fn own_bases(words: &[u32], keys: &[u32], owners: &mut [u32])
+fn own_bases(words: &[u32], sites: &[u32], owners: &mut [u32])
     requires { ⌜ WellFormed (now words) ⌝ }
-    requires { ⌜ (now keys ≡ allocKeys (now words)) × (length (now keys) ≤ 512) × (now owners ≡ replicate 512 0) ⌝ }
+    requires { ⌜ (now sites ≡ allocSites (now words)) × (length (now sites) ≤ 512) × (now owners ≡ replicate 512 0) ⌝ }
     ensures { λ _. ⌜ ((v : ℕ) → v < locals (now (words .entry)) → getD (now (owners .exit)) v 0 ≡ getD (bases (now (words .entry))) v 0) × ((v : ℕ) → getD (now (owners .exit)) v 0 ≤ length (allocs (now (words .entry)))) × (length (now (owners .exit)) ≡ 512) ⌝ }
 {
     let mut a: usize = 0;
-    while a < keys.len() {
-        let base = base_of(words, keys, AllocId(a as u32));
+    while a < sites.len() {
+        let base = base_of(words, sites, AllocId(a as u32));
         a += 1;
         owners[base.0 as usize] = a as u32;
     }
@@ -211,14 +211,14 @@ fn propagate_pointers_and_mark_escapes(
 }
 
 // The sites of the allocations, to their part of the table.
-fn store_sites(keys: &[u32], pointers: &mut [u32])
-    requires { ⌜ (length (now keys) ≤ 512) × (now pointers ≡ replicate 2051 0) ⌝ }
-    ensures { λ _. ⌜ SitesStored (now (keys .entry)) (now (pointers .exit)) ⌝ }
+fn store_sites(sites: &[u32], pointers: &mut [u32])
+    requires { ⌜ (length (now sites) ≤ 512) × (now pointers ≡ replicate 2051 0) ⌝ }
+    ensures { λ _. ⌜ SitesStored (now (sites .entry)) (now (pointers .exit)) ⌝ }
 {
-    pointers[ALLOCATIONS] = keys.len() as u32;
+    pointers[ALLOCATIONS] = sites.len() as u32;
     let mut a: usize = 0;
-    while a < keys.len() {
-        pointers[SITES + a] = keys[a];
+    while a < sites.len() {
+        pointers[SITES + a] = sites[a];
         a += 1;
     }
 }
@@ -226,20 +226,20 @@ fn store_sites(keys: &[u32], pointers: &mut [u32])
 // Owners and marks: every base first for its own, then allocations in turn.
 pub fn discover_allocations(
     words: &[u32],
-    keys: &[u32],
+    sites: &[u32],
     links: &[u64],
     escaping: &[u64],
     pointers: &mut [u32],
 )
-    requires { ⌜ AcceptedStage (now words) (now keys) ⌝ }
+    requires { ⌜ AcceptedStage (now words) (now sites) ⌝ }
     requires { ⌜ PointerRows (now words) (now links) (now escaping) × (now pointers ≡ replicate 2051 0) ⌝ }
     ensures { λ _. ⌜ PointerStage (now (words .entry)) (now (pointers .exit)) ⌝ }
 {
-    store_sites(keys, pointers);
-    own_bases(words, keys, &mut pointers[OWNERS..MARKS]);
+    store_sites(sites, pointers);
+    own_bases(words, sites, &mut pointers[OWNERS..MARKS]);
     let mut i: usize = 0;
-    while i < keys.len() {
-        let base = base_of(words, keys, AllocId(i as u32));
+    while i < sites.len() {
+        let base = base_of(words, sites, AllocId(i as u32));
         propagate_pointers_and_mark_escapes(links, escaping, pointers, base, AllocId(i as u32));
         i += 1;
     }

@@ -14,10 +14,10 @@ ghost use Prim.Native.Nat.{_≤_, _<_};
 ghost use lib.ListN.{length};
 ghost use Rattle.sir_data.specs.Records.{operations, code};
 ghost use Rattle.sir_data.specs.Codes.{isAlloc};
-ghost use Rattle.sir_data.specs.WellFormed.{WellFormed};
-ghost use Rattle.sir_analyses.specs.Discovery.{headWords};
+ghost use Rattle.sir_data.specs.inner.WellFormed.{WellFormed};
+ghost use Rattle.sir_analyses.specs.inner.Discovery.{headWords};
 ghost use Rattle.sir_analyses.specs.Kinds.{kindOf, kindWords};
-ghost use Rattle.sir_analyses.specs.Writing.{Puts};
+ghost use Rattle.sir_analyses.specs.inner.Writing.{Puts};
 
 // How an allocation gets its size: given, with a static id, or by a local.
 pub enum AllocKind {

@@ -6,7 +6,7 @@ ghost use lib.ListN.{length, take, drop};
 ghost use Rattle.plank_core.specs.Lists.{bind};
 ghost use Rattle.sir_data.specs.Pages.{bytesOf};
 ghost use Rattle.sir_analyses.specs.Calls.{made, answered};
-ghost use Rattle.sir_analyses.specs.Writing.{Puts, Finished};
+ghost use Rattle.sir_analyses.specs.inner.Writing.{Puts, Finished};
 
 // Stores the bytes of a word.
 fn store(out: &mut [u8], at: usize, word: u32)

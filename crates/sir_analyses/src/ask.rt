@@ -15,20 +15,20 @@ ghost use mathlib.Core.Path.{_≡_};
 ghost use Rattle.sir_data.specs.Pages.{payload};
 ghost use Rattle.sir_analyses.specs.Calls.{made, call, asked, refusal, inWords};
 ghost use Rattle.sir_analyses.specs.Promise.{Promise};
-ghost use Rattle.sir_analyses.specs.Questions.{ownRules, answerWords};
-ghost use Rattle.sir_analyses.specs.Stages.{OrderStage, VisitStage, AcceptedStage};
+ghost use Rattle.sir_analyses.specs.inner.Questions.{ownRules, answerWords};
+ghost use Rattle.sir_analyses.specs.inner.Stages.{OrderStage, VisitStage, AcceptedStage};
 
 // The refusal of a question, or its answer, from the words of an accepted image, the keys of its visit, the visit and the
 // allocations.
 fn answer(
     words: &[u32],
-    post: &[u32],
+    postorder: &[u32],
     visit: &[u32],
     sites: &[u32],
     question: Question,
     out: &mut [u8],
 ) -> Answer
-    requires { ⌜ OrderStage (now words) (now post) × VisitStage (now words) (now visit) × AcceptedStage (now words) (now sites) ⌝ }
+    requires { ⌜ OrderStage (now words) (now postorder) × VisitStage (now words) (now visit) × AcceptedStage (now words) (now sites) ⌝ }
     ensures { λ r. ⌜ made (r .number) (r .length) (now (out .exit)) ≡ call (ownRules question (now (words .entry))) (inWords (answerWords question) (now (words .entry))) (now (out .entry)) ⌝ }
 {
     let number = own_refusal(words, sites, question);
@@ -36,7 +36,7 @@ fn answer(
         return refuse(number);
     }
     match question {
-        Question::OfOrder(q) => order_answer(words, post, visit, q, out),
+        Question::OfOrder(q) => order_answer(words, postorder, visit, q, out),
         Question::OfLiveness(q) => live_answer(words, visit, q, out),
         Question::OfPointers(q) => pointer_answer(words, visit, sites, q, out),
     }
@@ -48,10 +48,10 @@ pub fn ask(image: &[u8], question: Question, out: &mut [u8]) -> Answer
     ensures { λ r. ⌜ (refusal (now (image .entry)) ≡ 0 → Promise (payload (now (image .entry)))) ⌝ }
 {
     let mut words = [0u32; WORDS];
-    let mut post = [0u32; POSTORDER];
+    let mut postorder = [0u32; POSTORDER];
     let mut visit = [0u32; VISIT];
     let mut found = [0u32; 512];
-    let sizes = load(image, &mut words, &mut post, &mut visit, &mut found);
+    let sizes = load(image, &mut words, &mut postorder, &mut visit, &mut found);
     let number = sizes.number;
     if number != 0 {
         return refuse(number);
@@ -61,7 +61,7 @@ pub fn ask(image: &[u8], question: Question, out: &mut [u8]) -> Answer
     let allocations = sizes.allocations;
     answer(
         &words[..n],
-        &post[..finished],
+        &postorder[..finished],
         &visit,
         &found[..allocations],
         question,

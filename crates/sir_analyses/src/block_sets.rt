@@ -31,12 +31,12 @@ ghost use Prim.Native.Nat.{ℕ, _+_, _*_, _≤_, _<_};
 ghost use lib.ListN.{length, take, replicate};
 ghost use lib.Dec.{eqb};
 ghost use Rattle.plank_core.specs.Lists.{range, mem, _∈_};
-ghost use Rattle.plank_core.specs.DenseIndexSet.{contains};
+ghost use Rattle.plank_core.specs.inner.DenseIndexSet.{contains};
 ghost use Rattle.sir_data.specs.Records.{blocks, ops, successors, condition};
-ghost use Rattle.sir_data.specs.WellFormed.{WellFormed};
+ghost use Rattle.sir_data.specs.inner.WellFormed.{WellFormed};
 ghost use Rattle.sir_analyses.specs.Liveness.{has, endReads, useSet};
-ghost use Rattle.sir_analyses.specs.Stages.{VisitStage, readsIn, writesIn, usesIn, defsIn, Emptied, BlockAdded};
-ghost use Rattle.sir_analyses.specs.Tables.{Adds, EndRows, OperandRows, RunSets, BlockRows, PredecessorRows};
+ghost use Rattle.sir_analyses.specs.inner.Stages.{VisitStage, readsIn, writesIn, usesIn, defsIn, Emptied, BlockAdded};
+ghost use Rattle.sir_analyses.specs.inner.Tables.{Adds, EndRows, OperandRows, RangeSets, BlockRows, PredecessorRows};
 
 // Adds the locals of a run to a row.
 pub fn add_run(table: &mut [u64], row: usize, run: &[u32])
@@ -86,7 +86,7 @@ fn add_condition(words: &[u32], b: BlockId, uses: &mut [u64])
     row_add(uses, b.0 as usize, v.0);
 }
 
-// Adds what is read behind the operations of block b, its condition and what it returns, to row b.
+// Adds what is read after the operations of block b, its condition and what it returns, to row b.
 fn add_end(words: &[u32], b: BlockId, table: &mut [u64])
     requires { ⌜ WellFormed (now words) ⌝ }
     requires { ⌜ (b .0 < blocks (now words)) × (length (now table) ≡ 2048) ⌝ }
@@ -96,7 +96,7 @@ fn add_end(words: &[u32], b: BlockId, table: &mut [u64])
     add_run(table, b.0 as usize, returned_outputs(words, b));
 }
 
-// What is read behind the operations of each block.
+// What is read after the operations of each block.
 pub fn end_sets(words: &[u32], ends: &mut [u64])
     requires { ⌜ WellFormed (now words) ⌝ }
     requires { ⌜ now ends ≡ replicate 2048 0 ⌝ }
@@ -123,11 +123,11 @@ fn clear(sets: &mut [u64])
 }
 
 // Two sets: what the operations of block b read before one of them defines it, and what they define. Taken backwards.
-fn run_sets(words: &[u32], b: BlockId, live: &[u64], sets: &mut [u64])
+fn range_sets(words: &[u32], b: BlockId, live: &[u64], sets: &mut [u64])
     requires { ⌜ WellFormed (now words) ⌝ }
     requires { ⌜ (length (now live) ≡ 24576) × OperandRows (now words) (readsIn (now live)) (writesIn (now live)) ⌝ }
     requires { ⌜ (b .0 < blocks (now words)) × (length (now sets) ≡ 16) ⌝ }
-    ensures { λ _. ⌜ RunSets (now (words .entry)) (ops (now (words .entry)) (b .0)) (now (sets .exit)) ⌝ }
+    ensures { λ _. ⌜ RangeSets (now (words .entry)) (ops (now (words .entry)) (b .0)) (now (sets .exit)) ⌝ }
 {
     clear(sets);
     let span = block_operations(words, b);
@@ -141,21 +141,21 @@ fn run_sets(words: &[u32], b: BlockId, live: &[u64], sets: &mut [u64])
     }
 }
 
-// Turns the sets of the range `kept` into those of block b, and answers its range. They are made anew only where that is another
+// Updates the sets of the range `kept` to those of block b, and answers its range. They are made anew only where that is another
 // one: blocks that follow each other may share a long range.
-fn turn_sets(words: &[u32], b: BlockId, live: &[u64], kept: Span, sets: &mut [u64]) -> Span
+fn update_range_sets(words: &[u32], b: BlockId, live: &[u64], kept: Span, sets: &mut [u64]) -> Span
     requires { ⌜ WellFormed (now words) ⌝ }
     requires { ⌜ (length (now live) ≡ 24576) × OperandRows (now words) (readsIn (now live)) (writesIn (now live)) ⌝ }
     requires { ⌜ b .0 < blocks (now words) ⌝ }
-    requires { ⌜ RunSets (now words) (range (kept .start) (kept .end)) (now sets) ⌝ }
+    requires { ⌜ RangeSets (now words) (range (kept .start) (kept .end)) (now sets) ⌝ }
     ensures { λ r. ⌜ range (r .start) (r .end) ≡ ops (now (words .entry)) (b .0) ⌝ }
-    ensures { λ _. ⌜ RunSets (now (words .entry)) (ops (now (words .entry)) (b .0)) (now (sets .exit)) ⌝ }
+    ensures { λ _. ⌜ RangeSets (now (words .entry)) (ops (now (words .entry)) (b .0)) (now (sets .exit)) ⌝ }
 {
     let span = block_operations(words, b);
     if span.start == kept.start && span.end == kept.end {
         return kept;
     }
-    run_sets(words, b, live, sets);
+    range_sets(words, b, live, sets);
     span
 }
 
@@ -164,7 +164,7 @@ fn turn_sets(words: &[u32], b: BlockId, live: &[u64], kept: Span, sets: &mut [u6
 fn use_row(words: &[u32], b: BlockId, sets: &[u64], uses: &mut [u64])
     requires { ⌜ WellFormed (now words) ⌝ }
     requires { ⌜ (b .0 < blocks (now words)) × (length (now uses) ≡ 2048) ⌝ }
-    requires { ⌜ RunSets (now words) (ops (now words) (b .0)) (now sets) ⌝ }
+    requires { ⌜ RangeSets (now words) (ops (now words) (b .0)) (now sets) ⌝ }
     requires { ⌜ ((v : ℕ) → v < 512 → contains (now uses) (512 * b .0 + v) ≡ false) ⌝ }
     ensures { λ _. ⌜ Adds (now (uses .entry)) (λ r v. eqb r (b .0) && has (useSet (now (words .entry)) (b .0)) v) (now (uses .exit)) ⌝ }
 {
@@ -178,7 +178,7 @@ fn use_row(words: &[u32], b: BlockId, sets: &[u64], uses: &mut [u64])
 fn block_rows(words: &[u32], b: BlockId, sets: &[u64], live: &mut [u64])
     requires { ⌜ WellFormed (now words) ⌝ }
     requires { ⌜ (b .0 < blocks (now words)) × (length (now live) ≡ 24576) ⌝ }
-    requires { ⌜ RunSets (now words) (ops (now words) (b .0)) (now sets) ⌝ }
+    requires { ⌜ RangeSets (now words) (ops (now words) (b .0)) (now sets) ⌝ }
     requires { ⌜ ((v : ℕ) → v < 512 → contains (usesIn (now live)) (512 * b .0 + v) ≡ false) ⌝ }
     ensures { λ _. ⌜ BlockAdded (now (words .entry)) (b .0) (now (live .entry)) (now (live .exit)) ⌝ }
 {
@@ -197,7 +197,7 @@ pub fn block_sets(words: &[u32], live: &mut [u64])
     let count = block_count(words);
     let mut b: u32 = 0;
     while b < count {
-        kept = turn_sets(words, BlockId(b), live, kept, &mut sets);
+        kept = update_range_sets(words, BlockId(b), live, kept, &mut sets);
         block_rows(words, BlockId(b), &sets, live);
         b += 1;
     }

@@ -16,11 +16,11 @@ ghost use Prim.Native.Nat.{_+_, _*_, _<_, _≤_, _^_};
 ghost use lib.ListN.{length};
 ghost use Rattle.plank_core.specs.Lists.{mem};
 ghost use Rattle.sir_data.specs.Records.{blocks, condition};
-ghost use Rattle.sir_data.specs.WellFormed.{WellFormed};
+ghost use Rattle.sir_data.specs.inner.WellFormed.{WellFormed};
 ghost use Rattle.sir_analyses.specs.Liveness.{positions};
-ghost use Rattle.sir_analyses.specs.Uses.{InputCounts, sameUses, operationUses, conditionUses, outputUses, blockUses, usesOf};
-ghost use Rattle.sir_analyses.specs.Writing.{Puts};
-ghost use Rattle.sir_analyses.specs.Stages.{VisitStage};
+ghost use Rattle.sir_analyses.specs.inner.Uses.{InputCounts, repeatedUses, operationUses, conditionUses, outputUses, blockUses, usesOf};
+ghost use Rattle.sir_analyses.specs.inner.Writing.{Puts};
+ghost use Rattle.sir_analyses.specs.inner.Stages.{VisitStage};
 
 // How often a local is among some operands.
 fn count_local(run: &[u32], local: LocalId) -> u32
@@ -53,10 +53,10 @@ pub fn input_counts(words: &[u32], local: LocalId, counts: &mut [u32])
     }
 }
 
-// The same use some times over; where the slice has no room they are only counted.
-fn put_same(out: &mut [u8], n: usize, b: BlockId, o: OpIdx, times: u32) -> usize
+// One use, repeated; where the slice has no room they are only counted.
+fn put_repeated(out: &mut [u8], n: usize, b: BlockId, o: OpIdx, times: u32) -> usize
     requires { ⌜ n + 3 * times < 2 ^ 59 ⌝ }
-    ensures { λ r. ⌜ Puts n (sameUses (b .0) (o .0) times) (now (out .entry)) (now (out .exit)) r ⌝ }
+    ensures { λ r. ⌜ Puts n (repeatedUses (b .0) (o .0) times) (now (out .entry)) (now (out .exit)) r ⌝ }
 {
     let mut m = n;
     let mut i: u32 = 0;
@@ -82,7 +82,7 @@ fn put_operation_uses(words: &[u32], counts: &[u32], b: BlockId, n: usize, out: 
     let mut m = n;
     let mut o = span.start;
     while o < last {
-        m = put_same(out, m, b, OpIdx(o), counts[o as usize]);
+        m = put_repeated(out, m, b, OpIdx(o), counts[o as usize]);
         o += 1;
     }
     m

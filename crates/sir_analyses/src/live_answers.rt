@@ -5,9 +5,9 @@ use crate::all_sets::all_exit_sets_answer;
 use crate::answers::Answer;
 use crate::answers::finish;
 use crate::answers::words_answer;
-use crate::local_intervals::put_intervals;
-use crate::local_liveness::entry;
-use crate::local_liveness::live_sets;
+use crate::local_intervals::compute_intervals;
+use crate::local_liveness::compute_liveness;
+use crate::local_liveness::compute_liveness_at_block_entry;
 use crate::questions::LiveQuestion;
 use crate::stages::LIVE;
 use crate::stages::exits;
@@ -20,14 +20,14 @@ ghost use mathlib.Core.Path.{_≡_};
 ghost use Prim.Native.Nat.{_<_};
 ghost use lib.ListN.{length};
 ghost use Rattle.plank_core.specs.Lists.{bind};
-ghost use Rattle.plank_core.specs.DenseIndexSet.{members};
+ghost use Rattle.plank_core.specs.inner.DenseIndexSet.{members};
 ghost use Rattle.sir_data.specs.Pages.{bytesOf};
 ghost use Rattle.sir_data.specs.Records.{blocks, locals};
 ghost use Rattle.sir_data.specs.Rules.{first};
 ghost use Rattle.sir_analyses.specs.Answers.{entryAnswer, intervalsAnswer};
 ghost use Rattle.sir_analyses.specs.Calls.{made, answered, inWords};
-ghost use Rattle.sir_analyses.specs.Questions.{ownRules, answerWords};
-ghost use Rattle.sir_analyses.specs.Stages.{VisitStage, LivenessStage};
+ghost use Rattle.sir_analyses.specs.inner.Questions.{ownRules, answerWords};
+ghost use Rattle.sir_analyses.specs.inner.Stages.{VisitStage, LivenessStage};
 ghost use Rattle.sir_analyses.specs.declared.questions.Question.{Question};
 
 // The members of a set.
@@ -49,7 +49,7 @@ fn entry_answer(words: &[u32], visit: &[u32], live: &[u64], b: BlockId, out: &mu
     if !is_visited(visit, b) {
         return set_answer(&[0u64; 8], out);
     }
-    let set = entry(live, b);
+    let set = compute_liveness_at_block_entry(live, b);
     set_answer(&set.words, out)
 }
 
@@ -65,10 +65,10 @@ fn intervals_answer(
     requires { ⌜ LivenessStage (now words) (now live) × (v .0 < locals (now words)) ⌝ }
     ensures { λ r. ⌜ made (r .number) (r .length) (now (out .exit)) ≡ answered (bind (intervalsAnswer (now (words .entry)) (v .0)) bytesOf) (now (out .entry)) ⌝ }
 {
-    let n = put_intervals(words, visit, live, v, &mut []);
+    let n = compute_intervals(words, visit, live, v, &mut []);
     let answer = finish(n, out.len());
     let end = answer.length as usize;
-    put_intervals(words, visit, live, v, &mut out[..end]);
+    compute_intervals(words, visit, live, v, &mut out[..end]);
     answer
 }
 
@@ -79,7 +79,7 @@ pub fn live_answer(words: &[u32], visit: &[u32], question: LiveQuestion, out: &m
     ensures { λ r. ⌜ made (r .number) (r .length) (now (out .exit)) ≡ answered (inWords (answerWords (Question.OfLiveness question)) (now (words .entry))) (now (out .entry)) ⌝ }
 {
     let mut live = [0u64; LIVE];
-    let done = live_sets(words, visit, &mut live);
+    let done = compute_liveness(words, visit, &mut live);
     match question {
         LiveQuestion::EntrySet(b) => entry_answer(words, visit, &live, b, out),
         LiveQuestion::ExitSet(b) => set_answer(row_of(exits(&live), b.0 as usize), out),

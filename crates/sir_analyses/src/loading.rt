@@ -5,7 +5,7 @@ use crate::reverse_post_order::compute_visit;
 use sir_data::image::read_image;
 ghost use mathlib.Core.Path.{_≡_};
 ghost use lib.ListN.{length, replicate};
-ghost use Rattle.sir_analyses.specs.Loading.{Loaded};
+ghost use Rattle.sir_analyses.specs.inner.Loading.{Loaded};
 
 // The refusal of the image, or 0 and how many words, finished functions and blocks, and allocations stand in the arrays.
 pub struct Sizes {
@@ -29,20 +29,20 @@ fn no_sizes(number: u32) -> Sizes
 pub fn load(
     image: &[u8],
     words: &mut [u32],
-    post: &mut [u32],
+    postorder: &mut [u32],
     visit: &mut [u32],
     sites: &mut [u32],
 ) -> Sizes
-    requires { ⌜ (length (now words) ≡ 14742) × (length (now post) ≡ 320) ⌝ }
+    requires { ⌜ (length (now words) ≡ 14742) × (length (now postorder) ≡ 320) ⌝ }
     requires { ⌜ (now visit ≡ replicate 513 0) × (length (now sites) ≡ 512) ⌝ }
-    ensures { λ r. ⌜ Loaded (now (image .entry)) (now (words .exit)) (now (post .exit)) (now (visit .exit)) (now (sites .exit)) (r .number) (r .words) (r .finished) (r .allocations) ⌝ }
+    ensures { λ r. ⌜ Loaded (now (image .entry)) (now (words .exit)) (now (postorder .exit)) (now (visit .exit)) (now (sites .exit)) (r .number) (r .words) (r .finished) (r .allocations) ⌝ }
 {
     let number = read_image(image, words);
     if number != 0 {
         return no_sizes(number);
     }
     let n = 126 * (image.len() / 512);
-    let finished = compute_visit(&words[..n], post, visit);
+    let finished = compute_visit(&words[..n], postorder, visit);
     let allocations = find_allocations(&words[..n], visit, sites);
     if allocations > sites.len() {
         return no_sizes(12);

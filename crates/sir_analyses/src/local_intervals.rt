@@ -16,13 +16,13 @@ ghost use mathlib.Core.List.{_++_};
 ghost use Prim.Native.Nat.{_+_, _*_, _≤_, _<_};
 ghost use lib.ListN.{length, take};
 ghost use lib.Dec.{eqb};
-ghost use Rattle.plank_core.specs.DenseIndexSet.{contains};
+ghost use Rattle.plank_core.specs.inner.DenseIndexSet.{contains};
 ghost use Rattle.sir_data.specs.Records.{blocks, locals};
 ghost use Rattle.sir_analyses.specs.Liveness.{endOpen, closing};
 ghost use Rattle.sir_analyses.specs.Answers.{intervalWords, intervalsAnswer};
-ghost use Rattle.sir_analyses.specs.Writing.{Puts};
-ghost use Rattle.sir_analyses.specs.Stages.{VisitStage, LivenessStage, readsIn, writesIn, endsIn, exitsIn};
-ghost use Rattle.sir_analyses.specs.Scanning.{openBefore, closedBy, scanWords};
+ghost use Rattle.sir_analyses.specs.inner.Writing.{Puts};
+ghost use Rattle.sir_analyses.specs.inner.Stages.{VisitStage, LivenessStage, readsIn, writesIn, endsIn, exitsIn};
+ghost use Rattle.sir_analyses.specs.inner.Scanning.{openBefore, closedBy, scanWords};
 
 // The end of an interval that runs to the end of its block.
 pub const BLOCK_END: u32 = 4294967295;
@@ -125,7 +125,7 @@ pub fn block_intervals(
 }
 
 // The intervals of v in the blocks of the order; how many words they take.
-pub fn put_intervals(
+pub fn compute_intervals(
     words: &[u32],
     visit: &[u32],
     live: &[u64],

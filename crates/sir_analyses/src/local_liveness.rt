@@ -28,13 +28,13 @@ ghost use lib.ListN.{length, take, replicate};
 ghost use lib.Dec.{eqb};
 ghost use Rattle.plank_core.specs.Lists.{mem, _∈_};
 ghost use Rattle.sir_data.specs.Records.{blocks, outputs};
-ghost use Rattle.sir_data.specs.WellFormed.{WellFormed};
+ghost use Rattle.sir_data.specs.inner.WellFormed.{WellFormed};
 ghost use Rattle.sir_analyses.specs.Liveness.{back, pass, rounds};
-ghost use Rattle.sir_analyses.specs.Stages.{VisitStage, LivenessStage, usesIn, defsIn, exitsIn, Emptied, Passing, PassStep, ExitsFound};
-ghost use Rattle.sir_analyses.specs.Tables.{BlockRows, EntryWords, Parted, outputsAt, arrives, Sends};
+ghost use Rattle.sir_analyses.specs.inner.Stages.{VisitStage, LivenessStage, usesIn, defsIn, exitsIn, Emptied, Passing, PassStep, ExitsFound};
+ghost use Rattle.sir_analyses.specs.inner.Tables.{BlockRows, EntryWords, TakenInputs, outputsAt, arrives, Sends};
 
 // A block's entry set from its exit set: use ∪ (exit − def).
-pub fn entry(live: &[u64], b: BlockId) -> DenseIndexSet
+pub fn compute_liveness_at_block_entry(live: &[u64], b: BlockId) -> DenseIndexSet
     requires { ⌜ (length (now live) ≡ 24576) × (b .0 < 256) ⌝ }
     ensures { λ r. ⌜ (length (r .words) ≡ 8) × EntryWords (usesIn (now (live .entry))) (defsIn (now (live .entry))) (exitsIn (now (live .entry))) (b .0) (r .words) ⌝ }
 {
@@ -46,11 +46,11 @@ pub fn entry(live: &[u64], b: BlockId) -> DenseIndexSet
     DenseIndexSet { words }
 }
 
-// Parts the members of a set by whether they are inputs of b: those that are go, and their positions stand at the front of `moved`.
-fn part_inputs(words: &[u32], b: BlockId, set: &mut [u64], moved: &mut [u32]) -> usize
+// Takes the inputs of b out of a set: the positions of those that it had stand at the front of `moved`.
+fn take_block_inputs(words: &[u32], b: BlockId, set: &mut [u64], moved: &mut [u32]) -> usize
     requires { ⌜ WellFormed (now words) ⌝ }
     requires { ⌜ (b .0 < blocks (now words)) × (length (now set) ≡ 8) × (length (now moved) ≡ 512) ⌝ }
-    ensures { λ r. ⌜ (r ≤ 512) × Parted (now (words .entry)) (b .0) (now (set .entry)) (now (set .exit)) (take r (now (moved .exit))) ⌝ }
+    ensures { λ r. ⌜ (r ≤ 512) × TakenInputs (now (words .entry)) (b .0) (now (set .entry)) (now (set .exit)) (take r (now (moved .exit))) ⌝ }
 {
     let inputs = block_inputs(words, b);
     let mut n: usize = 0;
@@ -127,14 +127,19 @@ const SENT: usize = 2048;
 const PASS: usize = 4096;
 
 // One block of a pass: what its entry set has and was not sent before goes to its predecessors' exits. Whether one grew.
-fn send_back(words: &[u32], b: BlockId, live: &mut [u64], tables: &mut [u64]) -> bool
+fn propagate_liveness_to_predecessors(
+    words: &[u32],
+    b: BlockId,
+    live: &mut [u64],
+    tables: &mut [u64],
+) -> bool
     requires { ⌜ WellFormed (now words) ⌝ }
     requires { ⌜ b .0 < blocks (now words) ⌝ }
     requires { ⌜ Passing (now words) (now live) (now tables) ⌝ }
     ensures { λ r. ⌜ PassStep (now (words .entry)) (λ e. back (now (words .entry)) e (b .0)) (now (live .entry)) (now (tables .entry)) (now (live .exit)) (now (tables .exit)) r ⌝ }
 {
     let row = b.0 as usize;
-    let all = entry(live, b);
+    let all = compute_liveness_at_block_entry(live, b);
     let mut new = all.words;
     row_difference_with(&mut new, 0, row_of(&tables[SENT..PASS], row));
     if is_empty(&new) {
@@ -142,7 +147,7 @@ fn send_back(words: &[u32], b: BlockId, live: &mut [u64], tables: &mut [u64]) ->
     }
     row_union_with(&mut tables[SENT..PASS], row, &new);
     let mut moved = [0u32; 512];
-    let n = part_inputs(words, b, &mut new, &mut moved);
+    let n = take_block_inputs(words, b, &mut new, &mut moved);
     let mut ids = [0u32; 512];
     let count = list(row_of(&tables[PREDS..SENT], row), &mut ids);
     send_all(
@@ -165,7 +170,7 @@ fn pass_back(words: &[u32], visit: &[u32], live: &mut [u64], tables: &mut [u64])
     let mut k = order.len();
     while 0 < k {
         k -= 1;
-        if send_back(words, BlockId(order[k]), live, tables) {
+        if propagate_liveness_to_predecessors(words, BlockId(order[k]), live, tables) {
             grew = true;
         }
     }
@@ -173,7 +178,7 @@ fn pass_back(words: &[u32], visit: &[u32], live: &mut [u64], tables: &mut [u64])
 }
 
 // Passes until one adds nothing: how many, that one counted. The exits, empty at first, are then the exit sets.
-fn liveness(words: &[u32], visit: &[u32], live: &mut [u64]) -> u32
+fn fixpoint(words: &[u32], visit: &[u32], live: &mut [u64]) -> u32
     requires { ⌜ VisitStage (now words) (now visit) ⌝ }
     requires { ⌜ BlockRows (now words) (usesIn (now live)) (defsIn (now live)) × Emptied 22528 (now live) ⌝ }
     ensures { λ r. ⌜ (r ≡ rounds (now (words .entry))) × ExitsFound (now (words .entry)) (now (live .entry)) (now (live .exit)) ⌝ }
@@ -191,7 +196,7 @@ fn liveness(words: &[u32], visit: &[u32], live: &mut [u64]) -> u32
 }
 
 // All tables of liveness, to an array that is empty at first, and the number of passes.
-pub fn live_sets(words: &[u32], visit: &[u32], live: &mut [u64]) -> u32
+pub fn compute_liveness(words: &[u32], visit: &[u32], live: &mut [u64]) -> u32
     requires { ⌜ VisitStage (now words) (now visit) ⌝ }
     requires { ⌜ now live ≡ replicate 24576 0 ⌝ }
     ensures { λ r. ⌜ (r ≡ rounds (now (words .entry))) × LivenessStage (now (words .entry)) (now (live .exit)) ⌝ }
@@ -199,5 +204,5 @@ pub fn live_sets(words: &[u32], visit: &[u32], live: &mut [u64]) -> u32
     operand_sets(words, live);
     block_sets(words, live);
     end_sets(words, &mut live[ENDS..EXITS]);
-    liveness(words, visit, live)
+    fixpoint(words, visit, live)
 }

@@ -24,14 +24,14 @@ ghost use Prim.Native.Nat.{ℕ, _+_, _*_, _≤_, _<_};
 ghost use lib.ListN.{length, drop, replicate};
 ghost use lib.Dec.{eqb};
 ghost use Rattle.plank_core.specs.Lists.{upto};
-ghost use Rattle.plank_core.specs.DenseIndexSet.{contains, meets};
+ghost use Rattle.plank_core.specs.inner.DenseIndexSet.{contains, meets};
 ghost use Rattle.sir_data.specs.Records.{blocks, locals};
 ghost use Rattle.sir_analyses.specs.Liveness.{Set, endOpen, closing};
 ghost use Rattle.sir_analyses.specs.Answers.{intervalWords};
-ghost use Rattle.sir_analyses.specs.Stages.{VisitStage, LivenessStage, readsIn, writesIn, endsIn, exitsIn};
-ghost use Rattle.sir_analyses.specs.Writing.{Puts};
-ghost use Rattle.sir_analyses.specs.Tables.{Same};
-ghost use Rattle.sir_analyses.specs.Sweep.{sweepBlock, sweepFrom};
+ghost use Rattle.sir_analyses.specs.inner.Stages.{VisitStage, LivenessStage, readsIn, writesIn, endsIn, exitsIn};
+ghost use Rattle.sir_analyses.specs.inner.Writing.{Puts};
+ghost use Rattle.sir_analyses.specs.inner.Tables.{Same};
+ghost use Rattle.sir_analyses.specs.inner.Sweep.{sweepBlock, sweepFrom};
 
 // One operation is passed: where a local is live before it an end is open, and where none is the open one is closed.
 fn pass_op(live: bool, o: OpIdx, till: u32) -> Scanned

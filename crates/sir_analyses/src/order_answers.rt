@@ -18,18 +18,18 @@ ghost use Rattle.plank_core.specs.Lists.{bind};
 ghost use Rattle.sir_data.specs.Pages.{bytesOf};
 ghost use Rattle.sir_analyses.specs.Answers.{predecessorsAnswer, usesAnswer};
 ghost use Rattle.sir_analyses.specs.Calls.{made, answered, inWords};
-ghost use Rattle.sir_analyses.specs.Questions.{answerWords};
-ghost use Rattle.sir_analyses.specs.Stages.{OrderStage, VisitStage};
-ghost use Rattle.sir_analyses.specs.Visiting.{orderIn};
+ghost use Rattle.sir_analyses.specs.inner.Questions.{answerWords};
+ghost use Rattle.sir_analyses.specs.inner.Stages.{OrderStage, VisitStage};
+ghost use Rattle.sir_analyses.specs.inner.Visiting.{orderIn};
 ghost use Rattle.sir_analyses.specs.declared.questions.Question.{Question};
 
-// The order, from the keys of the visit.
-fn visit_answer(post: &[u32], out: &mut [u8]) -> Answer
-    requires { ⌜ length (orderIn (now post)) ≤ 384 ⌝ }
-    ensures { λ r. ⌜ made (r .number) (r .length) (now (out .exit)) ≡ answered (bind (orderIn (now (post .entry))) bytesOf) (now (out .entry)) ⌝ }
+// The order, from the postorder of the visit.
+fn visit_answer(postorder: &[u32], out: &mut [u8]) -> Answer
+    requires { ⌜ length (orderIn (now postorder)) ≤ 384 ⌝ }
+    ensures { λ r. ⌜ made (r .number) (r .length) (now (out .exit)) ≡ answered (bind (orderIn (now (postorder .entry))) bytesOf) (now (out .entry)) ⌝ }
 {
     let mut order = [0u32; 384];
-    let n = order_words(post, &mut order);
+    let n = order_words(postorder, &mut order);
     words_answer(&order[..n], out)
 }
 
@@ -62,17 +62,17 @@ fn uses_answer(words: &[u32], visit: &[u32], v: LocalId, out: &mut [u8]) -> Answ
 // The answer to a question of the order.
 pub fn order_answer(
     words: &[u32],
-    post: &[u32],
+    postorder: &[u32],
     visit: &[u32],
     question: OrderQuestion,
     out: &mut [u8],
 ) -> Answer
-    requires { ⌜ OrderStage (now words) (now post) ⌝ }
+    requires { ⌜ OrderStage (now words) (now postorder) ⌝ }
     requires { ⌜ VisitStage (now words) (now visit) ⌝ }
     ensures { λ r. ⌜ made (r .number) (r .length) (now (out .exit)) ≡ answered (inWords (answerWords (Question.OfOrder question)) (now (words .entry))) (now (out .entry)) ⌝ }
 {
     match question {
-        OrderQuestion::Order => visit_answer(post, out),
+        OrderQuestion::Order => visit_answer(postorder, out),
         OrderQuestion::Predecessors(b) => predecessors_answer(words, visit, b, out),
         OrderQuestion::Uses(v) => uses_answer(words, visit, v, out),
         OrderQuestion::AllPredecessors => all_predecessors_answer(words, visit, out),

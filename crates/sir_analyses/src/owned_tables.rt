@@ -15,10 +15,10 @@ ghost use lib.ListN.{length, getD, replicate};
 ghost use lib.Dec.{eqb, ltb};
 ghost use Rattle.plank_core.specs.Lists.{_∈_};
 ghost use Rattle.sir_data.specs.Records.{locals};
-ghost use Rattle.sir_analyses.specs.Stages.{PointerStage, ownersIn};
-ghost use Rattle.sir_analyses.specs.Scatter.{numberAt};
-ghost use Rattle.sir_analyses.specs.Tables.{Adds};
-ghost use Rattle.sir_analyses.specs.AllocationPieces.{unmarkedOwner, ownerIn, OwnedTables, ownsOne, side};
+ghost use Rattle.sir_analyses.specs.inner.Stages.{PointerStage, ownersIn};
+ghost use Rattle.sir_analyses.specs.inner.Scatter.{numberAt};
+ghost use Rattle.sir_analyses.specs.inner.Tables.{Adds};
+ghost use Rattle.sir_analyses.specs.inner.AllocationPieces.{unmarkedOwner, ownerIn, OwnedTables, ownsOne, side};
 
 // Where the parts stand.
 pub const OWN_ROWS: usize = 0;

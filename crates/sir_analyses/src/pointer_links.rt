@@ -24,40 +24,40 @@ ghost use Prim.Native.Nat.{ℕ, _+_, _*_, _<_};
 ghost use lib.ListN.{length, replicate};
 ghost use lib.Dec.{eqb};
 ghost use Rattle.plank_core.specs.Lists.{upto, any, mem, _∈_};
-ghost use Rattle.plank_core.specs.DenseIndexSet.{contains};
+ghost use Rattle.plank_core.specs.inner.DenseIndexSet.{contains};
 ghost use Rattle.sir_data.specs.Records.{blocks, operations, ops, successors, returned};
-ghost use Rattle.sir_data.specs.WellFormed.{WellFormed};
+ghost use Rattle.sir_data.specs.inner.WellFormed.{WellFormed};
 ghost use Rattle.sir_analyses.specs.Order.{blocksRpo};
-ghost use Rattle.sir_analyses.specs.Stages.{VisitStage};
-ghost use Rattle.sir_analyses.specs.Tables.{Adds};
+ghost use Rattle.sir_analyses.specs.inner.Stages.{VisitStage};
+ghost use Rattle.sir_analyses.specs.inner.Tables.{Adds};
 ghost use Rattle.sir_analyses.specs.Allocation.{escapesBy};
-ghost use Rattle.sir_analyses.specs.Pointers.{isMet, derivesBy, passesBy, PointerRows};
+ghost use Rattle.sir_analyses.specs.inner.Pointers.{isVisitedOp, derivesBy, passesBy, PointerRows};
 
-// Adds the operations of block b to those met: operation o is number o of a table of two rows.
-fn add_operations(words: &[u32], b: BlockId, met: &mut [u64])
+// Adds the operations of block b to the visited ones: operation o is number o of a table of two rows.
+fn add_operations(words: &[u32], b: BlockId, visited: &mut [u64])
     requires { ⌜ WellFormed (now words) ⌝ }
-    requires { ⌜ (b .0 < blocks (now words)) × (length (now met) ≡ 16) ⌝ }
-    ensures { λ _. ⌜ Adds (now (met .entry)) (λ r i. mem (512 * r + i) (ops (now (words .entry)) (b .0))) (now (met .exit)) ⌝ }
+    requires { ⌜ (b .0 < blocks (now words)) × (length (now visited) ≡ 16) ⌝ }
+    ensures { λ _. ⌜ Adds (now (visited .entry)) (λ r i. mem (512 * r + i) (ops (now (words .entry)) (b .0))) (now (visited .exit)) ⌝ }
 {
     let span = operations(words, b);
     let end = span.end;
     let mut o = span.start;
     while o < end {
-        row_add(met, (o / 512) as usize, o % 512);
+        row_add(visited, (o / 512) as usize, o % 512);
         o += 1;
     }
 }
 
-// The operations that are met in visited blocks.
-fn met_operations(words: &[u32], visit: &[u32], met: &mut [u64])
+// The operations of visited blocks.
+fn visited_ops(words: &[u32], visit: &[u32], visited: &mut [u64])
     requires { ⌜ VisitStage (now words) (now visit) ⌝ }
-    requires { ⌜ now met ≡ replicate 16 0 ⌝ }
-    ensures { λ _. ⌜ (length (now (met .exit)) ≡ 16) × ((o : ℕ) → o < 1024 → contains (now (met .exit)) o ≡ isMet (now (words .entry)) o) ⌝ }
+    requires { ⌜ now visited ≡ replicate 16 0 ⌝ }
+    ensures { λ _. ⌜ (length (now (visited .exit)) ≡ 16) × ((o : ℕ) → o < 1024 → contains (now (visited .exit)) o ≡ isVisitedOp (now (words .entry)) o) ⌝ }
 {
     let order = rpo(visit);
     let mut i: usize = 0;
     while i < order.len() {
-        add_operations(words, BlockId(order[i]), met);
+        add_operations(words, BlockId(order[i]), visited);
         i += 1;
     }
 }
@@ -81,36 +81,36 @@ fn link_operation(words: &[u32], o: OpIdx, links: &mut [u64])
 }
 
 // Adds the locals in escaping operands of operation o.
-fn harm_operation(words: &[u32], o: OpIdx, harms: &mut [u64])
+fn add_escaping(words: &[u32], o: OpIdx, escaping: &mut [u64])
     requires { ⌜ WellFormed (now words) ⌝ }
-    requires { ⌜ (o .0 < operations (now words)) × (length (now harms) ≡ 8) ⌝ }
-    ensures { λ _. ⌜ Adds (now (harms .entry)) (λ r v. eqb r 0 && escapesBy (now (words .entry)) (o .0) v) (now (harms .exit)) ⌝ }
+    requires { ⌜ (o .0 < operations (now words)) × (length (now escaping) ≡ 8) ⌝ }
+    ensures { λ _. ⌜ Adds (now (escaping .entry)) (λ r v. eqb r 0 && escapesBy (now (words .entry)) (o .0) v) (now (escaping .exit)) ⌝ }
 {
     let code = op_word(words, o, 0);
     let inputs = op_inputs(words, o);
     let mut k: usize = 0;
     while k < inputs.len() {
         if operation_causes_ptr_escape(code, k) {
-            row_add(harms, 0, inputs[k]);
+            row_add(escaping, 0, inputs[k]);
         }
         k += 1;
     }
 }
 
-// What all operations met link and harm.
-fn link_operations(words: &[u32], met: &[u64], links: &mut [u64], harms: &mut [u64])
+// What all visited operations link, and the locals in their escaping operands.
+fn link_operations(words: &[u32], visited: &[u64], links: &mut [u64], escaping: &mut [u64])
     requires { ⌜ WellFormed (now words) ⌝ }
-    requires { ⌜ (length (now met) ≡ 16) × ((o : ℕ) → o < 1024 → contains (now met) o ≡ isMet (now words) o) ⌝ }
-    requires { ⌜ (length (now links) ≡ 4096) × (length (now harms) ≡ 8) ⌝ }
-    ensures { λ _. ⌜ Adds (now (links .entry)) (λ v u. any (λ o. isMet (now (words .entry)) o && derivesBy (now (words .entry)) o v u) (upto (operations (now (words .entry))))) (now (links .exit)) ⌝ }
-    ensures { λ _. ⌜ Adds (now (harms .entry)) (λ r v. any (λ o. isMet (now (words .entry)) o && (eqb r 0 && escapesBy (now (words .entry)) o v)) (upto (operations (now (words .entry))))) (now (harms .exit)) ⌝ }
+    requires { ⌜ (length (now visited) ≡ 16) × ((o : ℕ) → o < 1024 → contains (now visited) o ≡ isVisitedOp (now words) o) ⌝ }
+    requires { ⌜ (length (now links) ≡ 4096) × (length (now escaping) ≡ 8) ⌝ }
+    ensures { λ _. ⌜ Adds (now (links .entry)) (λ v u. any (λ o. isVisitedOp (now (words .entry)) o && derivesBy (now (words .entry)) o v u) (upto (operations (now (words .entry))))) (now (links .exit)) ⌝ }
+    ensures { λ _. ⌜ Adds (now (escaping .entry)) (λ r v. any (λ o. isVisitedOp (now (words .entry)) o && (eqb r 0 && escapesBy (now (words .entry)) o v)) (upto (operations (now (words .entry))))) (now (escaping .exit)) ⌝ }
 {
     let count = operation_count(words);
     let mut o: u32 = 0;
     while o < count {
-        if row_contains(met, (o / 512) as usize, o % 512) {
+        if row_contains(visited, (o / 512) as usize, o % 512) {
             link_operation(words, OpIdx(o), links);
-            harm_operation(words, OpIdx(o), harms);
+            add_escaping(words, OpIdx(o), escaping);
         }
         o += 1;
     }
@@ -147,30 +147,30 @@ fn link_edges(words: &[u32], b: BlockId, links: &mut [u64])
 }
 
 // What the visited blocks link by their edges, and what they return.
-fn link_blocks(words: &[u32], visit: &[u32], links: &mut [u64], harms: &mut [u64])
+fn link_blocks(words: &[u32], visit: &[u32], links: &mut [u64], escaping: &mut [u64])
     requires { ⌜ VisitStage (now words) (now visit) ⌝ }
-    requires { ⌜ (length (now links) ≡ 4096) × (length (now harms) ≡ 8) ⌝ }
+    requires { ⌜ (length (now links) ≡ 4096) × (length (now escaping) ≡ 8) ⌝ }
     ensures { λ _. ⌜ Adds (now (links .entry)) (λ v u. any (λ b. any (λ s. passesBy (now (words .entry)) b s v u) (successors (now (words .entry)) b)) (blocksRpo (now (words .entry)))) (now (links .exit)) ⌝ }
-    ensures { λ _. ⌜ Adds (now (harms .entry)) (λ r v. any (λ b. eqb r 0 && mem v (returned (now (words .entry)) b)) (blocksRpo (now (words .entry)))) (now (harms .exit)) ⌝ }
+    ensures { λ _. ⌜ Adds (now (escaping .entry)) (λ r v. any (λ b. eqb r 0 && mem v (returned (now (words .entry)) b)) (blocksRpo (now (words .entry)))) (now (escaping .exit)) ⌝ }
 {
     let order = rpo(visit);
     let mut i: usize = 0;
     while i < order.len() {
         let b = BlockId(order[i]);
         link_edges(words, b, links);
-        add_run(harms, 0, returned_outputs(words, b));
+        add_run(escaping, 0, returned_outputs(words, b));
         i += 1;
     }
 }
 
 // Both tables of an image: what each local links to, and the locals that are used in an escaping operand or returned.
-pub fn pointer_links(words: &[u32], visit: &[u32], links: &mut [u64], harms: &mut [u64])
+pub fn pointer_links(words: &[u32], visit: &[u32], links: &mut [u64], escaping: &mut [u64])
     requires { ⌜ VisitStage (now words) (now visit) ⌝ }
-    requires { ⌜ (now links ≡ replicate 4096 0) × (now harms ≡ replicate 8 0) ⌝ }
-    ensures { λ _. ⌜ PointerRows (now (words .entry)) (now (links .exit)) (now (harms .exit)) ⌝ }
+    requires { ⌜ (now links ≡ replicate 4096 0) × (now escaping ≡ replicate 8 0) ⌝ }
+    ensures { λ _. ⌜ PointerRows (now (words .entry)) (now (links .exit)) (now (escaping .exit)) ⌝ }
 {
-    let mut met = [0u64; 16];
-    met_operations(words, visit, &mut met);
-    link_operations(words, &met, links, harms);
-    link_blocks(words, visit, links, harms);
+    let mut visited = [0u64; 16];
+    visited_ops(words, visit, &mut visited);
+    link_operations(words, &visited, links, escaping);
+    link_blocks(words, visit, links, escaping);
 }

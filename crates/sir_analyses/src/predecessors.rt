@@ -8,10 +8,10 @@ use sir_data::view::successor_count;
 ghost use Prim.Native.Nat.{_+_, _<_, _^_};
 ghost use lib.ListN.{length};
 ghost use Rattle.sir_data.specs.Records.{blocks};
-ghost use Rattle.sir_data.specs.WellFormed.{WellFormed};
+ghost use Rattle.sir_data.specs.inner.WellFormed.{WellFormed};
 ghost use Rattle.sir_analyses.specs.Order.{edgesFrom, predecessors};
-ghost use Rattle.sir_analyses.specs.Stages.{VisitStage};
-ghost use Rattle.sir_analyses.specs.Writing.{Puts};
+ghost use Rattle.sir_analyses.specs.inner.Stages.{VisitStage};
+ghost use Rattle.sir_analyses.specs.inner.Writing.{Puts};
 
 // Block p, once for each of its edges to b.
 fn put_edges(words: &[u32], p: BlockId, b: BlockId, n: usize, out: &mut [u8]) -> usize

@@ -10,9 +10,9 @@ ghost use Prim.Native.Nat.{_≤_};
 ghost use lib.Dec.{ltb};
 ghost use lib.ListN.{length};
 ghost use Rattle.sir_data.specs.Rules.{first};
-ghost use Rattle.sir_data.specs.WellFormed.{WellFormed};
-ghost use Rattle.sir_analyses.specs.Discovery.{allocKeys};
-ghost use Rattle.sir_analyses.specs.Questions.{ownRules};
+ghost use Rattle.sir_data.specs.inner.WellFormed.{WellFormed};
+ghost use Rattle.sir_analyses.specs.inner.Discovery.{allocSites};
+ghost use Rattle.sir_analyses.specs.inner.Questions.{ownRules};
 
 pub enum OrderQuestion {
     Order,
@@ -56,9 +56,9 @@ fn id_refusal(id: u32, count: u32) -> u32
 }
 
 // The first of a question's own rules that applies, or 0.
-pub fn own_refusal(words: &[u32], keys: &[u32], question: Question) -> u32
+pub fn own_refusal(words: &[u32], sites: &[u32], question: Question) -> u32
     requires { ⌜ WellFormed (now words) ⌝ }
-    requires { ⌜ (now keys ≡ allocKeys (now words)) × (length (now keys) ≤ 512) ⌝ }
+    requires { ⌜ (now sites ≡ allocSites (now words)) × (length (now sites) ≤ 512) ⌝ }
     ensures { λ r. ⌜ r ≡ first (ownRules question (now (words .entry))) ⌝ }
 {
     match question {
@@ -79,7 +79,7 @@ pub fn own_refusal(words: &[u32], keys: &[u32], question: Question) -> u32
             LiveQuestion::AllIntervals => 0,
         },
         Question::OfPointers(q) => match q {
-            PointerQuestion::Allocation(a) => id_refusal(a.0, keys.len() as u32),
+            PointerQuestion::Allocation(a) => id_refusal(a.0, sites.len() as u32),
             PointerQuestion::Owner(v) => id_refusal(v.0, local_count(words)),
             PointerQuestion::AllAllocations => 0,
             PointerQuestion::AllOwners => 0,

@@ -7,8 +7,8 @@ ghost use mathlib.Core.List.{_∷_, []};
 ghost use mathlib.Core.Bool.{cond};
 ghost use Prim.Native.Nat.{ℕ, _+_, _-_, _*_, _<_, _≤_, _^_};
 ghost use lib.ListN.{length};
-ghost use Rattle.sir_analyses.specs.Pieces.{piecesAt, blanks, Known};
-ghost use Rattle.sir_analyses.specs.Scatter.{forward, backward, Fits, Scatters, base, numberAt, toward, Placed};
+ghost use Rattle.sir_analyses.specs.inner.Pieces.{piecesAt, blanks, Known};
+ghost use Rattle.sir_analyses.specs.inner.Scatter.{forward, backward, Fits, Scatters, base, numberAt, toward, Placed};
 
 // Some words after what the segment of an id has.
 pub fn append(cursors: &mut [usize], id: u32, words: &[u32], out: &mut [u8])

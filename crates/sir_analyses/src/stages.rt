@@ -7,7 +7,7 @@ ghost use mathlib.Core.Bool.{not};
 ghost use Prim.Native.Nat.{_≤_, _<_};
 ghost use lib.ListN.{length, getD};
 ghost use lib.Dec.{eqb};
-ghost use Rattle.sir_analyses.specs.Stages.{rpoIn, visitedIn, readsIn, writesIn, usesIn, defsIn, endsIn, exitsIn, sitesIn, ownersIn, marksIn};
+ghost use Rattle.sir_analyses.specs.inner.Stages.{rpoIn, visitedIn, readsIn, writesIn, usesIn, defsIn, endsIn, exitsIn, sitesIn, ownersIn, marksIn};
 
 // The most words that an image has.
 pub const WORDS: usize = 14742;

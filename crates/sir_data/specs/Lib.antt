@@ -1,8 +1,6 @@
 pub mod Pages
 pub mod Records
-pub mod Cases
 pub mod Codes
 pub mod Rules
-pub mod WellFormed
-pub mod Image
+pub mod inner
 pub mod laws

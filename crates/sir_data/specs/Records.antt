@@ -49,7 +49,7 @@ initFunction w = word w 7
 abbrev pub mainPlusOne : List ℕ → ℕ
 mainPlusOne w = word w 8
 
--- ---- the tables behind it, in turn: entry blocks, blocks, operations, operand words, case targets
+-- ---- the tables after it, in turn: entry blocks, blocks, operations, operand words, case targets
 
 -- where the blocks start: past the head and F entry blocks
 abbrev pub blocksAt : List ℕ → ℕ

@@ -21,7 +21,7 @@ ghost use lib.ListN.{length, getD};
 ghost use Rattle.plank_core.specs.Lists.{all, upto, distinct, _∈_};
 ghost use Rattle.sir_data.specs.Records.{blocks, caseTargets, locals, blockWord, field, inputs, outputs, successors};
 ghost use Rattle.sir_data.specs.Rules.{zeroFrom, blockFieldsOk, rangeOk, optionalBelow, controlIdsOk, blockIdsOk, rule10, rule11};
-ghost use Rattle.sir_data.specs.WellFormed.{Sized, InRange};
+ghost use Rattle.sir_data.specs.inner.WellFormed.{Sized, InRange};
 
 // Are the control fields of a block 0 from field k on?
 fn zero_from(words: &[u32], b: BlockId, k: usize) -> bool

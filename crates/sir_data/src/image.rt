@@ -8,7 +8,7 @@ ghost use Prim.Native.Nat.{_≤_};
 ghost use lib.ListN.{length};
 ghost use Rattle.sir_data.specs.Pages.{payload};
 ghost use Rattle.sir_data.specs.Rules.{first, pageRules, recordRules};
-ghost use Rattle.sir_data.specs.Image.{Read};
+ghost use Rattle.sir_data.specs.inner.Image.{Read};
 
 // The number of the first rule of 1 to 11 that refuses the image, or 0. Where the pages are in order, its payload words go to the
 // front of `words`, which has room for those of 117 pages.

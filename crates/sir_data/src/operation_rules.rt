@@ -19,7 +19,7 @@ ghost use Rattle.plank_core.specs.Lists.{all, upto};
 ghost use Rattle.sir_data.specs.Records.{operations, operandWords, functions, opWord, code, ins, outs, extra};
 ghost use Rattle.sir_data.specs.Codes.{arityOk, isCall, isStaticAlloc};
 ghost use Rattle.sir_data.specs.Rules.{rangeOk, opFieldsOk, opIdsOk, rule9};
-ghost use Rattle.sir_data.specs.WellFormed.{Sized, InRange};
+ghost use Rattle.sir_data.specs.inner.WellFormed.{Sized, InRange};
 
 // Is the code known, and is each extra that it does not use 0?
 fn op_fields_ok(words: &[u32], o: OpIdx) -> bool

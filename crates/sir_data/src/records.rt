@@ -10,8 +10,8 @@ ghost use mathlib.Core.Bool.{_||_};
 ghost use lib.Dec.{eqb};
 ghost use lib.ListN.{length, getD};
 ghost use Rattle.sir_data.specs.Records.{functions, blocks, operations, operandWords, caseTargets, locals, initFunction, mainPlusOne, blocksAt, operationsAt, operandsAt, targetsAt, entryBlock, blockWord, opWord, target, run, inputs, outputs, successors, condition, returned, ins, outs};
-ghost use Rattle.sir_data.specs.Cases.{testedLocals};
-ghost use Rattle.sir_data.specs.WellFormed.{Sized, InRange};
+ghost use Rattle.sir_data.specs.inner.Cases.{testedLocals};
+ghost use Rattle.sir_data.specs.inner.WellFormed.{Sized, InRange};
 
 // The local that a block's control tests, if it tests one.
 pub enum Tested {

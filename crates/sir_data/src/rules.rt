@@ -26,7 +26,7 @@ ghost use lib.ListN.{length, drop};
 ghost use Rattle.plank_core.specs.Lists.{all, any, upto};
 ghost use Rattle.sir_data.specs.Records.{functions, blocks, operandWords, caseTargets, locals, initFunction, mainPlusOne, wordCount, entryBlock, operand, target};
 ghost use Rattle.sir_data.specs.Rules.{rule4, rule5, rule6, rule7, rule8, optionalBelow, first, headRules, fieldRules, operandRules, recordRules};
-ghost use Rattle.sir_data.specs.WellFormed.{Sized, InRange};
+ghost use Rattle.sir_data.specs.inner.WellFormed.{Sized, InRange};
 
 // Rule 4: the edition is not 1.
 fn rule_4(words: &[u32]) -> bool
@@ -229,7 +229,7 @@ fn check_operands(words: &[u32]) -> u32
     0
 }
 
-// The first of the rules behind the fit that applies, or 0, where the counts are in order and their words are there.
+// The first of the rules after the fit that applies, or 0, where the counts are in order and their words are there.
 fn check_sized(words: &[u32]) -> u32
     requires { ⌜ Sized (now words) ⌝ }
     ensures { λ r. ⌜ r ≡ first (fieldRules (now (words .entry)) ++ operandRules (now (words .entry))) ⌝ }

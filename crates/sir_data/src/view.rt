@@ -1,6 +1,6 @@
 // A block read through a view, which keeps the image's words and the block's number. The borrow checker covers no function
 // over a struct that holds a reference, so each is proved by hand: a method takes the view apart and calls a function of
-// `records`, and each function behind the methods makes a view and calls one of them. Callers use these, on plain words.
+// `records`, and each function below the methods makes a view and calls one of them. Callers use these, on plain words.
 use crate::records;
 use crate::records::Tested;
 use plank_core::index::BlockId;
@@ -9,8 +9,8 @@ ghost use mathlib.Core.Path.{_≡_};
 ghost use Prim.Native.Nat.{_<_};
 ghost use lib.ListN.{length, getD};
 ghost use Rattle.sir_data.specs.Records.{blocks, blockWord, inputs, outputs, successors, condition};
-ghost use Rattle.sir_data.specs.Cases.{testedLocals};
-ghost use Rattle.sir_data.specs.WellFormed.{Sized, InRange};
+ghost use Rattle.sir_data.specs.inner.Cases.{testedLocals};
+ghost use Rattle.sir_data.specs.inner.WellFormed.{Sized, InRange};
 
 pub struct BlockView<'a> {
     pub words: &'a [u32],

@@ -10,7 +10,7 @@ use lib.Arith.{digits-mod, digits-div}
 use lib.Bits.{bitAnd, bitOr, and-mask, and-step, or-step, and-le-r}
 use lib.Count.{trailingZeros}
 use lib.Pow.{pow-lt}
-use Rattle.plank_core.specs.DenseIndexSet.{bit, wordOf}
+use Rattle.plank_core.specs.inner.DenseIndexSet.{bit, wordOf}
 
 -- ---- one digit: bit w k is digit k of w, as a test
 

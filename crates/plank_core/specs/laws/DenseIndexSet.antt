@@ -15,7 +15,7 @@ use lib.Pow.{pow-lt}
 use lib.Count.{trailingZeros}
 use borrow.Author.Tests.{eq-eqb, ne-eqb, eqb-true, eqb-false, not-true, not-false}
 use Rattle.plank_core.specs.Lists.{upto, any}
-use Rattle.plank_core.specs.DenseIndexSet.{bit, contains, wordOf, setOf, emptySet, added, removed, inRow, rowUnion, rowDifference, grows, rowOf, isEmpty}
+use Rattle.plank_core.specs.inner.DenseIndexSet.{bit, contains, wordOf, setOf, emptySet, added, removed, inRow, rowUnion, rowDifference, grows, rowOf, isEmpty}
 use Rattle.plank_core.specs.laws.Lists.{split, bool-or, any-some, any-none, any-find, any-not}
 use Rattle.plank_core.specs.laws.Loops.{upto-more, any-append, length-map-upto, getD-map-upto}
 use Rattle.plank_core.specs.laws.Bits.{bit-or, bit-and, bit-not, bit-pow, bit-of-zero, bit-ext, wordOf-lt, bit-wordOf, tz-lt, tz-set}

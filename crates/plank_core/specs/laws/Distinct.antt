@@ -8,7 +8,7 @@ use lib.ListN.{length, getD, drop, drop-of-length-le}
 use lib.Dec.{eqb}
 use borrow.Author.Tests.{eq-eqb, ne-eqb, eqb-true, eqb-false}
 use Rattle.plank_core.specs.Lists.{mem, distinct, _∈_}
-use Rattle.plank_core.specs.DenseIndexSet.{contains, emptySet, added, outside, fresh}
+use Rattle.plank_core.specs.inner.DenseIndexSet.{contains, emptySet, added, outside, fresh}
 use Rattle.plank_core.specs.laws.Lists.{drop-mem}
 use Rattle.plank_core.specs.laws.Loops.{drop-next}
 use Rattle.plank_core.specs.laws.DenseIndexSet.{contains-empty, contains-added}

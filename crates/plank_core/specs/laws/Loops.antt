@@ -1,15 +1,17 @@
 -- Laws for loops that count up: a step, an early stop and the end of each.
-use mathlib.Core.Path.{_≡_, refl, sym, ap, _∙_}
-use mathlib.Core.Bool.{Bool, true, false, _||_, cond, or-assoc}
+use mathlib.Core.Path.{_≡_, refl, sym, ap, _∙_, subst}
+use mathlib.Core.Bool.{Bool, true, false, _||_, cond, or-assoc, not}
 use Prim.Native.Nat.{ℕ, zero, suc, _+_, _-_, _≤_, _<_}
 use native.Mathlib.Numerals.{add-one}
 use native.Mathlib.Omega.{arith}
 use mathlib.Core.List.{[], _++_, _∷_, List, List·Memᴰ, List·Memᴰ·head, List·Memᴰ·tail, append-assoc, append-nil, map, reverse, reverse-append}
 use lib.Dec.{eqb}
-use borrow.Author.Tests.{eqb-true, eqb-false, ne-eqb}
+use borrow.Author.Tests.{eqb-true, eqb-false, ne-eqb, not-true}
 use lib.ListN.{length, getD, take, drop, set, drop-of-length-le, length-drop, length-map}
 use lib.Seq.{drop-cons, set-at, take-all, take-at, drop-at, drop-drop}
-use Rattle.plank_core.specs.Lists.{count, range, upto, all, any, keep, sum, bind, oneIf, times}
+use mathlib.Core.Logic.{_⊎_, inl, inr}
+use Rattle.plank_core.specs.Lists.{count, range, upto, all, any, keep, sum, bind, oneIf, times, mem, distinct, _∈_}
+use Rattle.plank_core.specs.laws.Lists.{and-true-left, and-true-right, none, times-mem, split, in-mem}
 
 -- ---- the numbers of a loop
 
@@ -196,7 +198,7 @@ fill-part {A} f n m d {xs} {part} e h =
     let end : drop n xs ≡ drop n d = rw e (drop-at (map f (upto n)) (drop n d) n (length-map-upto f n)) in
     rw (h, after-end n xs, lent-end n xs, front, end, append-nil, drop-drop m n d, map-add f n m, append-assoc)
 
--- ---- lists that functions give of each element, one behind the other
+-- ---- lists that functions give of each element, one after the other
 
 module _ {A : Type 0} where
   pub keep-append : (p : A → Bool) (xs ys : List A) → keep p (xs ++ ys) ≡ keep p xs ++ keep p ys
@@ -261,3 +263,19 @@ all-times (x ∷ xs) n h =
 
 pub once-most : (xs : List ℕ) (n : ℕ) → ((x : ℕ) → times x xs ≤ 1) → ((x : ℕ) → List·Memᴰ x xs → x < n) → length xs ≤ n
 once-most xs n a b = omega (arith, all-times xs n b, sum-most (λ i. times i xs) 0 n a)
+
+-- a list that is distinct has each number at most once
+pub distinct-times : (x : ℕ) (ys : List ℕ) → distinct ys ≡ true → times x ys ≤ 1
+distinct-times x [] d = omega arith
+distinct-times x (y ∷ ys) d = go (eqb x y) refl (split 0 (times x ys)) (distinct-times x ys (and-true-right (not (mem y ys)) (distinct ys) d))
+  where
+    go : (t : Bool) → eqb x y ≡ t → (0 < times x ys) ⊎ (times x ys ≤ 0) → times x ys ≤ 1 → oneIf (eqb x y) + times x ys ≤ 1
+    go false e l r = rw e (omega arith)
+    go true e (inr l) r = rw e (omega arith)
+    go true e (inl l) r =
+        let q : x ≡ y = eqb-true x y e in
+        none (mem y ys) (in-mem y (subst (λ (z : ℕ). z ∈ ys) q (times-mem x ys l))) (not-true (mem y ys) (and-true-left (not (mem y ys)) (distinct ys) d))
+
+-- distinct numbers below n are at most n
+pub distinct-few : (n : ℕ) (xs : List ℕ) → distinct xs ≡ true → ((x : ℕ) → x ∈ xs → x < n) → length xs ≤ n
+distinct-few n xs d h = once-most xs n (λ x. distinct-times x xs d) h

@@ -13,7 +13,7 @@ use lib.Dec.{eqb}
 use lib.Bits.{bitAnd, and-self}
 use lib.Count.{trailingZeros}
 use Rattle.plank_core.specs.Lists.{count, upto, all, keep, _∈_}
-use Rattle.plank_core.specs.DenseIndexSet.{bit, contains, members}
+use Rattle.plank_core.specs.inner.DenseIndexSet.{bit, contains, members}
 use Rattle.plank_core.specs.laws.Lists.{mem-count, count-mem, keep-most, keep-mem, keep-out}
 use Rattle.plank_core.specs.laws.Loops.{count-add, length-count, keep-append}
 use Rattle.plank_core.specs.laws.Bits.{two, and-half, and-odd, bit-zero, bit-suc}
@@ -105,7 +105,7 @@ left-lowest b w rest p l = rw (digits-lowest 64 b w (pos-of-ne-zero p) l)
 
 -- ---- a walk under way
 
--- n members stand at the front of out, `rest` are those to come, and behind them out is as it was
+-- n members stand at the front of out, `rest` are those to come, and after them out is as it was
 pub record Walked (s out₀ out : List ℕ) (n : ℕ) (rest : List ℕ) : Type 0 where
   pub long : length out ≡ length out₀
   pub room : 512 ≤ length out₀
@@ -126,7 +126,7 @@ module _ {s out₀ : List ℕ} where
   pub walk-on : {out rest next : List ℕ} {n : ℕ} → rest ≡ next → Walked s out₀ out n rest → Walked s out₀ out n next
   walk-on e k = record { long = k .long; room = k .room; all = rw (← e) (k .all); behind = k .behind }
 
-  -- a part of the walk, seen from where it begins, and put behind what came before
+  -- a part of the walk, seen from where it begins, and put after what came before
   pub walk-part : {out rest : List ℕ} {n : ℕ} → Walked s out₀ out n rest → Walked s out out n rest
   walk-part k = record { long = refl; room = omega (arith, k .long, k .room); all = k .all; behind = refl }
 

@@ -14,9 +14,9 @@ use Rattle.plank_core.specs.Lists.{bind, foldl, upto}
 use Rattle.plank_core.specs.laws.Lists.{split}
 use Rattle.plank_core.specs.laws.Loops.{bind-append, upto-suc, bind-snoc}
 use Rattle.sir_data.specs.Pages.{bytesOf}
-use Rattle.sir_analyses.specs.Writing.{wordsPut}
+use Rattle.sir_analyses.specs.inner.Writing.{wordsPut}
 use Rattle.sir_analyses.specs.laws.Writing.{length-bytes, puts-length, puts-fit}
-use Rattle.sir_analyses.specs.Scatter.{Pieces, piecesOf, Direction, forward, backward, inOrder, moved, place, Inside, Segments, piecePut, scatter, Room, Below, base, origin, Stands, Placed, allOf}
+use Rattle.sir_analyses.specs.inner.Scatter.{Pieces, piecesOf, Direction, forward, backward, inOrder, moved, place, Inside, Segments, piecePut, scatter, Room, Below, base, origin, Stands, Placed, allOf}
 
 -- ---- words that stand at a place of a slice
 

@@ -10,7 +10,7 @@ use lib.Dec.{leb}
 use borrow.Author.Tests.{le-leb, lt-leb, leb-true}
 use Rattle.plank_core.specs.Lists.{bind}
 use Rattle.sir_data.specs.Pages.{bytesOf}
-use Rattle.sir_analyses.specs.Writing.{wordPut, wordsPut}
+use Rattle.sir_analyses.specs.inner.Writing.{wordPut, wordsPut}
 
 pub length-bytes : (xs : List ℕ) → length (bind xs bytesOf) ≡ 4 * length xs
 length-bytes [] = refl
@@ -20,7 +20,7 @@ put-past : (limit n x : ℕ) (out : List ℕ) → limit < 4 * n + 4 → wordPut 
 unfolding wordPut
 put-past limit n x out h = rw (lt-leb (4 * n + 4) limit h)
 
--- nothing is put behind the limit
+-- nothing is put past the limit
 pub puts-past : (limit n : ℕ) (xs out : List ℕ) → limit < 4 * n + 4 → wordsPut limit n xs out ≡ out
 unfolding wordsPut
 puts-past limit n [] out h = refl

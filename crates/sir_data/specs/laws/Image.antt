@@ -10,7 +10,7 @@ use borrow.Author.Tests.{ltb-false, eqb-true, eqb-false, not-false}
 use Rattle.plank_core.specs.laws.Loops.{length-map-upto}
 use Rattle.sir_data.specs.Pages.{pages, payload}
 use Rattle.sir_data.specs.Rules.{first, pageRules, recordRules}
-use Rattle.sir_data.specs.WellFormed.{WellFormed}
+use Rattle.sir_data.specs.inner.WellFormed.{WellFormed}
 use Rattle.sir_data.specs.laws.Rules.{by-later, by-earlier, first-left, first-right, kept}
 use Rattle.sir_data.specs.laws.WellFormed.{ors-each, well-formed}
 

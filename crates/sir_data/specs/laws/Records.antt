@@ -12,7 +12,7 @@ use borrow.Author.Tests.{eqb-true, ne-eqb}
 use Rattle.plank_core.specs.Lists.{count}
 use Rattle.plank_core.specs.laws.Loops.{length-map-count, getD-map-count}
 use Rattle.sir_data.specs.Records.{operandsAt, operandWords, target, run, control, field, optional, successors}
-use Rattle.sir_data.specs.WellFormed.{Sized}
+use Rattle.sir_data.specs.inner.WellFormed.{Sized}
 
 -- ---- runs
 

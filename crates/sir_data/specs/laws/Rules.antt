@@ -36,7 +36,7 @@ first-numbered r rs n = ltb-true 0 (r .0) (and-true-left (ltb 0 (r .0)) (all (λ
 rest-numbered : (r : ℕ × Bool) (rs : List (ℕ × Bool)) → Numbered (r ∷ rs) → Numbered rs
 rest-numbered r rs n = and-true-right (ltb 0 (r .0)) (all (λ q. ltb 0 (q .0)) rs) n
 
--- of some rules and others behind them, by whether one of the former applies
+-- of some rules and others after them, by whether one of the former applies
 pub first-append : (xs ys : List (ℕ × Bool)) → Numbered xs → first (xs ++ ys) ≡ cond (eqb (first xs) 0) (first ys) (first xs)
 first-append [] ys n = refl
 first-append (r ∷ xs) ys n = go (r .1) (first-append xs ys (rest-numbered r xs n))

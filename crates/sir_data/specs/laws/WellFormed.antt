@@ -13,7 +13,7 @@ use Rattle.plank_core.specs.laws.Lists.{or-false-left, or-false-right, and-true
 use Rattle.sir_data.specs.Records.{functions, blocks, operations, operandWords, caseTargets, locals, initFunction, mainPlusOne, wordCount, entryBlock, blockWord, opWord, operand, target, run, inputs, outputs, ops, control, field, optional, successors, code, ins, outs, extra}
 use Rattle.sir_data.specs.Codes.{arityOk, isCall, isStaticAlloc}
 use Rattle.sir_data.specs.Rules.{rule5, rule6, rule7, rule8, rule9, rule10, rule11, first, headRules, fieldRules, operandRules, rulesOf, recordRules, zeroFrom, blockFieldsOk, opFieldsOk, rangeOk, optionalBelow, controlIdsOk, blockIdsOk, opIdsOk}
-use Rattle.sir_data.specs.WellFormed.{Sized, InRange, WellFormed}
+use Rattle.sir_data.specs.inner.WellFormed.{Sized, InRange, WellFormed}
 use Rattle.sir_data.specs.laws.Rules.{first-left, first-right, kept}
 
 -- ---- a rule's parts

@@ -4,7 +4,7 @@ use mathlib.Core.Bool.{_&&_}
 use Prim.Native.Nat.{ℕ, _-_, _≤_, _<_, _^_}
 use lib.ListN.{getD}
 use lib.Bits.{bitAnd, and-le-l}
-use Rattle.plank_core.specs.DenseIndexSet.{contains, meets}
+use Rattle.plank_core.specs.inner.DenseIndexSet.{contains, meets}
 use Rattle.plank_core.specs.laws.Lists.{below-next}
 use Rattle.plank_core.specs.laws.DenseIndexSet.{none-of, some-of, shows-meets}
 use native.Mathlib.Omega.{arith}

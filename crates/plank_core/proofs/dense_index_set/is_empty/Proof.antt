@@ -3,7 +3,7 @@ use mathlib.Core.Path.{_≡_, sym, ap}
 use mathlib.Core.Bool.{not}
 use Prim.Native.Nat.{ℕ, _-_, _≤_, _<_}
 use lib.ListN.{getD}
-use Rattle.plank_core.specs.DenseIndexSet.{contains, isEmpty}
+use Rattle.plank_core.specs.inner.DenseIndexSet.{contains, isEmpty}
 use Rattle.plank_core.specs.laws.Lists.{below-next}
 use Rattle.plank_core.specs.laws.DenseIndexSet.{none-of, some-of, shows-contains}
 use native.Mathlib.Omega.{arith}

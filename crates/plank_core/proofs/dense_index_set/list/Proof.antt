@@ -1,4 +1,4 @@
--- `list` meets its contract. The invariants: what is written, the rest of the word and the words behind it are the members.
+-- `list` meets its contract. The invariants: what is written, the rest of the word and the words after it are the members.
 use mathlib.Core.Path.{_≡_}
 use mathlib.Core.List.{_∷_, _++_}
 use Prim.Native.Nat.{_+_, _*_, _-_, _^_, _<_, _≤_}

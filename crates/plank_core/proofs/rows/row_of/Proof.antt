@@ -2,7 +2,7 @@
 use mathlib.Core.Path.{_≡_}
 use Prim.Native.Nat.{_+_, _-_, _*_}
 use native.Mathlib.Omega.{arith}
-use Rattle.plank_core.specs.DenseIndexSet.{rowOf}
+use Rattle.plank_core.specs.inner.DenseIndexSet.{rowOf}
 use borrow.Author.Needs.{needs}
 use Rattle.plank_core.proofs.rows.row_of.Statement.{statement}
 use Rattle.plank_core.proofs.rows.row_of.Tie as tie

@@ -26,11 +26,11 @@ loop-holds c =
     let start = c .before .before .before .before in
     (omega arith, locals-start (start .args .words .now))
 
-slice-aggregate-put-intervals : tie.Need-slice-aggregate-put-intervals Inv-loop μ-loop
-slice-aggregate-put-intervals c = search needs
+slice-aggregate-compute-intervals : tie.Need-slice-aggregate-compute-intervals Inv-loop μ-loop
+slice-aggregate-compute-intervals c = search needs
 
-put-intervals-requires : tie.Need-put-intervals-requires Inv-loop μ-loop
-put-intervals-requires c κs =
+compute-intervals-requires : tie.Need-compute-intervals-requires Inv-loop μ-loop
+compute-intervals-requires c κs =
     let at-loop-test = c .before in
     let at-local-count = at-loop-test .before .before in
     let start = at-local-count .before .before .before .before in
@@ -38,15 +38,15 @@ put-intervals-requires c κs =
 
 returns : tie.Need-returns Inv-loop μ-loop
 returns c =
-    let at-put-intervals = c .before .before in
-    let at-loop-test = at-put-intervals .before .before in
+    let at-compute-intervals = c .before .before in
+    let at-loop-test = at-compute-intervals .before .before in
     let at-loop = at-loop-test .before in
     let at-local-count = at-loop .before in
     let start = at-local-count .before .before .before .before in
     let w = start .args .words .now in
     let v = at-loop .loop .v in
     let l : v < locals w = omega (arith, at-loop-test .loop-test .taken, at-local-count .local-count .ensures) in
-    sym (any-stop (longLocal w) v (locals w) l (is-long (intervalsAnswer w v) (at-put-intervals .put-intervals .ensures .1) (c .if1 .taken))) ∙ at-loop .loop .inv .1
+    sym (any-stop (longLocal w) v (locals w) l (is-long (intervalsAnswer w v) (at-compute-intervals .compute-intervals .ensures .1) (c .if1 .taken))) ∙ at-loop .loop .inv .1
 
 add-v : tie.Need-add-v Inv-loop μ-loop
 add-v c = omega arith
@@ -56,15 +56,15 @@ loop-less c = omega arith
 
 loop-again : tie.Need-loop-again Inv-loop μ-loop
 loop-again c =
-    let at-put-intervals = c .before .before in
-    let at-loop-test = at-put-intervals .before .before in
+    let at-compute-intervals = c .before .before in
+    let at-loop-test = at-compute-intervals .before .before in
     let at-loop = at-loop-test .before in
     let at-local-count = at-loop .before in
     let start = at-local-count .before .before .before .before in
     let w = start .args .words .now in
     let v = at-loop .loop .v in
     let l : v < locals w = omega (arith, at-loop-test .loop-test .taken, at-local-count .local-count .ensures) in
-    (omega arith, any-step (longLocal w) v (locals w) l (not-long (intervalsAnswer w v) (at-put-intervals .put-intervals .ensures .1) (c .if1 .left)) ∙ at-loop .loop .inv .1)
+    (omega arith, any-step (longLocal w) v (locals w) l (not-long (intervalsAnswer w v) (at-compute-intervals .compute-intervals .ensures .1) (c .if1 .left)) ∙ at-loop .loop .inv .1)
 
 returns-2 : tie.Need-returns-2 Inv-loop μ-loop
 returns-2 c =
@@ -82,8 +82,8 @@ local-too-long-spec =
     μ-loop
     local-count-requires
     loop-holds
-    slice-aggregate-put-intervals
-    put-intervals-requires
+    slice-aggregate-compute-intervals
+    compute-intervals-requires
     returns
     add-v
     loop-less

@@ -1,7 +1,7 @@
 -- `allocation_text` meets its contract.
 use mathlib.Core.Path.{ap, _∙_}
 use lib.ListN.{length}
-use Rattle.report_lines.specs.Putting.{allocationLine}
+use Rattle.report_lines.specs.inner.Putting.{allocationLine}
 use Rattle.sir_analyses.specs.Answers.{allocationAnswer}
 use Rattle.sir_analyses.specs.laws.Writing.{length-bytes}
 use Rattle.report_lines.proofs.Putting.{put-as}

@@ -8,23 +8,23 @@ use Rattle.report_lines.proofs.Putting.{put-as}
 use Rattle.report_lines.proofs.TooLong.{front}
 use mathlib.Core.List.{List}
 use Prim.Native.Nat.{ℕ}
-use Rattle.plank_core.specs.DenseIndexSet.{members, rowOf}
+use Rattle.plank_core.specs.inner.DenseIndexSet.{members, rowOf}
 use Rattle.plank_core.specs.laws.DenseIndexSet.{length-row}
 use Rattle.plank_core.specs.laws.Members.{members-most}
 use borrow.Author.Needs.{needs}
 use Rattle.report_lines.proofs.printing.block_text.Statement.{statement}
 use Rattle.report_lines.proofs.printing.block_text.Tie as tie
 
-entry-requires : tie.Need-entry-requires
-entry-requires c κs = (c .before .before .before .pre .0 .long, omega (arith, c .before .before .before .pre .1 .0, c .before .before .before .pre .0 .well-formed .sized .blocks-most))
+compute-liveness-at-block-entry-requires : tie.Need-compute-liveness-at-block-entry-requires
+compute-liveness-at-block-entry-requires c κs = (c .before .before .before .pre .0 .long, omega (arith, c .before .before .before .pre .1 .0, c .before .before .before .pre .0 .well-formed .sized .blocks-most))
 
 slice-aggregate-list : tie.Need-slice-aggregate-list
 slice-aggregate-list c = search needs
 
 list-requires : tie.Need-list-requires
 list-requires c κs =
-    let at-entry = c .before .before .before .before in
-    (at-entry .entry .ensures .0, omega arith)
+    let at-compute-liveness-at-block-entry = c .before .before .before .before in
+    (at-compute-liveness-at-block-entry .compute-liveness-at-block-entry .ensures .0, omega arith)
 
 exits-requires : tie.Need-exits-requires
 exits-requires c κs =
@@ -59,15 +59,15 @@ array-share-prefix-into : tie.Need-array-share-prefix-into
 array-share-prefix-into c =
     let at-exits = c .before .before .before .before .before in
     let at-list = at-exits .before .before in
-    let at-entry = at-list .before .before .before .before .before in
-    omega (arith, members-most (at-entry .entry .result .words), at-list .list .ensures .0)
+    let at-compute-liveness-at-block-entry = at-list .before .before .before .before .before in
+    omega (arith, members-most (at-compute-liveness-at-block-entry .compute-liveness-at-block-entry .result .words), at-list .list .ensures .0)
 
 slice-aggregate-block-line : tie.Need-slice-aggregate-block-line
 slice-aggregate-block-line c =
     let at-struct-known = c .before .before .before .before .before in
     let at-list = at-struct-known .before .before .before in
-    let at-entry = at-list .before .before .before .before .before in
-    sym (length-take-le _ _ (omega (arith, members-most (at-entry .entry .result .words), at-list .list .ensures .0, at-list .list .kept)))
+    let at-compute-liveness-at-block-entry = at-list .before .before .before .before .before in
+    sym (length-take-le _ _ (omega (arith, members-most (at-compute-liveness-at-block-entry .compute-liveness-at-block-entry .result .words), at-list .list .ensures .0, at-list .list .kept)))
 
 array-share-prefix-from : tie.Need-array-share-prefix-from
 array-share-prefix-from c =
@@ -86,9 +86,9 @@ block-line-requires c κs =
     let at-list2 = c .before .before .before .before in
     let at-row-of = at-list2 .before .before in
     let at-list = at-row-of .before .before .before .before in
-    let at-entry = at-list .before .before .before .before .before in
-    let start = at-entry .before .before .before .before in
-    (omega (arith, ap length (front (members (at-entry .entry .result .words)) _ (at-list .list .ensures .0) (at-list .list .ensures .1)), members-most (at-entry .entry .result .words)), omega (arith, ap length (front (members (at-row-of .row-of .result .now)) _ (at-list2 .list2 .ensures .0) (at-list2 .list2 .ensures .1)), members-most (at-row-of .row-of .result .now)), start .pre .1 .2)
+    let at-compute-liveness-at-block-entry = at-list .before .before .before .before .before in
+    let start = at-compute-liveness-at-block-entry .before .before .before .before in
+    (omega (arith, ap length (front (members (at-compute-liveness-at-block-entry .compute-liveness-at-block-entry .result .words)) _ (at-list .list .ensures .0) (at-list .list .ensures .1)), members-most (at-compute-liveness-at-block-entry .compute-liveness-at-block-entry .result .words)), omega (arith, ap length (front (members (at-row-of .row-of .result .now)) _ (at-list2 .list2 .ensures .0) (at-list2 .list2 .ensures .1)), members-most (at-row-of .row-of .result .now)), start .pre .1 .2)
 
 same-length : tie.Need-same-length
 same-length c = search needs
@@ -101,20 +101,20 @@ returns c =
     let at-row-of = at-list2 .before .before in
     let at-exits = at-row-of .before .before in
     let at-list = at-exits .before .before in
-    let at-entry = at-list .before .before .before .before .before in
-    let start = at-entry .before .before .before .before in
+    let at-compute-liveness-at-block-entry = at-list .before .before .before .before .before in
+    let start = at-compute-liveness-at-block-entry .before .before .before .before in
     let p = at-block-line .block-line .ensures in
     let rows = start .pre .0 .sets in
     let b : ℕ = start .args .b .0 in
-    let i = front (members (at-entry .entry .result .words)) _ (at-list .list .ensures .0) (at-list .list .ensures .1) in
+    let i = front (members (at-compute-liveness-at-block-entry .compute-liveness-at-block-entry .result .words)) _ (at-list .list .ensures .0) (at-list .list .ensures .1) in
     let o = front (members (at-row-of .row-of .result .now)) _ (at-list2 .list2 .ensures .0) (at-list2 .list2 .ensures .1) in
-    put-as (rw (i ∙ rows .entry-is b (start .pre .1 .0) (start .pre .1 .1) (at-entry .entry .result .words) (at-entry .entry .ensures .1), o ∙ ap members (at-row-of .row-of .ensures ∙ ap (λ (t : List ℕ). rowOf t b) (at-exits .exits .ensures)) ∙ rows .exit-is b (start .pre .1 .0)) refl) p
+    put-as (rw (i ∙ rows .entry-is b (start .pre .1 .0) (start .pre .1 .1) (at-compute-liveness-at-block-entry .compute-liveness-at-block-entry .result .words) (at-compute-liveness-at-block-entry .compute-liveness-at-block-entry .ensures .1), o ∙ ap members (at-row-of .row-of .ensures ∙ ap (λ (t : List ℕ). rowOf t b) (at-exits .exits .ensures)) ∙ rows .exit-is b (start .pre .1 .0)) refl) p
 
 pub block-text-spec : {M : Type 1} → statement M
 block-text-spec =
     tie.close
     (tie.spec
-    entry-requires
+    compute-liveness-at-block-entry-requires
     slice-aggregate-list
     list-requires
     exits-requires

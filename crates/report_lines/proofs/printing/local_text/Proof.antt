@@ -8,7 +8,7 @@ use borrow.Author.Tests.{eq-eqb}
 use Rattle.sir_analyses.specs.Liveness.{intervals}
 use Rattle.sir_analyses.specs.Answers.{intervalsAnswer}
 use Rattle.report_lines.specs.Lines.{localText}
-use Rattle.report_lines.specs.Putting.{localLine}
+use Rattle.report_lines.specs.inner.Putting.{localLine}
 use Rattle.report_lines.proofs.Putting.{put-as, put-nothing}
 use Rattle.report_lines.proofs.TooLong.{short, stands, take-most, rpo-small}
 use Rattle.report_lines.proofs.AnswerText.{length-words, local-ends, local-as, local-ends-as}
@@ -16,8 +16,8 @@ use borrow.Author.Needs.{needs}
 use Rattle.report_lines.proofs.printing.local_text.Statement.{statement}
 use Rattle.report_lines.proofs.printing.local_text.Tie as tie
 
-put-intervals-requires : tie.Need-put-intervals-requires
-put-intervals-requires c κs =
+compute-intervals-requires : tie.Need-compute-intervals-requires
+compute-intervals-requires c κs =
     let at-shared-slice-known = c .before .before .before .before .before in
     let start = at-shared-slice-known .before in
     let P = start .pre in (P .0, (P .1 .0, P .1 .1 .0 .0))
@@ -28,40 +28,40 @@ same-length c = search needs
 returns : tie.Need-returns
 unfolding localText
 returns c =
-    let at-put-intervals = c .before .before .before in
-    let at-shared-slice-known2 = at-put-intervals .before .before .before .before .before in
+    let at-compute-intervals = c .before .before .before in
+    let at-shared-slice-known2 = at-compute-intervals .before .before .before .before .before in
     let start = at-shared-slice-known2 .before .before in
     let w = start .args .words .now in
-    let z : length (intervals w (start .args .v .0)) ≡ 0 = omega (arith, at-put-intervals .put-intervals .ensures .1 .next, c .if1 .taken, length-words (intervals w (start .args .v .0))) in
+    let z : length (intervals w (start .args .v .0)) ≡ 0 = omega (arith, at-compute-intervals .compute-intervals .ensures .1 .next, c .if1 .taken, length-words (intervals w (start .args .v .0))) in
     put-as (rw (eq-eqb _ _ z) refl) (put-nothing (omega arith))
 
 mul-end : tie.Need-mul-end
-mul-end c = omega (arith, c .before .before .before .put-intervals .ensures .0)
+mul-end c = omega (arith, c .before .before .before .compute-intervals .ensures .0)
 
 slice-reshare-prefix-local-line : tie.Need-slice-reshare-prefix-local-line
 slice-reshare-prefix-local-line c =
-    let at-put-intervals = c .before .before .before in
-    let at-shared-slice-known2 = at-put-intervals .before .before .before .before .before in
+    let at-compute-intervals = c .before .before .before in
+    let at-shared-slice-known2 = at-compute-intervals .before .before .before .before .before in
     let start = at-shared-slice-known2 .before .before in
-    let P = start .pre in omega (arith, at-put-intervals .put-intervals .ensures .1 .next, short (intervalsAnswer (start .args .words .now) (start .args .v .0)) (P .1 .1 .0 .1), at-put-intervals .put-intervals .kept, P .1 .1 .1 .0)
+    let P = start .pre in omega (arith, at-compute-intervals .compute-intervals .ensures .1 .next, short (intervalsAnswer (start .args .words .now) (start .args .v .0)) (P .1 .1 .0 .1), at-compute-intervals .compute-intervals .kept, P .1 .1 .1 .0)
 
 slice-aggregate-local-line : tie.Need-slice-aggregate-local-line
 slice-aggregate-local-line c =
-    let at-put-intervals = c .before .before .before .before in
-    let at-shared-slice-known2 = at-put-intervals .before .before .before .before .before in
+    let at-compute-intervals = c .before .before .before .before in
+    let at-shared-slice-known2 = at-compute-intervals .before .before .before .before .before in
     let start = at-shared-slice-known2 .before .before in
-    let P = start .pre in sym (length-take-le _ _ (omega (arith, at-put-intervals .put-intervals .ensures .1 .next, short (intervalsAnswer (start .args .words .now) (start .args .v .0)) (P .1 .1 .0 .1), at-put-intervals .put-intervals .kept, P .1 .1 .1 .0)))
+    let P = start .pre in sym (length-take-le _ _ (omega (arith, at-compute-intervals .compute-intervals .ensures .1 .next, short (intervalsAnswer (start .args .words .now) (start .args .v .0)) (P .1 .1 .0 .1), at-compute-intervals .compute-intervals .kept, P .1 .1 .1 .0)))
 
 local-line-requires : tie.Need-local-line-requires
 local-line-requires c κs =
-    let at-put-intervals = c .before .before .before .before .before in
-    let at-shared-slice-known2 = at-put-intervals .before .before .before .before .before in
+    let at-compute-intervals = c .before .before .before .before .before in
+    let at-shared-slice-known2 = at-compute-intervals .before .before .before .before .before in
     let at-shared-slice-known = at-shared-slice-known2 .before in
     let start = at-shared-slice-known .before in
     let P = start .pre in
-    let h : 4 * at-put-intervals .put-intervals .result ≤ 65536 = omega (arith, at-put-intervals .put-intervals .ensures .1 .next, short (intervalsAnswer (start .args .words .now) (start .args .v .0)) (P .1 .1 .0 .1)) in
-    let e = stands (intervalsAnswer (start .args .words .now) (start .args .v .0)) (P .1 .1 .1 .0) (P .1 .1 .0 .1) (at-put-intervals .put-intervals .ensures .1) in
-    ((take-most _ 65536 _ (omega (arith, h, at-put-intervals .put-intervals .kept, P .1 .1 .1 .0)) h, P .1 .1 .1 .1), local-ends-as e (local-ends (start .args .words .now) (λ i. omega (arith, at-shared-slice-known .shared-slice-known .given i)) (rpo-small (P .0) (λ i. omega (arith, at-shared-slice-known2 .shared-slice-known2 .given i))) (start .args .v .0)))
+    let h : 4 * at-compute-intervals .compute-intervals .result ≤ 65536 = omega (arith, at-compute-intervals .compute-intervals .ensures .1 .next, short (intervalsAnswer (start .args .words .now) (start .args .v .0)) (P .1 .1 .0 .1)) in
+    let e = stands (intervalsAnswer (start .args .words .now) (start .args .v .0)) (P .1 .1 .1 .0) (P .1 .1 .0 .1) (at-compute-intervals .compute-intervals .ensures .1) in
+    ((take-most _ 65536 _ (omega (arith, h, at-compute-intervals .compute-intervals .kept, P .1 .1 .1 .0)) h, P .1 .1 .1 .1), local-ends-as e (local-ends (start .args .words .now) (λ i. omega (arith, at-shared-slice-known .shared-slice-known .given i)) (rpo-small (P .0) (λ i. omega (arith, at-shared-slice-known2 .shared-slice-known2 .given i))) (start .args .v .0)))
 
 same-length-2 : tie.Need-same-length-2
 same-length-2 c = search needs
@@ -73,22 +73,22 @@ returns-2 : tie.Need-returns-2
 returns-2 c =
     let at-local-line = c .before .before in
     let at-if1 = at-local-line .before .before .before in
-    let at-put-intervals = at-if1 .before .before .before in
-    let at-shared-slice-known2 = at-put-intervals .before .before .before .before .before in
+    let at-compute-intervals = at-if1 .before .before .before in
+    let at-shared-slice-known2 = at-compute-intervals .before .before .before .before .before in
     let at-shared-slice-known = at-shared-slice-known2 .before in
     let start = at-shared-slice-known .before in
     let P = start .pre in
     let w = start .args .words .now in
     let v = start .args .v .0 in
-    let z : length (intervalsAnswer w v) ≡ 0 → ⊥ = λ e. at-if1 .if1 .left (omega (arith, at-put-intervals .put-intervals .ensures .1 .next)) in
-    let e = stands (intervalsAnswer w v) (P .1 .1 .1 .0) (P .1 .1 .0 .1) (at-put-intervals .put-intervals .ensures .1) in
+    let z : length (intervalsAnswer w v) ≡ 0 → ⊥ = λ e. at-if1 .if1 .left (omega (arith, at-compute-intervals .compute-intervals .ensures .1 .next)) in
+    let e = stands (intervalsAnswer w v) (P .1 .1 .1 .0) (P .1 .1 .0 .1) (at-compute-intervals .compute-intervals .ensures .1) in
     put-as (ap (localLine v) e ∙ local-as w (λ i. omega (arith, at-shared-slice-known .shared-slice-known .given i)) (rpo-small (P .0) (λ i. omega (arith, at-shared-slice-known2 .shared-slice-known2 .given i))) v z) (at-local-line .local-line .ensures)
 
 pub local-text-spec : {M : Type 1} → statement M
 local-text-spec =
     tie.close
     (tie.spec
-    put-intervals-requires
+    compute-intervals-requires
     same-length
     returns
     mul-end

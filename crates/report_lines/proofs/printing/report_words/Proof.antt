@@ -4,11 +4,11 @@ use borrow.Author.Needs.{needs}
 use Rattle.report_lines.proofs.printing.report_words.Statement.{statement}
 use Rattle.report_lines.proofs.printing.report_words.Tie as tie
 
-slice-aggregate-live-sets : tie.Need-slice-aggregate-live-sets
-slice-aggregate-live-sets c = search needs
+slice-aggregate-compute-liveness : tie.Need-slice-aggregate-compute-liveness
+slice-aggregate-compute-liveness c = search needs
 
-live-sets-requires : tie.Need-live-sets-requires
-live-sets-requires c κs =
+compute-liveness-requires : tie.Need-compute-liveness-requires
+compute-liveness-requires c κs =
     let start = c .before .before .before .before in
     (start .pre .0, refl)
 
@@ -30,9 +30,9 @@ slice-aggregate-report-tables-2 c = search needs
 report-tables-requires : tie.Need-report-tables-requires
 report-tables-requires c κs =
     let at-compute-pointers = c .before .before .before in
-    let at-live-sets = at-compute-pointers .before .before .before in
-    let start = at-live-sets .before .before .before .before .before in
-    (start .pre .0, (at-live-sets .live-sets .ensures .1, (at-compute-pointers .compute-pointers .ensures, at-live-sets .live-sets .ensures .0, start .pre .1 .1)))
+    let at-compute-liveness = at-compute-pointers .before .before .before in
+    let start = at-compute-liveness .before .before .before .before .before in
+    (start .pre .0, (at-compute-liveness .compute-liveness .ensures .1, (at-compute-pointers .compute-pointers .ensures, at-compute-liveness .compute-liveness .ensures .0, start .pre .1 .1)))
 
 returns : tie.Need-returns
 returns c = c .report-tables .ensures
@@ -41,8 +41,8 @@ pub report-words-spec : {M : Type 1} → statement M
 report-words-spec =
     tie.close
     (tie.spec
-    slice-aggregate-live-sets
-    live-sets-requires
+    slice-aggregate-compute-liveness
+    compute-liveness-requires
     slice-aggregate-compute-pointers
     compute-pointers-requires
     slice-aggregate-report-tables

@@ -7,7 +7,7 @@ use lib.ListN.{length, getD, take, length-append}
 use lib.Seq.{take-all}
 use Rattle.plank_core.specs.Lists.{bind}
 use Rattle.report_lines.specs.Lines.{named, number}
-use Rattle.report_lines.specs.Putting.{Put}
+use Rattle.report_lines.specs.inner.Putting.{Put}
 use Rattle.report_lines.proofs.Putting.{put-as, put-nothing, put-id}
 use Rattle.report_lines.proofs.Numbers.{number-short}
 use Rattle.report_lines.proofs.text.put_ids.Statement.{statement}

@@ -1,7 +1,7 @@
 -- `put_interval_at` meets its contract.
 use mathlib.Core.Path.{refl}
 use native.Mathlib.Omega.{arith}
-use Rattle.report_lines.specs.Putting.{intervalAt}
+use Rattle.report_lines.specs.inner.Putting.{intervalAt}
 use Rattle.report_lines.proofs.Putting.{put-as}
 use borrow.Author.Needs.{needs}
 use Rattle.report_lines.proofs.text.put_interval_at.Statement.{statement}

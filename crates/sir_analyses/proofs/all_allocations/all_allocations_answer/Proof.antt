@@ -5,9 +5,9 @@ use native.Mathlib.Omega.{arith}
 use borrow.Author.Needs.{needs}
 use lib.ListN.{length}
 use Rattle.sir_analyses.specs.Allocation.{allocs}
-use Rattle.sir_analyses.proofs.Discovery.{keys-long}
-use Rattle.sir_analyses.proofs.PointerTables.{allocations-few}
-use Rattle.sir_analyses.proofs.AllAnswers.{fixed-long, fixed-at}
+use Rattle.sir_analyses.proofs.allocation_liveness.Discovery.{sites-long}
+use Rattle.sir_analyses.proofs.allocation_liveness.PointerTables.{allocations-few}
+use Rattle.sir_analyses.proofs.scatter.AllAnswers.{fixed-long, fixed-at}
 use Rattle.sir_analyses.proofs.all_allocations.all_allocations_answer.Statement.{statement}
 use Rattle.sir_analyses.proofs.all_allocations.all_allocations_answer.Tie as tie
 
@@ -24,7 +24,7 @@ array-borrow-prefix-cursors c =
     let stage = start .pre .1 .1 in
     let sites = at-alloc-sites .alloc-sites in
     let n = length (sites .result .now) in
-    let e : n ≡ length (allocs (start .args .words .now)) = ap length (sites .ensures ∙ stage .sites-are) ∙ keys-long (start .args .words .now) in
+    let e : n ≡ length (allocs (start .args .words .now)) = ap length (sites .ensures ∙ stage .sites-are) ∙ sites-long (start .args .words .now) in
     let h : n ≤ 512 = omega (arith, e, allocations-few stage) in
     h
 
@@ -36,7 +36,7 @@ slice-aggregate-fill-allocations c =
     let stage = start .pre .1 .1 in
     let sites = at-alloc-sites .alloc-sites in
     let n = length (sites .result .now) in
-    let e : n ≡ length (allocs (start .args .words .now)) = ap length (sites .ensures ∙ stage .sites-are) ∙ keys-long (start .args .words .now) in
+    let e : n ≡ length (allocs (start .args .words .now)) = ap length (sites .ensures ∙ stage .sites-are) ∙ sites-long (start .args .words .now) in
     let h : n ≤ 512 = omega (arith, e, allocations-few stage) in
     sym (fixed-long n 512 (2 ^ 59) h)
 
@@ -48,7 +48,7 @@ fill-allocations-requires c κs =
     let stage = start .pre .1 .1 in
     let sites = at-alloc-sites .alloc-sites in
     let n = length (sites .result .now) in
-    let e : n ≡ length (allocs (start .args .words .now)) = ap length (sites .ensures ∙ stage .sites-are) ∙ keys-long (start .args .words .now) in
+    let e : n ≡ length (allocs (start .args .words .now)) = ap length (sites .ensures ∙ stage .sites-are) ∙ sites-long (start .args .words .now) in
     let h : n ≤ 512 = omega (arith, e, allocations-few stage) in
     let long = fixed-long n 512 (2 ^ 59) h in
     (start .pre .0, (start .pre .1 .0, (stage, (long ∙ e, λ a l. fixed-at n 512 (2 ^ 59) a h (omega (arith, l, long))))))

@@ -6,10 +6,10 @@ use native.Mathlib.Omega.{arith}
 use borrow.Author.Needs.{needs}
 use lib.ListN.{length, getD}
 use Rattle.plank_core.specs.laws.Lists.{getD-mem}
-use Rattle.sir_analyses.specs.Scatter.{backward, numberAt, Below}
-use Rattle.sir_analyses.specs.IntervalPieces.{closedPieces}
-use Rattle.sir_analyses.proofs.Scattering.{Scattering, scattering-none, scattering-as, scattering-fits, scattering-more, scattering-all}
-use Rattle.sir_analyses.proofs.OpenEnds.{closedLeft, closed-next, closed-skip, closed-end, closed-known}
+use Rattle.sir_analyses.specs.inner.Scatter.{backward, numberAt, Below}
+use Rattle.sir_analyses.specs.inner.IntervalPieces.{closedPieces}
+use Rattle.sir_analyses.proofs.scatter.Scattering.{Scattering, scattering-none, scattering-as, scattering-fits, scattering-more, scattering-all}
+use Rattle.sir_analyses.proofs.all_intervals.OpenEnds.{closedLeft, closed-next, closed-skip, closed-end, closed-known}
 use Rattle.sir_analyses.proofs.all_allocations.close_before.Statement.{statement}
 use Rattle.sir_analyses.proofs.all_allocations.close_before.Tie as tie
 

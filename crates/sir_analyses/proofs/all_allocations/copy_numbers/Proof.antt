@@ -5,7 +5,7 @@ use native.Mathlib.Omega.{arith}
 use lib.ListN.{length, set, length-set}
 use lib.Seq.{getD-set-same, getD-set-other}
 use Rattle.plank_core.specs.laws.Lists.{below-next}
-use Rattle.sir_analyses.specs.Scatter.{numberAt}
+use Rattle.sir_analyses.specs.inner.Scatter.{numberAt}
 use Rattle.sir_analyses.proofs.all_allocations.copy_numbers.Statement.{statement}
 use Rattle.sir_analyses.proofs.all_allocations.copy_numbers.Tie as tie
 

@@ -4,8 +4,8 @@ use Prim.Native.Nat.{ℕ, _+_, _-_, _*_, _^_, _≤_, _<_}
 use native.Mathlib.Omega.{arith}
 use borrow.Author.Needs.{needs}
 use lib.ListN.{length}
-use Rattle.sir_analyses.proofs.AllAnswers.{top-fits, passed-all, scatters-cursor}
-use Rattle.sir_analyses.proofs.AllocationPieces.{records-small, records-counted}
+use Rattle.sir_analyses.proofs.scatter.AllAnswers.{top-fits, passed-all, scatters-cursor}
+use Rattle.sir_analyses.proofs.all_allocations.AllocationPieces.{records-small, records-counted}
 use Rattle.sir_analyses.proofs.all_allocations.count_allocations.Statement.{statement}
 use Rattle.sir_analyses.proofs.all_allocations.count_allocations.Tie as tie
 

@@ -9,9 +9,9 @@ use lib.Seq.{length-take-le}
 use Rattle.sir_analyses.specs.Allocation.{allocs}
 use Rattle.sir_analyses.specs.Answers.{allocationAnswer}
 use Rattle.sir_analyses.specs.Calls.{made}
-use Rattle.sir_analyses.specs.Scatter.{allOf}
-use Rattle.sir_analyses.proofs.AllocationPieces.{records-small}
-use Rattle.sir_analyses.proofs.AllAnswers.{counts-finished, counts-fit, not-answered, answer-room, whole-answered}
+use Rattle.sir_analyses.specs.inner.Scatter.{allOf}
+use Rattle.sir_analyses.proofs.all_allocations.AllocationPieces.{records-small}
+use Rattle.sir_analyses.proofs.scatter.AllAnswers.{counts-finished, counts-fit, not-answered, answer-room, whole-answered}
 use Rattle.sir_analyses.proofs.all_allocations.fill_allocations.Statement.{statement}
 use Rattle.sir_analyses.proofs.all_allocations.fill_allocations.Tie as tie
 

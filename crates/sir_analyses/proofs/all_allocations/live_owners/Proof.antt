@@ -4,11 +4,11 @@ use Prim.Native.Nat.{ℕ, _+_, _-_, _*_, _≤_, _<_}
 use native.Mathlib.Omega.{arith}
 use borrow.Author.Needs.{needs}
 use lib.ListN.{length, take}
-use Rattle.plank_core.specs.DenseIndexSet.{members}
+use Rattle.plank_core.specs.inner.DenseIndexSet.{members}
 use Rattle.plank_core.specs.laws.Members.{members-most, member-is}
-use Rattle.sir_analyses.proofs.Loads.{front-length}
-use Rattle.sir_analyses.proofs.SetAnswers.{front-members}
-use Rattle.sir_analyses.proofs.SweptEnds.{live-listed}
+use Rattle.sir_analyses.proofs.loading.Loads.{front-length}
+use Rattle.sir_analyses.proofs.live_answers.SetAnswers.{front-members}
+use Rattle.sir_analyses.proofs.all_allocations.SweptEnds.{live-listed}
 use Rattle.sir_analyses.proofs.all_allocations.live_owners.Statement.{statement}
 use Rattle.sir_analyses.proofs.all_allocations.live_owners.Tie as tie
 

@@ -9,13 +9,13 @@ use Rattle.plank_core.specs.Lists.{bind, range}
 use Rattle.plank_core.specs.laws.Loops.{range-all}
 use Rattle.sir_analyses.specs.Allocation.{allocs, merged}
 use Rattle.sir_analyses.specs.Answers.{intervalWords}
-use Rattle.sir_analyses.specs.Scatter.{Pieces, backward, numberAt}
-use Rattle.sir_analyses.specs.AllocationPieces.{headOf, headPieces}
-use Rattle.sir_analyses.proofs.PointerTables.{allocations-few}
-use Rattle.sir_analyses.proofs.PieceLaws.{range-step, range-end}
-use Rattle.sir_analyses.proofs.AllocationWords.{interval-count}
-use Rattle.sir_analyses.proofs.AllocationPieces.{merged-few, other-cursor}
-use Rattle.sir_analyses.proofs.Scattering.{Scattering, scattering-none, scattering-as, scattering-fits, scattering-more, scattering-all, fits-as, scatters-as}
+use Rattle.sir_analyses.specs.inner.Scatter.{Pieces, backward, numberAt}
+use Rattle.sir_analyses.specs.inner.AllocationPieces.{headOf, headPieces}
+use Rattle.sir_analyses.proofs.allocation_liveness.PointerTables.{allocations-few}
+use Rattle.sir_analyses.proofs.scatter.PieceLaws.{range-step, range-end}
+use Rattle.sir_analyses.proofs.allocation_answers.AllocationWords.{interval-count}
+use Rattle.sir_analyses.proofs.all_allocations.AllocationPieces.{merged-few, other-cursor}
+use Rattle.sir_analyses.proofs.scatter.Scattering.{Scattering, scattering-none, scattering-as, scattering-fits, scattering-more, scattering-all, fits-as, scatters-as}
 use Rattle.sir_analyses.proofs.all_allocations.put_heads.Statement.{statement}
 use Rattle.sir_analyses.proofs.all_allocations.put_heads.Tie as tie
 

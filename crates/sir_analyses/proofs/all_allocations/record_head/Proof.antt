@@ -4,10 +4,10 @@ use mathlib.Core.Bool.{true, false}
 use native.Mathlib.Omega.{arith}
 use borrow.Author.Needs.{needs}
 use lib.ListN.{length}
-use Rattle.sir_analyses.proofs.Discovery.{keys-long}
-use Rattle.sir_analyses.proofs.PointerTables.{allocations-few}
-use Rattle.sir_analyses.proofs.AllocationWords.{mark-told, site-known}
-use Rattle.sir_analyses.proofs.AllocationPieces.{head-same}
+use Rattle.sir_analyses.proofs.allocation_liveness.Discovery.{sites-long}
+use Rattle.sir_analyses.proofs.allocation_liveness.PointerTables.{allocations-few}
+use Rattle.sir_analyses.proofs.allocation_answers.AllocationWords.{mark-told, site-known}
+use Rattle.sir_analyses.proofs.all_allocations.AllocationPieces.{head-same}
 use Rattle.sir_analyses.proofs.all_allocations.record_head.Statement.{statement}
 use Rattle.sir_analyses.proofs.all_allocations.record_head.Tie as tie
 
@@ -20,7 +20,7 @@ site-of-requires : tie.Need-site-of-requires
 site-of-requires c κs =
     let at-alloc-sites = c in
     let start = c .before .before .before in
-    omega (arith, ap length (at-alloc-sites .alloc-sites .ensures ∙ start .pre .0 .sites-are), keys-long (start .args .words .now), start .pre .1)
+    omega (arith, ap length (at-alloc-sites .alloc-sites .ensures ∙ start .pre .0 .sites-are), sites-long (start .args .words .now), start .pre .1)
 
 is-marked-requires : tie.Need-is-marked-requires
 is-marked-requires c κs =

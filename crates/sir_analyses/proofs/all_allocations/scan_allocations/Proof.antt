@@ -4,10 +4,10 @@ use Prim.Native.Nat.{ℕ, _+_, _-_, _*_, _^_, _≤_, _<_}
 use native.Mathlib.Omega.{arith}
 use borrow.Author.Needs.{needs}
 use lib.ListN.{length}
-use Rattle.sir_analyses.specs.AllocationPieces.{visitedPieces, headPieces}
-use Rattle.sir_analyses.proofs.PointerTables.{allocations-few}
-use Rattle.sir_analyses.proofs.Scattering.{fits-first, fits-rest, scatters-then}
-use Rattle.sir_analyses.proofs.AllocationPieces.{tops-are}
+use Rattle.sir_analyses.specs.inner.AllocationPieces.{visitedPieces, headPieces}
+use Rattle.sir_analyses.proofs.allocation_liveness.PointerTables.{allocations-few}
+use Rattle.sir_analyses.proofs.scatter.Scattering.{fits-first, fits-rest, scatters-then}
+use Rattle.sir_analyses.proofs.all_allocations.AllocationPieces.{tops-are}
 use Rattle.sir_analyses.proofs.all_allocations.scan_allocations.Statement.{statement}
 use Rattle.sir_analyses.proofs.all_allocations.scan_allocations.Tie as tie
 

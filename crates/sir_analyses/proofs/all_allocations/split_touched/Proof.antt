@@ -4,15 +4,15 @@ use Prim.Native.Nat.{ℕ, _+_, _-_, _*_, _≤_, _<_}
 use native.Mathlib.Omega.{arith}
 use borrow.Author.Needs.{needs}
 use lib.ListN.{length, take, replicate}
-use Rattle.plank_core.specs.DenseIndexSet.{contains, members, rowOf, rowUnion}
+use Rattle.plank_core.specs.inner.DenseIndexSet.{contains, members, rowOf, rowUnion}
 use Rattle.plank_core.specs.laws.DenseIndexSet.{length-row}
 use Rattle.plank_core.specs.laws.Members.{members-most, member-is}
-use Rattle.sir_analyses.specs.Stages.{readsIn, writesIn}
-use Rattle.sir_analyses.proofs.Parts.{length-part}
-use Rattle.sir_analyses.proofs.Loads.{front-length}
-use Rattle.sir_analyses.proofs.SetAnswers.{front-members}
-use Rattle.sir_analyses.proofs.MergedIntervals.{joined}
-use Rattle.sir_analyses.proofs.SweptEnds.{touched-split}
+use Rattle.sir_analyses.specs.inner.Stages.{readsIn, writesIn}
+use Rattle.sir_analyses.proofs.stages.Parts.{length-part}
+use Rattle.sir_analyses.proofs.loading.Loads.{front-length}
+use Rattle.sir_analyses.proofs.live_answers.SetAnswers.{front-members}
+use Rattle.sir_analyses.proofs.merged_intervals.MergedIntervals.{joined}
+use Rattle.sir_analyses.proofs.all_allocations.SweptEnds.{touched-split}
 use Rattle.sir_analyses.proofs.all_allocations.split_touched.Statement.{statement}
 use Rattle.sir_analyses.proofs.all_allocations.split_touched.Tie as tie
 

@@ -7,17 +7,17 @@ use borrow.Author.Needs.{needs}
 use lib.ListN.{length, take, replicate}
 use Rattle.plank_core.specs.Lists.{bind, range}
 use Rattle.plank_core.specs.laws.Loops.{range-before, range-none}
-use Rattle.plank_core.specs.DenseIndexSet.{members, rowOf}
+use Rattle.plank_core.specs.inner.DenseIndexSet.{members, rowOf}
 use Rattle.sir_data.specs.Records.{operations, blockWord, ops}
-use Rattle.sir_analyses.specs.Scatter.{backward, numberAt}
-use Rattle.sir_analyses.specs.IntervalPieces.{closedPieces}
-use Rattle.sir_analyses.specs.AllocationPieces.{SweptEnds, sweptPieces, openPieces, sweepPieces}
-use Rattle.sir_analyses.proofs.Loads.{front-length}
-use Rattle.sir_analyses.proofs.AllAnswers.{zero-at}
-use Rattle.sir_analyses.proofs.Scattering.{Scattering, scattering-none, scattering-as, scattering-fits, scattering-more, scattering-all, scatters-as}
-use Rattle.sir_analyses.proofs.OpenEnds.{listed-below, close-ready}
-use Rattle.sir_analyses.proofs.AllocationPieces.{swept-below, open-below, sweptLeft, swept-next, swept-last}
-use Rattle.sir_analyses.proofs.SweptEnds.{LiveBefore, live-none, swept-none, live-more, swept-closed, swept-more, open-closed}
+use Rattle.sir_analyses.specs.inner.Scatter.{backward, numberAt}
+use Rattle.sir_analyses.specs.inner.IntervalPieces.{closedPieces}
+use Rattle.sir_analyses.specs.inner.AllocationPieces.{SweptEnds, sweptPieces, openPieces, sweepPieces}
+use Rattle.sir_analyses.proofs.loading.Loads.{front-length}
+use Rattle.sir_analyses.proofs.scatter.AllAnswers.{zero-at}
+use Rattle.sir_analyses.proofs.scatter.Scattering.{Scattering, scattering-none, scattering-as, scattering-fits, scattering-more, scattering-all, scatters-as}
+use Rattle.sir_analyses.proofs.all_intervals.OpenEnds.{listed-below, close-ready}
+use Rattle.sir_analyses.proofs.all_allocations.AllocationPieces.{swept-below, open-below, sweptLeft, swept-next, swept-last}
+use Rattle.sir_analyses.proofs.all_allocations.SweptEnds.{LiveBefore, live-none, swept-none, live-more, swept-closed, swept-more, open-closed}
 use Rattle.sir_analyses.proofs.all_allocations.sweep_block.Statement.{statement}
 use Rattle.sir_analyses.proofs.all_allocations.sweep_block.Tie as tie
 

@@ -6,10 +6,10 @@ use native.Mathlib.Omega.{arith}
 use borrow.Author.Needs.{needs}
 use lib.ListN.{length}
 use Rattle.sir_data.specs.Records.{blocks}
-use Rattle.sir_analyses.specs.Scatter.{Pieces, backward}
-use Rattle.sir_analyses.specs.AllocationPieces.{sweepPieces, visitedPieces}
-use Rattle.sir_analyses.proofs.Scattering.{Scattering, scattering-none, scattering-as, scattering-fits, scattering-more, scattering-all}
-use Rattle.sir_analyses.proofs.AllocationPieces.{visitedTo, visited-next, visited-skip}
+use Rattle.sir_analyses.specs.inner.Scatter.{Pieces, backward}
+use Rattle.sir_analyses.specs.inner.AllocationPieces.{sweepPieces, visitedPieces}
+use Rattle.sir_analyses.proofs.scatter.Scattering.{Scattering, scattering-none, scattering-as, scattering-fits, scattering-more, scattering-all}
+use Rattle.sir_analyses.proofs.all_allocations.AllocationPieces.{visitedTo, visited-next, visited-skip}
 use Rattle.sir_analyses.proofs.all_allocations.sweep_blocks.Statement.{statement}
 use Rattle.sir_analyses.proofs.all_allocations.sweep_blocks.Tie as tie
 

@@ -4,9 +4,9 @@ use native.Mathlib.Omega.{arith}
 use borrow.Author.Needs.{needs}
 use lib.ListN.{length}
 use Rattle.sir_analyses.specs.Allocation.{allocs}
-use Rattle.sir_analyses.specs.Scatter.{backward}
-use Rattle.sir_analyses.proofs.AllAnswers.{lengths-fit, placed-fits, counts-written}
-use Rattle.sir_analyses.proofs.AllocationPieces.{records-are, records-small, records-below}
+use Rattle.sir_analyses.specs.inner.Scatter.{backward}
+use Rattle.sir_analyses.proofs.scatter.AllAnswers.{lengths-fit, placed-fits, counts-written}
+use Rattle.sir_analyses.proofs.all_allocations.AllocationPieces.{records-are, records-small, records-below}
 use Rattle.sir_analyses.proofs.all_allocations.write_allocations.Statement.{statement}
 use Rattle.sir_analyses.proofs.all_allocations.write_allocations.Tie as tie
 

@@ -3,8 +3,8 @@ use mathlib.Core.Path.{ap}
 use native.Mathlib.Omega.{arith}
 use borrow.Author.Needs.{needs}
 use lib.ListN.{length}
-use Rattle.sir_analyses.proofs.IntervalPieces.{intervals-are, intervals-small}
-use Rattle.sir_analyses.proofs.AllAnswers.{zero-fits, counted-all}
+use Rattle.sir_analyses.proofs.all_intervals.IntervalPieces.{intervals-are, intervals-small}
+use Rattle.sir_analyses.proofs.scatter.AllAnswers.{zero-fits, counted-all}
 use Rattle.sir_analyses.proofs.all_intervals.count_intervals.Statement.{statement}
 use Rattle.sir_analyses.proofs.all_intervals.count_intervals.Tie as tie
 

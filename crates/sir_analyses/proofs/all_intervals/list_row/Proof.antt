@@ -2,10 +2,10 @@
 use mathlib.Core.Path.{_≡_, ap, _∙_}
 use native.Mathlib.Omega.{arith}
 use lib.ListN.{length}
-use Rattle.plank_core.specs.DenseIndexSet.{rowOf, members}
+use Rattle.plank_core.specs.inner.DenseIndexSet.{rowOf, members}
 use Rattle.plank_core.specs.laws.DenseIndexSet.{length-row}
 use Rattle.plank_core.specs.laws.Members.{members-most}
-use Rattle.sir_analyses.proofs.SetAnswers.{front-members}
+use Rattle.sir_analyses.proofs.live_answers.SetAnswers.{front-members}
 use borrow.Author.Needs.{needs}
 use Rattle.sir_analyses.proofs.all_intervals.list_row.Statement.{statement}
 use Rattle.sir_analyses.proofs.all_intervals.list_row.Tie as tie

@@ -4,12 +4,12 @@ use Prim.Native.Nat.{ℕ, _+_, _-_, _*_, _≤_, _<_}
 use native.Mathlib.Omega.{arith}
 use borrow.Author.Needs.{needs}
 use lib.ListN.{length}
-use Rattle.plank_core.specs.DenseIndexSet.{members, rowOf}
-use Rattle.sir_analyses.specs.Scatter.{numberAt}
-use Rattle.sir_analyses.specs.Stages.{exitsIn, endsIn}
-use Rattle.sir_analyses.proofs.Parts.{length-part}
-use Rattle.sir_analyses.proofs.Loads.{front-length}
-use Rattle.sir_analyses.proofs.OpenEnds.{listed-below, block-opened}
+use Rattle.plank_core.specs.inner.DenseIndexSet.{members, rowOf}
+use Rattle.sir_analyses.specs.inner.Scatter.{numberAt}
+use Rattle.sir_analyses.specs.inner.Stages.{exitsIn, endsIn}
+use Rattle.sir_analyses.proofs.stages.Parts.{length-part}
+use Rattle.sir_analyses.proofs.loading.Loads.{front-length}
+use Rattle.sir_analyses.proofs.all_intervals.OpenEnds.{listed-below, block-opened}
 use Rattle.sir_analyses.proofs.all_intervals.open_block.Statement.{statement}
 use Rattle.sir_analyses.proofs.all_intervals.open_block.Tie as tie
 

@@ -7,8 +7,8 @@ use lib.ListN.{length, drop, getD, set, length-set}
 use lib.Dec.{eqb}
 use Rattle.plank_core.specs.Lists.{mem}
 use Rattle.plank_core.specs.laws.Lists.{getD-mem}
-use Rattle.sir_analyses.specs.Scatter.{numberAt}
-use Rattle.sir_analyses.proofs.OpenEnds.{open-next, open-skip, open-end}
+use Rattle.sir_analyses.specs.inner.Scatter.{numberAt}
+use Rattle.sir_analyses.proofs.all_intervals.OpenEnds.{open-next, open-skip, open-end}
 use Rattle.sir_analyses.proofs.all_intervals.open_ends.Statement.{statement}
 use Rattle.sir_analyses.proofs.all_intervals.open_ends.Tie as tie
 

@@ -4,12 +4,12 @@ use mathlib.Core.List.{[]}
 use Prim.Native.Nat.{ℕ, _+_, _-_, _*_, _≤_, _<_}
 use native.Mathlib.Omega.{arith}
 use borrow.Author.Needs.{needs}
-use Rattle.sir_analyses.specs.Scatter.{forward}
-use Rattle.sir_analyses.specs.IntervalPieces.{OpenEnds, operationsPieces, startPieces}
+use Rattle.sir_analyses.specs.inner.Scatter.{forward}
+use Rattle.sir_analyses.specs.inner.IntervalPieces.{OpenEnds, operationsPieces, startPieces}
 use Rattle.sir_analyses.specs.laws.Scatter.{room-first}
-use Rattle.sir_analyses.proofs.Scattering.{scattering-none, scattering-more, scatters-then}
-use Rattle.sir_analyses.proofs.OpenEnds.{ends-none}
-use Rattle.sir_analyses.proofs.AllAnswers.{zero-at}
+use Rattle.sir_analyses.proofs.scatter.Scattering.{scattering-none, scattering-more, scatters-then}
+use Rattle.sir_analyses.proofs.all_intervals.OpenEnds.{ends-none}
+use Rattle.sir_analyses.proofs.scatter.AllAnswers.{zero-at}
 use Rattle.sir_analyses.proofs.all_intervals.scan_block.Statement.{statement}
 use Rattle.sir_analyses.proofs.all_intervals.scan_block.Tie as tie
 

@@ -9,11 +9,11 @@ use Rattle.plank_core.specs.Lists.{bind}
 use Rattle.plank_core.specs.laws.Lists.{getD-mem}
 use Rattle.sir_data.specs.Records.{blocks}
 use Rattle.sir_analyses.specs.Order.{blocksRpo}
-use Rattle.sir_analyses.specs.Scatter.{forward}
-use Rattle.sir_analyses.specs.IntervalPieces.{blockPieces, localPieces}
-use Rattle.sir_analyses.proofs.Keys.{rpo-below, blocks-most}
-use Rattle.sir_analyses.proofs.Scattering.{Scattering, scattering-none, scattering-as, scattering-fits, scattering-more, scattering-all}
-use Rattle.sir_analyses.proofs.IntervalPieces.{blocks-next, blocks-end}
+use Rattle.sir_analyses.specs.inner.Scatter.{forward}
+use Rattle.sir_analyses.specs.inner.IntervalPieces.{blockPieces, localPieces}
+use Rattle.sir_analyses.proofs.claims.order.OrderLength.{rpo-below, blocks-most}
+use Rattle.sir_analyses.proofs.scatter.Scattering.{Scattering, scattering-none, scattering-as, scattering-fits, scattering-more, scattering-all}
+use Rattle.sir_analyses.proofs.all_intervals.IntervalPieces.{blocks-next, blocks-end}
 use Rattle.sir_analyses.proofs.all_intervals.scan_intervals.Statement.{statement}
 use Rattle.sir_analyses.proofs.all_intervals.scan_intervals.Tie as tie
 

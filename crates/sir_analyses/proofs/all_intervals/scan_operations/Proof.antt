@@ -7,15 +7,15 @@ use borrow.Author.Needs.{needs}
 use lib.ListN.{length, take}
 use Rattle.plank_core.specs.Lists.{bind, range}
 use Rattle.plank_core.specs.laws.Loops.{range-before, range-none}
-use Rattle.plank_core.specs.DenseIndexSet.{members, rowOf}
+use Rattle.plank_core.specs.inner.DenseIndexSet.{members, rowOf}
 use Rattle.sir_data.specs.Records.{operations, blockWord, ops}
-use Rattle.sir_analyses.specs.Stages.{readsIn, writesIn}
-use Rattle.sir_analyses.specs.Scatter.{forward, numberAt}
-use Rattle.sir_analyses.specs.IntervalPieces.{closedPieces, OpenEnds, operationPieces, operationsPieces}
-use Rattle.sir_analyses.proofs.Loads.{front-length}
-use Rattle.sir_analyses.proofs.Scattering.{Scattering, scattering-none, scattering-as, scattering-fits, scattering-more, scattering-all, scatters-as}
-use Rattle.sir_analyses.proofs.IntervalPieces.{operation-below, operations-next, operations-end}
-use Rattle.sir_analyses.proofs.OpenEnds.{listed-below, operation-closed, ends-more, close-ready}
+use Rattle.sir_analyses.specs.inner.Stages.{readsIn, writesIn}
+use Rattle.sir_analyses.specs.inner.Scatter.{forward, numberAt}
+use Rattle.sir_analyses.specs.inner.IntervalPieces.{closedPieces, OpenEnds, operationPieces, operationsPieces}
+use Rattle.sir_analyses.proofs.loading.Loads.{front-length}
+use Rattle.sir_analyses.proofs.scatter.Scattering.{Scattering, scattering-none, scattering-as, scattering-fits, scattering-more, scattering-all, scatters-as}
+use Rattle.sir_analyses.proofs.all_intervals.IntervalPieces.{operation-below, operations-next, operations-end}
+use Rattle.sir_analyses.proofs.all_intervals.OpenEnds.{listed-below, operation-closed, ends-more, close-ready}
 use Rattle.sir_analyses.proofs.all_intervals.scan_operations.Statement.{statement}
 use Rattle.sir_analyses.proofs.all_intervals.scan_operations.Tie as tie
 

@@ -6,8 +6,8 @@ use native.Mathlib.Omega.{arith}
 use lib.ListN.{length, drop, getD, set, length-set}
 use Rattle.plank_core.specs.Lists.{mem}
 use Rattle.plank_core.specs.laws.Lists.{getD-mem}
-use Rattle.sir_analyses.specs.Scatter.{numberAt}
-use Rattle.sir_analyses.proofs.OpenEnds.{set-next, set-end}
+use Rattle.sir_analyses.specs.inner.Scatter.{numberAt}
+use Rattle.sir_analyses.proofs.all_intervals.OpenEnds.{set-next, set-end}
 use Rattle.sir_analyses.proofs.all_intervals.set_ends.Statement.{statement}
 use Rattle.sir_analyses.proofs.all_intervals.set_ends.Tie as tie
 

@@ -3,8 +3,8 @@ use mathlib.Core.Path.{ap}
 use lib.ListN.{length}
 use native.Mathlib.Omega.{arith}
 use borrow.Author.Needs.{needs}
-use Rattle.sir_analyses.proofs.EdgePieces.{predecessor-pieces, predecessors-small}
-use Rattle.sir_analyses.proofs.AllAnswers.{zero-fits, counted-all}
+use Rattle.sir_analyses.proofs.all_predecessors.EdgePieces.{predecessor-pieces, predecessors-small}
+use Rattle.sir_analyses.proofs.scatter.AllAnswers.{zero-fits, counted-all}
 use Rattle.sir_analyses.proofs.all_predecessors.count_predecessors.Statement.{statement}
 use Rattle.sir_analyses.proofs.all_predecessors.count_predecessors.Tie as tie
 

@@ -9,9 +9,9 @@ use lib.Seq.{length-take-le}
 use Rattle.sir_data.specs.Records.{blocks}
 use Rattle.sir_analyses.specs.Order.{predecessors}
 use Rattle.sir_analyses.specs.Calls.{made}
-use Rattle.sir_analyses.specs.Scatter.{allOf}
-use Rattle.sir_analyses.proofs.EdgePieces.{predecessors-small}
-use Rattle.sir_analyses.proofs.AllAnswers.{counts-finished, counts-fit, not-answered, answer-room, whole-answered}
+use Rattle.sir_analyses.specs.inner.Scatter.{allOf}
+use Rattle.sir_analyses.proofs.all_predecessors.EdgePieces.{predecessors-small}
+use Rattle.sir_analyses.proofs.scatter.AllAnswers.{counts-finished, counts-fit, not-answered, answer-room, whole-answered}
 use Rattle.sir_analyses.proofs.all_predecessors.fill_predecessors.Statement.{statement}
 use Rattle.sir_analyses.proofs.all_predecessors.fill_predecessors.Tie as tie
 

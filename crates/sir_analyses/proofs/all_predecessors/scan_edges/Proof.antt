@@ -6,10 +6,10 @@ use borrow.Author.Needs.{needs}
 use lib.ListN.{length, getD, drop}
 use Rattle.plank_core.specs.laws.Lists.{getD-mem}
 use Rattle.sir_data.specs.Records.{blocks, successors}
-use Rattle.sir_analyses.specs.Scatter.{forward}
-use Rattle.sir_analyses.specs.Pieces.{piecesAt, edgePieces}
-use Rattle.sir_analyses.proofs.Scattering.{Scattering, scattering-none, scattering-as, scattering-fits, scattering-more, scattering-all}
-use Rattle.sir_analyses.proofs.PieceLaws.{piece-next, piece-end}
+use Rattle.sir_analyses.specs.inner.Scatter.{forward}
+use Rattle.sir_analyses.specs.inner.Pieces.{piecesAt, edgePieces}
+use Rattle.sir_analyses.proofs.scatter.Scattering.{Scattering, scattering-none, scattering-as, scattering-fits, scattering-more, scattering-all}
+use Rattle.sir_analyses.proofs.scatter.PieceLaws.{piece-next, piece-end}
 use Rattle.sir_analyses.proofs.all_predecessors.scan_edges.Statement.{statement}
 use Rattle.sir_analyses.proofs.all_predecessors.scan_edges.Tie as tie
 

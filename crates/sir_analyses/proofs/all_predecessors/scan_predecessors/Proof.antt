@@ -6,10 +6,10 @@ use native.Mathlib.Omega.{arith}
 use Rattle.plank_core.specs.laws.Loops.{range-all}
 use Rattle.sir_data.specs.Records.{blocks}
 use Rattle.sir_analyses.specs.Order.{isVisited}
-use Rattle.sir_analyses.specs.Scatter.{forward}
-use Rattle.sir_analyses.specs.Pieces.{edgePieces, predecessorPieces}
-use Rattle.sir_analyses.proofs.Scattering.{Scattering, scattering-none, scattering-as, scattering-fits, scattering-more, scattering-all}
-use Rattle.sir_analyses.proofs.Edges.{visitedLeft, visited-step, unvisited-step, visited-end}
+use Rattle.sir_analyses.specs.inner.Scatter.{forward}
+use Rattle.sir_analyses.specs.inner.Pieces.{edgePieces, predecessorPieces}
+use Rattle.sir_analyses.proofs.scatter.Scattering.{Scattering, scattering-none, scattering-as, scattering-fits, scattering-more, scattering-all}
+use Rattle.sir_analyses.proofs.predecessors.Edges.{visitedLeft, visited-step, unvisited-step, visited-end}
 use Rattle.sir_analyses.proofs.all_predecessors.scan_predecessors.Statement.{statement}
 use Rattle.sir_analyses.proofs.all_predecessors.scan_predecessors.Tie as tie
 

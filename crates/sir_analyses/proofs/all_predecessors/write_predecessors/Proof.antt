@@ -4,9 +4,9 @@ use native.Mathlib.Omega.{arith}
 use borrow.Author.Needs.{needs}
 use lib.ListN.{length}
 use Rattle.sir_data.specs.Records.{blocks}
-use Rattle.sir_analyses.specs.Scatter.{forward}
-use Rattle.sir_analyses.proofs.EdgePieces.{predecessor-pieces, predecessors-small, predecessors-below}
-use Rattle.sir_analyses.proofs.AllAnswers.{lengths-fit, placed-fits, counts-written}
+use Rattle.sir_analyses.specs.inner.Scatter.{forward}
+use Rattle.sir_analyses.proofs.all_predecessors.EdgePieces.{predecessor-pieces, predecessors-small, predecessors-below}
+use Rattle.sir_analyses.proofs.scatter.AllAnswers.{lengths-fit, placed-fits, counts-written}
 use Rattle.sir_analyses.proofs.all_predecessors.write_predecessors.Statement.{statement}
 use Rattle.sir_analyses.proofs.all_predecessors.write_predecessors.Tie as tie
 

@@ -4,7 +4,7 @@ use lib.Seq.{length-take-le}
 use Rattle.sir_data.specs.Records.{blocks}
 use Rattle.sir_analyses.specs.All.{all}
 use Rattle.sir_analyses.specs.Answers.{entryAnswer}
-use Rattle.sir_analyses.proofs.Calls.{count-write, finish-fits}
+use Rattle.sir_analyses.proofs.answers.Calls.{count-write, finish-fits}
 use borrow.Author.Needs.{needs}
 use native.Mathlib.Omega.{arith}
 use Rattle.sir_analyses.proofs.all_sets.all_entry_sets_answer.Statement.{statement}

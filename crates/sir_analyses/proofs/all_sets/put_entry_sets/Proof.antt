@@ -7,8 +7,8 @@ use Rattle.plank_core.specs.Lists.{bind, range, upto}
 use Rattle.sir_data.specs.Records.{blocks}
 use Rattle.sir_analyses.specs.All.{all}
 use Rattle.sir_analyses.specs.Answers.{entryAnswer}
-use Rattle.sir_analyses.proofs.AllLaws.{left-all, left-next, left-none}
-use Rattle.sir_analyses.proofs.Writing.{Putting, putting-none, putting-as, putting-more, putting-all}
+use Rattle.sir_analyses.proofs.all_sets.AllLaws.{left-all, left-next, left-none}
+use Rattle.sir_analyses.proofs.answers.Writing.{Putting, putting-none, putting-as, putting-more, putting-all}
 use native.Mathlib.Omega.{arith}
 use Rattle.sir_analyses.proofs.all_sets.put_entry_sets.Statement.{statement}
 use Rattle.sir_analyses.proofs.all_sets.put_entry_sets.Tie as tie

@@ -4,13 +4,13 @@ use mathlib.Core.List.{List, _∷_}
 use Prim.Native.Nat.{ℕ, _-_, _*_, _≤_}
 use lib.ListN.{length}
 use Rattle.plank_core.specs.Lists.{bind, range, upto}
-use Rattle.plank_core.specs.DenseIndexSet.{members, rowOf}
+use Rattle.plank_core.specs.inner.DenseIndexSet.{members, rowOf}
 use Rattle.plank_core.specs.laws.DenseIndexSet.{length-row}
 use Rattle.sir_data.specs.Records.{blocks}
 use Rattle.sir_analyses.specs.All.{all}
 use Rattle.sir_analyses.specs.Answers.{exitAnswer}
-use Rattle.sir_analyses.proofs.AllLaws.{left-all, left-next, left-none}
-use Rattle.sir_analyses.proofs.Writing.{Putting, putting-none, putting-as, putting-more, putting-all, puts-as}
+use Rattle.sir_analyses.proofs.all_sets.AllLaws.{left-all, left-next, left-none}
+use Rattle.sir_analyses.proofs.answers.Writing.{Putting, putting-none, putting-as, putting-more, putting-all, puts-as}
 use native.Mathlib.Omega.{arith}
 use Rattle.sir_analyses.proofs.all_sets.put_exit_sets.Statement.{statement}
 use Rattle.sir_analyses.proofs.all_sets.put_exit_sets.Tie as tie

@@ -5,8 +5,8 @@ use Prim.Native.Nat.{ℕ}
 use lib.ListN.{length}
 use lib.Seq.{length-take-le}
 use Rattle.plank_core.specs.laws.Members.{members-most}
-use Rattle.sir_analyses.proofs.SetAnswers.{front-members}
-use Rattle.sir_analyses.proofs.Writing.{puts-then, puts-as}
+use Rattle.sir_analyses.proofs.live_answers.SetAnswers.{front-members}
+use Rattle.sir_analyses.proofs.answers.Writing.{puts-then, puts-as}
 use borrow.Author.Needs.{needs}
 use native.Mathlib.Omega.{arith}
 use Rattle.sir_analyses.proofs.all_sets.put_set.Statement.{statement}

@@ -3,7 +3,7 @@ use mathlib.Core.Path.{sym, _∙_}
 use Prim.Native.Nat.{_≤_}
 use native.Mathlib.Omega.{arith}
 use borrow.Author.Needs.{needs}
-use Rattle.sir_analyses.proofs.AllAnswers.{zero-long, zero-prefix}
+use Rattle.sir_analyses.proofs.scatter.AllAnswers.{zero-long, zero-prefix}
 use Rattle.sir_analyses.proofs.all_uses.all_uses_answer.Statement.{
   statement,
 }

@@ -7,11 +7,11 @@ use lib.ListN.{getD}
 use Rattle.plank_core.specs.Lists.{bind, range}
 use Rattle.plank_core.specs.laws.Loops.{range-all}
 use Rattle.sir_data.specs.Records.{operations, ins}
-use Rattle.sir_analyses.specs.Scatter.{forward, Pieces}
-use Rattle.sir_analyses.specs.Pieces.{piecesAt, blanks, inputPieces}
-use Rattle.sir_analyses.proofs.Scattering.{Scattering, scattering-none, scattering-as, scattering-fits, scattering-more, scattering-all, scatters-as, fits-as}
-use Rattle.sir_analyses.proofs.PieceLaws.{range-step, range-end}
-use Rattle.sir_analyses.proofs.UsePieces.{ones-most}
+use Rattle.sir_analyses.specs.inner.Scatter.{forward, Pieces}
+use Rattle.sir_analyses.specs.inner.Pieces.{piecesAt, blanks, inputPieces}
+use Rattle.sir_analyses.proofs.scatter.Scattering.{Scattering, scattering-none, scattering-as, scattering-fits, scattering-more, scattering-all, scatters-as, fits-as}
+use Rattle.sir_analyses.proofs.scatter.PieceLaws.{range-step, range-end}
+use Rattle.sir_analyses.proofs.all_uses.UsePieces.{ones-most}
 use Rattle.sir_analyses.proofs.all_uses.count_inputs.Statement.{statement}
 use Rattle.sir_analyses.proofs.all_uses.count_inputs.Tie as tie
 

@@ -4,10 +4,10 @@ use borrow.Author.Needs.{needs}
 use native.Mathlib.Omega.{arith}
 use Rattle.plank_core.specs.Lists.{bind}
 use Rattle.sir_analyses.specs.Order.{blocksRpo}
-use Rattle.sir_analyses.specs.Pieces.{endPieces, inputPieces}
-use Rattle.sir_analyses.proofs.Scattering.{scatters-then, fits-first, fits-rest}
-use Rattle.sir_analyses.proofs.UsePieces.{uses-small, uses-counted}
-use Rattle.sir_analyses.proofs.AllAnswers.{zero-fits, zero-at, counted-all}
+use Rattle.sir_analyses.specs.inner.Pieces.{endPieces, inputPieces}
+use Rattle.sir_analyses.proofs.scatter.Scattering.{scatters-then, fits-first, fits-rest}
+use Rattle.sir_analyses.proofs.all_uses.UsePieces.{uses-small, uses-counted}
+use Rattle.sir_analyses.proofs.scatter.AllAnswers.{zero-fits, zero-at, counted-all}
 use Rattle.sir_analyses.proofs.all_uses.count_uses.Statement.{statement}
 use Rattle.sir_analyses.proofs.all_uses.count_uses.Tie as tie
 

@@ -9,9 +9,9 @@ use lib.Seq.{length-take-le}
 use Rattle.sir_data.specs.Records.{locals}
 use Rattle.sir_analyses.specs.Answers.{usesAnswer}
 use Rattle.sir_analyses.specs.Calls.{made}
-use Rattle.sir_analyses.specs.Scatter.{allOf}
-use Rattle.sir_analyses.proofs.UsePieces.{uses-small}
-use Rattle.sir_analyses.proofs.AllAnswers.{counts-finished, counts-fit, not-answered, answer-room, whole-answered}
+use Rattle.sir_analyses.specs.inner.Scatter.{allOf}
+use Rattle.sir_analyses.proofs.all_uses.UsePieces.{uses-small}
+use Rattle.sir_analyses.proofs.scatter.AllAnswers.{counts-finished, counts-fit, not-answered, answer-room, whole-answered}
 use Rattle.sir_analyses.proofs.all_uses.fill_uses.Statement.{statement}
 use Rattle.sir_analyses.proofs.all_uses.fill_uses.Tie as tie
 

@@ -6,11 +6,11 @@ use native.Mathlib.Omega.{arith}
 use lib.ListN.{length, getD, drop}
 use Rattle.plank_core.specs.Lists.{bind}
 use Rattle.plank_core.specs.laws.Lists.{getD-mem}
-use Rattle.sir_analyses.specs.Scatter.{forward}
-use Rattle.sir_analyses.specs.Pieces.{endPieces}
-use Rattle.sir_analyses.proofs.Scattering.{Scattering, scattering-none, scattering-as, scattering-fits, scattering-more, scattering-all, scatters-as, fits-as}
-use Rattle.sir_analyses.proofs.Keys.{rpo-below}
-use Rattle.sir_analyses.proofs.UseWords.{block-next, block-end}
+use Rattle.sir_analyses.specs.inner.Scatter.{forward}
+use Rattle.sir_analyses.specs.inner.Pieces.{endPieces}
+use Rattle.sir_analyses.proofs.scatter.Scattering.{Scattering, scattering-none, scattering-as, scattering-fits, scattering-more, scattering-all, scatters-as, fits-as}
+use Rattle.sir_analyses.proofs.claims.order.OrderLength.{rpo-below}
+use Rattle.sir_analyses.proofs.def_use.UseWords.{block-next, block-end}
 use Rattle.sir_analyses.proofs.all_uses.scan_all_ends.Statement.{statement}
 use Rattle.sir_analyses.proofs.all_uses.scan_all_ends.Tie as tie
 

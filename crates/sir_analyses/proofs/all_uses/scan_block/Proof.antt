@@ -1,8 +1,8 @@
 -- `scan_block` meets its contract.
 use borrow.Author.Needs.{needs}
 use native.Mathlib.Omega.{arith}
-use Rattle.sir_analyses.specs.Pieces.{operationPieces, endPieces}
-use Rattle.sir_analyses.proofs.Scattering.{scatters-then, fits-first, fits-rest}
+use Rattle.sir_analyses.specs.inner.Pieces.{operationPieces, endPieces}
+use Rattle.sir_analyses.proofs.scatter.Scattering.{scatters-then, fits-first, fits-rest}
 use Rattle.sir_analyses.proofs.all_uses.scan_block.Statement.{statement}
 use Rattle.sir_analyses.proofs.all_uses.scan_block.Tie as tie
 

@@ -4,10 +4,10 @@ use mathlib.Core.List.{List, _∷_, [], List·Memᴰ·head}
 use Prim.Native.Nat.{ℕ}
 use borrow.Author.Needs.{needs}
 use native.Mathlib.Omega.{arith}
-use Rattle.sir_data.specs.Cases.{testedLocals}
+use Rattle.sir_data.specs.inner.Cases.{testedLocals}
 use Rattle.sir_data.specs.Records.{condition}
-use Rattle.sir_analyses.specs.Pieces.{piecesAt}
-use Rattle.sir_analyses.proofs.Scattering.{scatters-nothing, scatters-as, fits-as}
+use Rattle.sir_analyses.specs.inner.Pieces.{piecesAt}
+use Rattle.sir_analyses.proofs.scatter.Scattering.{scatters-nothing, scatters-as, fits-as}
 use Rattle.sir_analyses.proofs.all_uses.scan_condition.Statement.{statement}
 use Rattle.sir_analyses.proofs.all_uses.scan_condition.Tie as tie
 

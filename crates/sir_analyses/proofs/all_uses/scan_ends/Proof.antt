@@ -1,8 +1,8 @@
 -- `scan_ends` meets its contract.
 use borrow.Author.Needs.{needs}
 use native.Mathlib.Omega.{arith}
-use Rattle.sir_analyses.specs.Pieces.{conditionPieces, outputPieces}
-use Rattle.sir_analyses.proofs.Scattering.{scatters-then, fits-first, fits-rest}
+use Rattle.sir_analyses.specs.inner.Pieces.{conditionPieces, outputPieces}
+use Rattle.sir_analyses.proofs.scatter.Scattering.{scatters-then, fits-first, fits-rest}
 use Rattle.sir_analyses.proofs.all_uses.scan_ends.Statement.{statement}
 use Rattle.sir_analyses.proofs.all_uses.scan_ends.Tie as tie
 

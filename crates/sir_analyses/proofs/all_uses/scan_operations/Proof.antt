@@ -6,10 +6,10 @@ use borrow.Author.Needs.{needs}
 use native.Mathlib.Omega.{arith}
 use Rattle.plank_core.specs.Lists.{bind, range}
 use Rattle.sir_data.specs.Records.{operations, ins}
-use Rattle.sir_analyses.specs.Scatter.{forward, Pieces}
-use Rattle.sir_analyses.specs.Pieces.{piecesAt}
-use Rattle.sir_analyses.proofs.Scattering.{Scattering, scattering-none, scattering-as, scattering-fits, scattering-more, scattering-all, scatters-as, fits-as}
-use Rattle.sir_analyses.proofs.PieceLaws.{range-step, range-end}
+use Rattle.sir_analyses.specs.inner.Scatter.{forward, Pieces}
+use Rattle.sir_analyses.specs.inner.Pieces.{piecesAt}
+use Rattle.sir_analyses.proofs.scatter.Scattering.{Scattering, scattering-none, scattering-as, scattering-fits, scattering-more, scattering-all, scatters-as, fits-as}
+use Rattle.sir_analyses.proofs.scatter.PieceLaws.{range-step, range-end}
 use Rattle.sir_analyses.proofs.all_uses.scan_operations.Statement.{statement}
 use Rattle.sir_analyses.proofs.all_uses.scan_operations.Tie as tie
 

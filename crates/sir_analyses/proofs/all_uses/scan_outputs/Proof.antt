@@ -8,11 +8,11 @@ use lib.ListN.{length, getD, drop}
 use Rattle.plank_core.specs.Lists.{_∈_}
 use Rattle.plank_core.specs.laws.Lists.{getD-mem}
 use Rattle.sir_data.specs.Records.{outputs}
-use Rattle.sir_analyses.specs.Scatter.{forward}
-use Rattle.sir_analyses.specs.Pieces.{piecesAt}
-use Rattle.sir_analyses.proofs.Scattering.{Scattering, scattering-none, scattering-as, scattering-fits, scattering-more, scattering-all, scatters-as, fits-as}
-use Rattle.sir_analyses.proofs.PieceLaws.{piece-next, piece-end}
-use Rattle.sir_analyses.proofs.UseWords.{outputs-most}
+use Rattle.sir_analyses.specs.inner.Scatter.{forward}
+use Rattle.sir_analyses.specs.inner.Pieces.{piecesAt}
+use Rattle.sir_analyses.proofs.scatter.Scattering.{Scattering, scattering-none, scattering-as, scattering-fits, scattering-more, scattering-all, scatters-as, fits-as}
+use Rattle.sir_analyses.proofs.scatter.PieceLaws.{piece-next, piece-end}
+use Rattle.sir_analyses.proofs.def_use.UseWords.{outputs-most}
 use Rattle.sir_analyses.proofs.all_uses.scan_outputs.Statement.{statement}
 use Rattle.sir_analyses.proofs.all_uses.scan_outputs.Tie as tie
 

@@ -1,9 +1,9 @@
 -- `allocation_answer` meets its contract.
 use mathlib.Core.Path.{refl, ap, _∙_}
 use lib.ListN.{length}
-use Rattle.sir_analyses.proofs.AllocationWords.{mark-told, owned-unmarked}
-use Rattle.sir_analyses.proofs.Discovery.{keys-long}
-use Rattle.sir_analyses.proofs.PointerTables.{allocations-few}
+use Rattle.sir_analyses.proofs.allocation_answers.AllocationWords.{mark-told, owned-unmarked}
+use Rattle.sir_analyses.proofs.allocation_liveness.Discovery.{sites-long}
+use Rattle.sir_analyses.proofs.allocation_liveness.PointerTables.{allocations-few}
 use borrow.Author.Needs.{needs}
 use native.Mathlib.Omega.{arith}
 use Rattle.sir_analyses.proofs.allocation_answers.allocation_answer.Statement.{statement}
@@ -18,7 +18,7 @@ site-of-requires : tie.Need-site-of-requires
 site-of-requires c κs =
     let at-shared-slice-known = c .before .before .before .before .before in
     let start = at-shared-slice-known .before in
-    omega (arith, ap length (c .alloc-sites .ensures ∙ start .pre .1 .1 .0 .sites-are), keys-long (start .args .words .now), start .pre .1 .1 .1)
+    omega (arith, ap length (c .alloc-sites .ensures ∙ start .pre .1 .1 .0 .sites-are), sites-long (start .args .words .now), start .pre .1 .1 .1)
 
 is-marked-requires : tie.Need-is-marked-requires
 is-marked-requires c κs =

@@ -4,11 +4,11 @@ use borrow.Author.Needs.{needs}
 use Rattle.sir_analyses.proofs.allocation_answers.every_allocation.Statement.{statement}
 use Rattle.sir_analyses.proofs.allocation_answers.every_allocation.Tie as tie
 
-slice-aggregate-live-sets : tie.Need-slice-aggregate-live-sets
-slice-aggregate-live-sets c = search needs
+slice-aggregate-compute-liveness : tie.Need-slice-aggregate-compute-liveness
+slice-aggregate-compute-liveness c = search needs
 
-live-sets-requires : tie.Need-live-sets-requires
-live-sets-requires c κs =
+compute-liveness-requires : tie.Need-compute-liveness-requires
+compute-liveness-requires c κs =
     let start = c .before .before .before .before .before in
     (start .pre .0, refl)
 
@@ -17,10 +17,10 @@ slice-aggregate-all-allocations-answer c = search needs
 
 all-allocations-answer-requires : tie.Need-all-allocations-answer-requires
 all-allocations-answer-requires c κs =
-    let at-live-sets = c .before .before .before in
-    let at-shared-slice-known = at-live-sets .before .before .before .before .before in
+    let at-compute-liveness = c .before .before .before in
+    let at-shared-slice-known = at-compute-liveness .before .before .before .before .before in
     let start = at-shared-slice-known .before in
-    (start .pre .0, (at-live-sets .live-sets .ensures .1, start .pre .1))
+    (start .pre .0, (at-compute-liveness .compute-liveness .ensures .1, start .pre .1))
 
 same-length : tie.Need-same-length
 same-length c = search needs
@@ -32,8 +32,8 @@ pub every-allocation-spec : {M : Type 1} → statement M
 every-allocation-spec =
     tie.close
     (tie.spec
-    slice-aggregate-live-sets
-    live-sets-requires
+    slice-aggregate-compute-liveness
+    compute-liveness-requires
     slice-aggregate-all-allocations-answer
     all-allocations-answer-requires
     same-length

@@ -1,15 +1,13 @@
 -- `marked_answer` meets its contract.
-use mathlib.Core.Path.{sym}
+use mathlib.Core.Path.{sym, refl, subst}
 use lib.Seq.{length-take-le}
-use Rattle.sir_analyses.proofs.Calls.{finish-fits}
-use mathlib.Core.Path.{refl, subst}
+use Rattle.sir_analyses.proofs.answers.Calls.{finish-fits, finished}
 use Prim.Native.Nat.{ℕ}
 use lib.ListN.{length}
 use Rattle.sir_analyses.specs.Answers.{allocationAnswer}
-use Rattle.sir_analyses.specs.Writing.{Finished}
-use Rattle.sir_analyses.proofs.Writing.{puts-as}
-use Rattle.sir_analyses.proofs.AllocationWords.{site-known, marked-answer, marked-long}
-use Rattle.sir_analyses.proofs.Calls.{finished}
+use Rattle.sir_analyses.specs.inner.Writing.{Finished}
+use Rattle.sir_analyses.proofs.answers.Writing.{puts-as}
+use Rattle.sir_analyses.proofs.allocation_answers.AllocationWords.{site-known, marked-answer, marked-long}
 use borrow.Author.Needs.{needs}
 use Rattle.sir_analyses.proofs.allocation_answers.marked_answer.Statement.{statement}
 use Rattle.sir_analyses.proofs.allocation_answers.marked_answer.Tie as tie

@@ -1,9 +1,9 @@
 -- `one_allocation` meets its contract.
 use mathlib.Core.Path.{refl, ap, _∙_}
 use lib.ListN.{length}
-use Rattle.sir_analyses.proofs.AllocationWords.{mark-told}
-use Rattle.sir_analyses.proofs.Discovery.{keys-long}
-use Rattle.sir_analyses.proofs.PointerTables.{allocations-few}
+use Rattle.sir_analyses.proofs.allocation_answers.AllocationWords.{mark-told}
+use Rattle.sir_analyses.proofs.allocation_liveness.Discovery.{sites-long}
+use Rattle.sir_analyses.proofs.allocation_liveness.PointerTables.{allocations-few}
 use borrow.Author.Needs.{needs}
 use native.Mathlib.Omega.{arith}
 use Rattle.sir_analyses.proofs.allocation_answers.one_allocation.Statement.{statement}
@@ -24,7 +24,7 @@ site-of-requires : tie.Need-site-of-requires
 site-of-requires c κs =
     let at-shared-slice-known2 = c .before .before .before .before .before in
     let start = at-shared-slice-known2 .before .before in
-    omega (arith, ap length (c .alloc-sites .ensures ∙ start .pre .1 .0 .sites-are), keys-long (start .args .words .now), start .pre .1 .1)
+    omega (arith, ap length (c .alloc-sites .ensures ∙ start .pre .1 .0 .sites-are), sites-long (start .args .words .now), start .pre .1 .1)
 
 marked-answer-requires : tie.Need-marked-answer-requires
 marked-answer-requires c κs =
@@ -48,11 +48,11 @@ returns c =
     let x = at-site-of .site-of .ensures (start .args .words .now) (start .pre .0 .well-formed) (at-alloc-sites .alloc-sites .ensures ∙ start .pre .1 .0 .sites-are) in
     at-marked-answer .marked-answer .ensures (start .args .a .0) x (mark-told (start .pre .1 .0 .discovered) (x .known) (at-is-marked .is-marked .ensures) (at-if1 .if1 .taken))
 
-slice-aggregate-live-sets : tie.Need-slice-aggregate-live-sets
-slice-aggregate-live-sets c = search needs
+slice-aggregate-compute-liveness : tie.Need-slice-aggregate-compute-liveness
+slice-aggregate-compute-liveness c = search needs
 
-live-sets-requires : tie.Need-live-sets-requires
-live-sets-requires c κs =
+compute-liveness-requires : tie.Need-compute-liveness-requires
+compute-liveness-requires c κs =
     let at-shared-slice-known2 = c .before .before .before .before .before in
     let start = at-shared-slice-known2 .before .before in
     (start .pre .0, refl)
@@ -62,10 +62,10 @@ slice-aggregate-allocation-answer c = search needs
 
 allocation-answer-requires : tie.Need-allocation-answer-requires
 allocation-answer-requires c κs =
-    let at-live-sets = c .before .before .before in
-    let at-shared-slice-known3 = at-live-sets .before .before .before .before .before in
+    let at-compute-liveness = c .before .before .before in
+    let at-shared-slice-known3 = at-compute-liveness .before .before .before .before .before in
     let start = at-shared-slice-known3 .before .before .before in
-    (start .pre .0, (at-live-sets .live-sets .ensures .1, start .pre .1))
+    (start .pre .0, (at-compute-liveness .compute-liveness .ensures .1, start .pre .1))
 
 same-length-2 : tie.Need-same-length-2
 same-length-2 c = search needs
@@ -83,8 +83,8 @@ one-allocation-spec =
     marked-answer-requires
     same-length
     returns
-    slice-aggregate-live-sets
-    live-sets-requires
+    slice-aggregate-compute-liveness
+    compute-liveness-requires
     slice-aggregate-allocation-answer
     allocation-answer-requires
     same-length-2

@@ -1,5 +1,5 @@
 -- `owned_locals` meets its contract. The invariant: those below v are added.
-use Rattle.sir_analyses.specs.Stages.{ownersIn}
+use Rattle.sir_analyses.specs.inner.Stages.{ownersIn}
 use mathlib.Core.Path.{_≡_, sym, ap, _∙_, subst}
 use mathlib.Core.Logic.{⊎-elim}
 use mathlib.Core.Bool.{Bool}
@@ -9,8 +9,8 @@ use lib.ListN.{length, getD}
 use lib.Dec.{eqb}
 use borrow.Author.Tests.{eq-eqb, ne-eqb}
 use Rattle.sir_data.specs.Records.{locals}
-use Rattle.plank_core.specs.DenseIndexSet.{added}
-use Rattle.sir_analyses.proofs.AllocationWords.{Below, below-none, below-more, below-on}
+use Rattle.plank_core.specs.inner.DenseIndexSet.{added}
+use Rattle.sir_analyses.proofs.allocation_answers.AllocationWords.{Below, below-none, below-more, below-on}
 use Rattle.sir_analyses.proofs.allocation_answers.owned_locals.Statement.{statement}
 use Rattle.sir_analyses.proofs.allocation_answers.owned_locals.Tie as tie
 

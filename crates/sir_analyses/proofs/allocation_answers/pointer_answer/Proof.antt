@@ -10,8 +10,8 @@ use Rattle.sir_data.specs.Records.{locals}
 use Rattle.sir_analyses.specs.Allocation.{allocs}
 use Rattle.sir_analyses.specs.Calls.{answered}
 use Rattle.sir_analyses.specs.declared.questions.Question.{Question}
-use Rattle.sir_analyses.proofs.Calls.{known-below}
-use Rattle.sir_analyses.proofs.Asked.{own-as, answered-as}
+use Rattle.sir_analyses.proofs.answers.Calls.{known-below}
+use Rattle.sir_analyses.proofs.questions.Asked.{own-as, answered-as}
 use borrow.Author.Needs.{needs}
 use Rattle.sir_analyses.proofs.allocation_answers.pointer_answer.Statement.{statement}
 use Rattle.sir_analyses.proofs.allocation_answers.pointer_answer.Tie as tie

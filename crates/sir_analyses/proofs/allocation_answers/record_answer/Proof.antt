@@ -5,10 +5,10 @@ use lib.Seq.{length-take-le}
 use Prim.Native.Nat.{ℕ}
 use lib.ListN.{length}
 use Rattle.sir_analyses.specs.Answers.{allocationAnswer}
-use Rattle.sir_analyses.specs.Writing.{Finished}
-use Rattle.sir_analyses.proofs.AllocationWords.{site-known, answer-long, swept-count, swept-answer}
-use Rattle.sir_analyses.proofs.Calls.{finished, front-twice, front-fits, finish-fits}
-use Rattle.sir_analyses.proofs.Writing.{puts-long}
+use Rattle.sir_analyses.specs.inner.Writing.{Finished}
+use Rattle.sir_analyses.proofs.allocation_answers.AllocationWords.{site-known, answer-long, swept-count, swept-answer}
+use Rattle.sir_analyses.proofs.answers.Calls.{finished, front-twice, front-fits, finish-fits}
+use Rattle.sir_analyses.proofs.answers.Writing.{puts-long}
 use borrow.Author.Needs.{needs}
 use native.Mathlib.Omega.{arith}
 use Rattle.sir_analyses.proofs.allocation_answers.record_answer.Statement.{statement}

@@ -3,7 +3,7 @@ use mathlib.Core.Path.{ap, _∙_}
 use Prim.Native.Nat.{ℕ}
 use lib.ListN.{getD}
 use Rattle.sir_data.specs.Records.{outs}
-use Rattle.sir_analyses.proofs.AllocationWords.{site-known}
+use Rattle.sir_analyses.proofs.allocation_answers.AllocationWords.{site-known}
 use borrow.Author.Needs.{needs}
 use Rattle.sir_analyses.proofs.allocation_liveness.base_of.Statement.{statement}
 use Rattle.sir_analyses.proofs.allocation_liveness.base_of.Tie as tie

@@ -1,4 +1,4 @@
--- `block_allocations` meets its contract. The invariant: the keys of the operations left are to be written.
+-- `block_allocations` meets its contract. The invariant: the sites of the operations left are to be written.
 use mathlib.Core.Path.{_≡_, sym, ap, _∙_}
 use mathlib.Core.Bool.{true, false}
 use Prim.Native.Nat.{_+_, _-_, _*_, _≤_, _<_}
@@ -7,24 +7,24 @@ use lib.ListN.{length, length-set}
 use Rattle.plank_core.specs.Lists.{range}
 use Rattle.sir_data.specs.Records.{operations, code}
 use Rattle.sir_data.specs.Codes.{isAlloc}
-use Rattle.sir_analyses.specs.Discovery.{blockKeys}
-use Rattle.sir_analyses.proofs.Keys.{Listing, listing-none, listing-as, listing-put, listing-all, capped-all, capped-stop}
-use Rattle.sir_analyses.proofs.Discovery.{keysOf, key-next, key-skip, key-end, block-keys}
+use Rattle.sir_analyses.specs.inner.Discovery.{blockSites}
+use Rattle.sir_analyses.proofs.Listing.{Listing, listing-none, listing-as, listing-put, listing-all, capped-all, capped-stop}
+use Rattle.sir_analyses.proofs.allocation_liveness.Discovery.{sitesOf, site-next, site-skip, site-end, block-sites}
 use Rattle.sir_analyses.proofs.allocation_liveness.block_allocations.Statement.{statement}
 use Rattle.sir_analyses.proofs.allocation_liveness.block_allocations.Tie as tie
 
 abbrev Inv-loop : tie.InvT-loop
-Inv-loop words b keys₀ at last m₀ o₀ keys m o = (m ≤ length keys) × Listing (blockKeys words (b .0)) at keys₀ (keysOf words (b .0) (range o last)) keys m
+Inv-loop words b sites₀ at last m₀ o₀ sites m o = (m ≤ length sites) × Listing (blockSites words (b .0)) at sites₀ (sitesOf words (b .0) (range o last)) sites m
 
 abbrev μ-loop : tie.MeasureT-loop
-μ-loop words b keys₀ at last m₀ o₀ keys m o = last - o
+μ-loop words b sites₀ at last m₀ o₀ sites m o = last - o
 
 block-operations-requires : tie.Need-block-operations-requires Inv-loop μ-loop
 block-operations-requires c κs = let S = c .before .before in (S .pre .0 .sized, S .pre .1 .0)
 
 loop-holds : tie.Need-loop-holds Inv-loop μ-loop
 loop-holds c = let S = c .before .before .before in
-    (S .pre .1 .1, listing-as (block-keys (S .args .words .now) (S .args .b .0) _ _ (c .block-operations .ensures .0) (c .block-operations .ensures .1)) listing-none)
+    (S .pre .1 .1, listing-as (block-sites (S .args .words .now) (S .args .b .0) _ _ (c .block-operations .ensures .0) (c .block-operations .ensures .1)) listing-none)
 
 add-o : tie.Need-add-o Inv-loop μ-loop
 add-o c = omega arith
@@ -61,17 +61,17 @@ returns c =
     let L = at-loop .loop in
     let w = start .args .words .now in
     let t : isAlloc (code w (L .o)) ≡ true = ap isAlloc (sym (at-op-word .op-word .ensures)) ∙ sym (c .before .before .is-alloc .ensures) ∙ c .before .if1 .taken in
-    let e = key-next w (start .args .b .0) (L .o) (at-block-operations .block-operations .result .end) (at-loop-test .loop-test .taken) t in
+    let e = site-next w (start .args .b .0) (L .o) (at-block-operations .block-operations .result .end) (at-loop-test .loop-test .taken) t in
     capped-stop (omega (arith, c .if2 .taken)) (omega (arith, c .if2 .taken)) (listing-as e (L .inv .1))
 
-mul-keys : tie.Need-mul-keys Inv-loop μ-loop
-mul-keys c =
+mul-sites : tie.Need-mul-sites Inv-loop μ-loop
+mul-sites c =
     let at-loop-test = c .before .before .before .before .before in
     let start = at-loop-test .before .before .before .before .before in
     omega (arith, start .pre .0 .sized .blocks-most, start .pre .1 .0)
 
-add-keys : tie.Need-add-keys Inv-loop μ-loop
-add-keys c =
+add-sites : tie.Need-add-sites Inv-loop μ-loop
+add-sites c =
     let at-loop-test = c .before .before .before .before .before in
     let at-loop = at-loop-test .before in
     let at-block-operations = at-loop .before in
@@ -81,11 +81,11 @@ add-keys c =
     let h : L .o < operations w = omega (arith, start .pre .0 .in-range .ops-range (start .args .b .0) (start .pre .1 .0), at-block-operations .block-operations .ensures, at-loop-test .loop-test .taken) in
     omega (arith, start .pre .0 .sized .blocks-most, start .pre .0 .sized .operations-most, start .pre .1 .0)
 
-mul-keys-2 : tie.Need-mul-keys-2 Inv-loop μ-loop
-mul-keys-2 c = omega arith
+mul-sites-2 : tie.Need-mul-sites-2 Inv-loop μ-loop
+mul-sites-2 c = omega arith
 
-slice-write-keys : tie.Need-slice-write-keys Inv-loop μ-loop
-slice-write-keys c =
+slice-write-sites : tie.Need-slice-write-sites Inv-loop μ-loop
+slice-write-sites c =
     let at-loop-test = c .before .before .before .before .before in
     let at-loop = at-loop-test .before in
     omega (arith, at-loop .loop .inv .0, c .before .if2 .left)
@@ -110,9 +110,9 @@ loop-again c =
     let L = at-loop .loop in
     let w = start .args .words .now in
     let t : isAlloc (code w (L .o)) ≡ true = ap isAlloc (sym (at-op-word .op-word .ensures)) ∙ sym (at-is-alloc .is-alloc .ensures) ∙ c .before .before .if1 .taken in
-    let e = key-next w (start .args .b .0) (L .o) (at-block-operations .block-operations .result .end) (at-loop-test .loop-test .taken) t in
-    let r : L .m < length (L .keys) = omega (arith, L .inv .0, c .before .if2 .left) in
-    (omega (arith, length-set (L .keys) (L .m) (1024 * start .args .b .0 + L .o)), listing-put r (listing-as e (L .inv .1)))
+    let e = site-next w (start .args .b .0) (L .o) (at-block-operations .block-operations .result .end) (at-loop-test .loop-test .taken) t in
+    let r : L .m < length (L .sites) = omega (arith, L .inv .0, c .before .if2 .left) in
+    (omega (arith, length-set (L .sites) (L .m) (1024 * start .args .b .0 + L .o)), listing-put r (listing-as e (L .inv .1)))
 
 loop-less-2 : tie.Need-loop-less-2 Inv-loop μ-loop
 loop-less-2 c = omega arith
@@ -126,7 +126,7 @@ loop-again-2 c =
     let L = at-loop .loop in
     let w = start .args .words .now in
     let t : isAlloc (code w (L .o)) ≡ false = ap isAlloc (sym (c .before .before .op-word .ensures)) ∙ sym (c .before .is-alloc .ensures) ∙ c .if1 .left in
-    (L .inv .0, listing-as (key-skip w (start .args .b .0) (L .o) (at-block-operations .block-operations .result .end) (at-loop-test .loop-test .taken) t) (L .inv .1))
+    (L .inv .0, listing-as (site-skip w (start .args .b .0) (L .o) (at-block-operations .block-operations .result .end) (at-loop-test .loop-test .taken) t) (L .inv .1))
 
 same-length-2 : tie.Need-same-length-2 Inv-loop μ-loop
 same-length-2 c = c .before .loop .inv .1 .long
@@ -135,7 +135,7 @@ returns-2 : tie.Need-returns-2 Inv-loop μ-loop
 returns-2 c = let S = c .before .before .before .before .before in
     let L = c .before .loop in
     let w = S .args .words .now in
-    capped-all (L .inv .0) (listing-all (key-end w (S .args .b .0) (L .o) (c .before .before .block-operations .result .end) (c .loop-test .left)) (L .inv .1))
+    capped-all (L .inv .0) (listing-all (site-end w (S .args .b .0) (L .o) (c .before .before .block-operations .result .end) (c .loop-test .left)) (L .inv .1))
 
 pub block-allocations-spec : {M : Type 1} → statement M
 block-allocations-spec =
@@ -151,10 +151,10 @@ block-allocations-spec =
     add-result
     same-length
     returns
-    mul-keys
-    add-keys
-    mul-keys-2
-    slice-write-keys
+    mul-sites
+    add-sites
+    mul-sites-2
+    slice-write-sites
     add-m
     loop-less
     loop-again

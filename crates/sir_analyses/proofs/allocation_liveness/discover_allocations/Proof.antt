@@ -3,18 +3,18 @@ use mathlib.Core.Path.{sym, ap, _∙_}
 use Prim.Native.Nat.{ℕ, _-_, _≤_, _<_}
 use lib.ListN.{length, length-replicate}
 use Rattle.sir_analyses.specs.Allocation.{allocs}
-use Rattle.sir_analyses.proofs.Discovery.{keys-long}
-use Rattle.sir_analyses.proofs.PointerTables.{TurnedTo, turned-to-starts, turned-to-more, turned-to-ends, room-turned, owners-empty}
-use Rattle.sir_analyses.specs.Stages.{part}
+use Rattle.sir_analyses.proofs.allocation_liveness.Discovery.{sites-long}
+use Rattle.sir_analyses.proofs.allocation_liveness.PointerTables.{TurnedTo, turned-to-starts, turned-to-more, turned-to-ends, room-turned, owners-empty}
+use Rattle.sir_analyses.specs.inner.Stages.{part}
 use native.Mathlib.Omega.{arith}
 use Rattle.sir_analyses.proofs.allocation_liveness.discover_allocations.Statement.{statement}
 use Rattle.sir_analyses.proofs.allocation_liveness.discover_allocations.Tie as tie
 
 abbrev Inv-loop : tie.InvT-loop
-Inv-loop words keys links escaping pointers₀ i₀ pointers i = (i ≤ length keys) × TurnedTo words keys links escaping pointers i
+Inv-loop words sites links escaping pointers₀ i₀ pointers i = (i ≤ length sites) × TurnedTo words sites links escaping pointers i
 
 abbrev μ-loop : tie.MeasureT-loop
-μ-loop words keys links escaping pointers₀ i₀ pointers i = length keys - i
+μ-loop words sites links escaping pointers₀ i₀ pointers i = length sites - i
 
 store-sites-requires : tie.Need-store-sites-requires Inv-loop μ-loop
 store-sites-requires c κs =
@@ -84,9 +84,9 @@ propagate-pointers-and-mark-escapes-requires c κs =
     let at-slice-known2 = at-loop .before .before .before .before .before in
     let at-shared-slice-known4 = at-slice-known2 .before .before .before .before .before in
     let start = at-shared-slice-known4 .before .before .before .before in
-    let h : at-loop .loop .i < length (allocs (start .args .words .now)) = omega (arith, at-loop-test .loop-test .taken, ap length (start .pre .0 .sites-are), keys-long (start .args .words .now)) in
+    let h : at-loop .loop .i < length (allocs (start .args .words .now)) = omega (arith, at-loop-test .loop-test .taken, ap length (start .pre .0 .sites-are), sites-long (start .args .words .now)) in
     let most = start .pre .0 .sites-few in
-    ((start .pre .1 .0 .links-long, start .pre .1 .0 .harms-long), ((room-turned (start .pre .0) (start .pre .1 .0) (at-loop .loop .inv .1), at-loop .loop .inv .1 .none-left), (omega (arith, at-base-of .base-of .ensures .1, start .pre .0 .well-formed .sized .locals-most), omega (arith, most))))
+    ((start .pre .1 .0 .links-long, start .pre .1 .0 .escaping-long), ((room-turned (start .pre .0) (start .pre .1 .0) (at-loop .loop .inv .1), at-loop .loop .inv .1 .none-left), (omega (arith, at-base-of .base-of .ensures .1, start .pre .0 .well-formed .sized .locals-most), omega (arith, most))))
 
 add-i : tie.Need-add-i Inv-loop μ-loop
 add-i c =
@@ -113,7 +113,7 @@ loop-again c =
     let at-slice-known2 = at-loop .before .before .before .before .before in
     let at-shared-slice-known4 = at-slice-known2 .before .before .before .before .before in
     let start = at-shared-slice-known4 .before .before .before .before in
-    let h : at-loop .loop .i < length (allocs (start .args .words .now)) = omega (arith, at-loop-test .loop-test .taken, ap length (start .pre .0 .sites-are), keys-long (start .args .words .now)) in
+    let h : at-loop .loop .i < length (allocs (start .args .words .now)) = omega (arith, at-loop-test .loop-test .taken, ap length (start .pre .0 .sites-are), sites-long (start .args .words .now)) in
     let most = start .pre .0 .sites-few in
     (omega arith, turned-to-more (start .pre .0) (start .pre .1 .0) h (at-base-of .base-of .ensures .0) (at-loop .loop .inv .1) (at-propagate-pointers-and-mark-escapes .propagate-pointers-and-mark-escapes .ensures))
 
@@ -131,7 +131,7 @@ returns c =
     let at-slice-known2 = at-loop .before .before .before .before .before in
     let at-shared-slice-known4 = at-slice-known2 .before .before .before .before .before in
     let start = at-shared-slice-known4 .before .before .before .before in
-    turned-to-ends (start .pre .0) (start .pre .1 .0) (omega (arith, ap length (start .pre .0 .sites-are), keys-long (start .args .words .now))) (at-loop .loop .inv .1)
+    turned-to-ends (start .pre .0) (start .pre .1 .0) (omega (arith, ap length (start .pre .0 .sites-are), sites-long (start .args .words .now))) (at-loop .loop .inv .1)
 
 pub discover-allocations-spec : {M : Type 1} → statement M
 discover-allocations-spec =

@@ -1,22 +1,23 @@
--- `find_allocations` meets its contract. The invariant: the keys of the blocks left are to be written.
+-- `find_allocations` meets its contract. The invariant: the sites of the blocks left are to be written.
 use mathlib.Core.Path.{_∙_}
 use Prim.Native.Nat.{_+_, _-_, _≤_}
 use native.Mathlib.Omega.{arith}
 use lib.ListN.{length, getD, drop}
 use Rattle.plank_core.specs.Lists.{bind}
 use Rattle.plank_core.specs.laws.Lists.{getD-mem}
-use Rattle.sir_analyses.specs.Discovery.{allocKeys, blockKeys}
-use Rattle.sir_analyses.proofs.Keys.{Listing, listing-none, listing-as, listing-more, listing-all, capped-all, capped-over, capped-fits, rpo-below}
-use Rattle.sir_analyses.proofs.UseWords.{block-next, block-end}
-use Rattle.sir_analyses.proofs.Discovery.{keys-start}
+use Rattle.sir_analyses.specs.inner.Discovery.{allocSites, blockSites}
+use Rattle.sir_analyses.proofs.Listing.{Listing, listing-none, listing-as, listing-more, listing-all, capped-all, capped-over, capped-fits}
+use Rattle.sir_analyses.proofs.claims.order.OrderLength.{rpo-below}
+use Rattle.sir_analyses.proofs.def_use.UseWords.{block-next, block-end}
+use Rattle.sir_analyses.proofs.allocation_liveness.Discovery.{sites-start}
 use Rattle.sir_analyses.proofs.allocation_liveness.find_allocations.Statement.{statement}
 use Rattle.sir_analyses.proofs.allocation_liveness.find_allocations.Tie as tie
 
 abbrev Inv-loop : tie.InvT-loop
-Inv-loop words visit keys₀ order m₀ i₀ keys m i = (i ≤ length order) × (m ≤ length keys) × Listing (allocKeys words) 0 keys₀ (bind (drop i order) (blockKeys words)) keys m
+Inv-loop words visit sites₀ order m₀ i₀ sites m i = (i ≤ length order) × (m ≤ length sites) × Listing (allocSites words) 0 sites₀ (bind (drop i order) (blockSites words)) sites m
 
 abbrev μ-loop : tie.MeasureT-loop
-μ-loop words visit keys₀ order m₀ i₀ keys m i = length order - i
+μ-loop words visit sites₀ order m₀ i₀ sites m i = length order - i
 
 rpo-requires : tie.Need-rpo-requires Inv-loop μ-loop
 rpo-requires c κs = (c .before .before .before .pre .long, c .before .before .before .pre .few)
@@ -24,7 +25,7 @@ rpo-requires c κs = (c .before .before .before .pre .long, c .before .before .b
 loop-holds : tie.Need-loop-holds Inv-loop μ-loop
 loop-holds c =
     let start = c .before .before .before .before in
-    (omega arith, omega arith, listing-as (keys-start (start .args .words .now) (c .rpo .result .now) (c .rpo .ensures ∙ start .pre .rpo-is)) listing-none)
+    (omega arith, omega arith, listing-as (sites-start (start .args .words .now) (c .rpo .result .now) (c .rpo .ensures ∙ start .pre .rpo-is)) listing-none)
 
 mul-t7 : tie.Need-mul-t7 Inv-loop μ-loop
 mul-t7 c = omega arith
@@ -60,8 +61,8 @@ returns c =
     let L = at-loop .loop in
     let w = start .args .words .now in
     let order = at-rpo .rpo .result .now in
-    let e = block-next (blockKeys w) order (L .i) (at-loop-test .loop-test .taken) in
-    capped-over (blockKeys w (getD order (L .i) 0)) (bind (drop (L .i + 1) order) (blockKeys w)) (omega (arith, c .if1 .taken)) (listing-as e (L .inv .2)) (at-block-allocations .block-allocations .ensures)
+    let e = block-next (blockSites w) order (L .i) (at-loop-test .loop-test .taken) in
+    capped-over (blockSites w (getD order (L .i) 0)) (bind (drop (L .i + 1) order) (blockSites w)) (omega (arith, c .if1 .taken)) (listing-as e (L .inv .2)) (at-block-allocations .block-allocations .ensures)
 
 add-i : tie.Need-add-i Inv-loop μ-loop
 add-i c = omega arith
@@ -79,7 +80,7 @@ loop-again c =
     let L = at-loop .loop in
     let w = start .args .words .now in
     let order = at-rpo .rpo .result .now in
-    let e = block-next (blockKeys w) order (L .i) (at-loop-test .loop-test .taken) in
+    let e = block-next (blockSites w) order (L .i) (at-loop-test .loop-test .taken) in
     (omega arith, omega (arith, c .if1 .left), listing-more (listing-as e (L .inv .2)) (capped-fits (omega (arith, c .if1 .left)) (at-block-allocations .block-allocations .ensures)))
 
 same-length-2 : tie.Need-same-length-2 Inv-loop μ-loop
@@ -93,7 +94,7 @@ returns-2 c =
     let L = at-loop .loop in
     let w = start .args .words .now in
     let order = at-rpo .rpo .result .now in
-    capped-all (L .inv .1) (listing-all (block-end (blockKeys w) order (L .i) (c .loop-test .left)) (L .inv .2))
+    capped-all (L .inv .1) (listing-all (block-end (blockSites w) order (L .i) (c .loop-test .left)) (L .inv .2))
 
 pub find-allocations-spec : {M : Type 1} → statement M
 find-allocations-spec =

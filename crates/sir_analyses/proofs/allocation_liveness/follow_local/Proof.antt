@@ -3,16 +3,16 @@ use mathlib.Core.Path.{_≡_, sym, ap, _∙_}
 use mathlib.Core.List.{List}
 use Prim.Native.Nat.{ℕ, _+_, _-_, _≤_, _<_}
 use lib.ListN.{length, getD, take, length-set}
-use Rattle.plank_core.specs.DenseIndexSet.{members, rowOf}
+use Rattle.plank_core.specs.inner.DenseIndexSet.{members, rowOf}
 use Rattle.plank_core.specs.Lists.{foldl}
 use Rattle.plank_core.specs.laws.DenseIndexSet.{length-row}
 use Rattle.plank_core.specs.laws.Lists.{getD-mem}
 use Rattle.plank_core.specs.laws.Members.{members-most, member-is}
 use Rattle.sir_analyses.specs.Propagation.{linkLocal}
-use Rattle.sir_analyses.specs.Discovery.{linksIn}
-use Rattle.sir_analyses.specs.Stages.{PointerStep}
-use Rattle.sir_analyses.proofs.Linking.{found-at}
-use Rattle.sir_analyses.proofs.PointerTables.{room-after, links-none, links-more, followed-marked, followed-plain}
+use Rattle.sir_analyses.specs.inner.Discovery.{linksIn}
+use Rattle.sir_analyses.specs.inner.Stages.{PointerStep}
+use Rattle.sir_analyses.proofs.allocation_liveness.Linking.{found-at}
+use Rattle.sir_analyses.proofs.allocation_liveness.PointerTables.{room-after, links-none, links-more, followed-marked, followed-plain}
 use borrow.Author.Needs.{needs}
 use native.Mathlib.Omega.{arith}
 use Rattle.sir_analyses.proofs.allocation_liveness.follow_local.Statement.{statement}

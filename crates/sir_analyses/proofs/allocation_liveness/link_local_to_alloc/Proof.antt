@@ -2,7 +2,7 @@
 use mathlib.Core.Path.{refl}
 use Prim.Native.Nat.{_+_, _-_}
 use lib.ListN.{getD, set}
-use Rattle.sir_analyses.proofs.PointerTables.{one-long, two-long, mark-long, left-room, linked-new, linked-same, linked-other, other-less, other-place}
+use Rattle.sir_analyses.proofs.allocation_liveness.PointerTables.{one-long, two-long, mark-long, left-room, linked-new, linked-same, linked-other, other-less, other-place}
 use borrow.Author.Needs.{needs}
 use native.Mathlib.Omega.{arith}
 use Rattle.sir_analyses.proofs.allocation_liveness.link_local_to_alloc.Statement.{statement}

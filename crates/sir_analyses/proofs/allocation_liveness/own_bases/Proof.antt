@@ -3,15 +3,15 @@ use mathlib.Core.Path.{sym, ap, _∙_}
 use Prim.Native.Nat.{_-_, _≤_}
 use native.Mathlib.Omega.{arith}
 use lib.ListN.{length}
-use Rattle.sir_analyses.proofs.Discovery.{OwnedTo, owned-none, owned-more, owned-all, keys-long}
+use Rattle.sir_analyses.proofs.allocation_liveness.Discovery.{OwnedTo, owned-none, owned-more, owned-all, sites-long}
 use Rattle.sir_analyses.proofs.allocation_liveness.own_bases.Statement.{statement}
 use Rattle.sir_analyses.proofs.allocation_liveness.own_bases.Tie as tie
 
 abbrev Inv-loop : tie.InvT-loop
-Inv-loop words keys owners₀ a₀ owners a = (a ≤ length keys) × OwnedTo words owners a
+Inv-loop words sites owners₀ a₀ owners a = (a ≤ length sites) × OwnedTo words owners a
 
 abbrev μ-loop : tie.MeasureT-loop
-μ-loop words keys owners₀ a₀ owners a = length keys - a
+μ-loop words sites owners₀ a₀ owners a = length sites - a
 
 loop-holds : tie.Need-loop-holds Inv-loop μ-loop
 loop-holds c =
@@ -67,7 +67,7 @@ loop-again c =
     let start = at-loop .before .before .before .before in
     let L = at-loop .loop in
     let w = start .args .words .now in
-    (omega arith, owned-more w (start .pre .0) (omega (arith, at-loop-test .loop-test .taken, ap length (start .pre .1 .0), keys-long w)) (at-base-of .base-of .ensures .0) (L .inv .1))
+    (omega arith, owned-more w (start .pre .0) (omega (arith, at-loop-test .loop-test .taken, ap length (start .pre .1 .0), sites-long w)) (at-base-of .base-of .ensures .0) (L .inv .1))
 
 same-length : tie.Need-same-length Inv-loop μ-loop
 same-length c =
@@ -83,7 +83,7 @@ returns c =
     let start = at-loop .before .before .before .before in
     let L = at-loop .loop in
     let w = start .args .words .now in
-    owned-all w (omega (arith, L .inv .0, c .loop-test .left, ap length (start .pre .1 .0), keys-long w)) (L .inv .1)
+    owned-all w (omega (arith, L .inv .0, c .loop-test .left, ap length (start .pre .1 .0), sites-long w)) (L .inv .1)
 
 pub own-bases-spec : {M : Type 1} → statement M
 own-bases-spec =

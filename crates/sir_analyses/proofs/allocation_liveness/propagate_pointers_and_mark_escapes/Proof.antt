@@ -2,9 +2,9 @@
 use mathlib.Core.Path.{refl, sym, _∙_}
 use Prim.Native.Nat.{_+_, _-_}
 use lib.ListN.{length-set}
-use Rattle.sir_analyses.specs.Discovery.{zeros}
-use Rattle.sir_analyses.specs.Stages.{ownersIn, leftIn}
-use Rattle.sir_analyses.proofs.PointerTables.{OnTheWay, way-starts, way-on, way-less, way-ends, left-few, fewer-long, fewer-room, taken-less}
+use Rattle.sir_analyses.specs.inner.Discovery.{zeros}
+use Rattle.sir_analyses.specs.inner.Stages.{ownersIn, leftIn}
+use Rattle.sir_analyses.proofs.allocation_liveness.PointerTables.{OnTheWay, way-starts, way-on, way-less, way-ends, left-few, fewer-long, fewer-room, taken-less}
 use native.Mathlib.Omega.{arith}
 use Rattle.sir_analyses.proofs.allocation_liveness.propagate_pointers_and_mark_escapes.Statement.{statement}
 use Rattle.sir_analyses.proofs.allocation_liveness.propagate_pointers_and_mark_escapes.Tie as tie

@@ -5,15 +5,15 @@ use native.Mathlib.Nat.{zero-add}
 use native.Mathlib.Omega.{arith}
 use lib.ListN.{length}
 use borrow.Author.Tests.{not-true, not-false}
-use Rattle.sir_analyses.proofs.Discovery.{Deciding, bases-start, deciding-next, deciding-stop, deciding-all}
+use Rattle.sir_analyses.proofs.allocation_liveness.Discovery.{Deciding, bases-start, deciding-next, deciding-stop, deciding-all}
 use Rattle.sir_analyses.proofs.allocation_liveness.rule_12.Statement.{statement}
 use Rattle.sir_analyses.proofs.allocation_liveness.rule_12.Tie as tie
 
 abbrev Inv-loop : tie.InvT-loop
-Inv-loop words keys bases₀ a₀ bases a = (a ≤ length keys) × Deciding words bases a
+Inv-loop words sites bases₀ a₀ bases a = (a ≤ length sites) × Deciding words bases a
 
 abbrev μ-loop : tie.MeasureT-loop
-μ-loop words keys bases₀ a₀ bases a = length keys - a
+μ-loop words sites bases₀ a₀ bases a = length sites - a
 
 loop-holds : tie.Need-loop-holds Inv-loop μ-loop
 loop-holds c = let S = c .before .before in

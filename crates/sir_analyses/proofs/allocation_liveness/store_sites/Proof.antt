@@ -2,16 +2,16 @@
 use mathlib.Core.Path.{sym, ap, _∙_}
 use Prim.Native.Nat.{ℕ, _-_, _≤_}
 use lib.ListN.{length, length-replicate}
-use Rattle.sir_analyses.proofs.PointerTables.{SitesTo, sites-none, sites-more, sites-all}
+use Rattle.sir_analyses.proofs.allocation_liveness.PointerTables.{SitesTo, sites-none, sites-more, sites-all}
 use native.Mathlib.Omega.{arith}
 use Rattle.sir_analyses.proofs.allocation_liveness.store_sites.Statement.{statement}
 use Rattle.sir_analyses.proofs.allocation_liveness.store_sites.Tie as tie
 
 abbrev Inv-loop : tie.InvT-loop
-Inv-loop keys pointers₀ a₀ pointers a = (a ≤ length keys) × SitesTo keys pointers a
+Inv-loop sites pointers₀ a₀ pointers a = (a ≤ length sites) × SitesTo sites pointers a
 
 abbrev μ-loop : tie.MeasureT-loop
-μ-loop keys pointers₀ a₀ pointers a = length keys - a
+μ-loop sites pointers₀ a₀ pointers a = length sites - a
 
 cast-pointers : tie.Need-cast-pointers Inv-loop μ-loop
 cast-pointers c = omega (arith, c .pre .0)
@@ -20,7 +20,7 @@ slice-write-pointers : tie.Need-slice-write-pointers Inv-loop μ-loop
 slice-write-pointers c = omega (arith, ap length (c .pre .1), length-replicate {A = ℕ} 2051 0)
 
 loop-holds : tie.Need-loop-holds Inv-loop μ-loop
-loop-holds c = (omega arith, sites-none (c .args .keys .now) (c .args .pointers .now) (c .pre .1))
+loop-holds c = (omega arith, sites-none (c .args .sites .now) (c .args .pointers .now) (c .pre .1))
 
 mul-pointers : tie.Need-mul-pointers Inv-loop μ-loop
 mul-pointers c = omega (arith, c .before .before .pre .0)

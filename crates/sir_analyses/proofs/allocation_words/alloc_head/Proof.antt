@@ -1,7 +1,7 @@
 -- `alloc_head` meets its contract.
 use mathlib.Core.Path.{ap, _∙_}
 use Rattle.sir_analyses.specs.Kinds.{kindWords}
-use Rattle.sir_analyses.proofs.AllocationWords.{head-made}
+use Rattle.sir_analyses.proofs.allocation_answers.AllocationWords.{head-made}
 use borrow.Author.Needs.{needs}
 use Rattle.sir_analyses.proofs.allocation_words.alloc_head.Statement.{statement}
 use Rattle.sir_analyses.proofs.allocation_words.alloc_head.Tie as tie

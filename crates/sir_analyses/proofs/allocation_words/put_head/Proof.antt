@@ -2,8 +2,8 @@
 use native.Mathlib.Omega.{arith}
 use mathlib.Core.Path.{ap}
 use lib.ListN.{length}
-use Rattle.sir_analyses.proofs.AllocationWords.{head-long}
-use Rattle.sir_analyses.proofs.Writing.{puts-as}
+use Rattle.sir_analyses.proofs.allocation_answers.AllocationWords.{head-long}
+use Rattle.sir_analyses.proofs.answers.Writing.{puts-as}
 use borrow.Author.Needs.{needs}
 use Rattle.sir_analyses.proofs.allocation_words.put_head.Statement.{statement}
 use Rattle.sir_analyses.proofs.allocation_words.put_head.Tie as tie

@@ -1,5 +1,5 @@
 -- `put_triple` meets its contract: three words in turn.
-use Rattle.sir_analyses.proofs.Writing.{puts-then}
+use Rattle.sir_analyses.proofs.answers.Writing.{puts-then}
 use borrow.Author.Needs.{needs}
 use Rattle.sir_analyses.proofs.answers.put_triple.Statement.{statement}
 use Rattle.sir_analyses.proofs.answers.put_triple.Tie as tie

@@ -1,5 +1,5 @@
 -- `put_word` meets its contract.
-use Rattle.sir_analyses.proofs.Writing.{puts-none, puts-one}
+use Rattle.sir_analyses.proofs.answers.Writing.{puts-none, puts-one}
 use borrow.Author.Needs.{needs}
 use Rattle.sir_analyses.proofs.answers.put_word.Statement.{statement}
 use Rattle.sir_analyses.proofs.answers.put_word.Tie as tie

@@ -1,7 +1,7 @@
 -- `store` meets its contract: four stores.
 use lib.ListN.{length-set}
 use native.Mathlib.Omega.{arith}
-use Rattle.sir_analyses.proofs.Writing.{four}
+use Rattle.sir_analyses.proofs.answers.Writing.{four}
 use borrow.Author.Needs.{needs}
 use Rattle.sir_analyses.proofs.answers.store.Statement.{statement}
 use Rattle.sir_analyses.proofs.answers.store.Tie as tie

@@ -1,10 +1,8 @@
 -- `words_answer` meets its contract.
-use mathlib.Core.Path.{sym}
+use mathlib.Core.Path.{sym, refl}
 use lib.Seq.{length-take-le}
-use Rattle.sir_analyses.proofs.Calls.{finish-fits}
-use mathlib.Core.Path.{refl}
+use Rattle.sir_analyses.proofs.answers.Calls.{finish-fits, finished}
 use native.Mathlib.Omega.{arith}
-use Rattle.sir_analyses.proofs.Calls.{finished, finish-fits}
 use borrow.Author.Needs.{needs}
 use Rattle.sir_analyses.proofs.answers.words_answer.Statement.{statement}
 use Rattle.sir_analyses.proofs.answers.words_answer.Tie as tie

@@ -1,9 +1,9 @@
 -- `answer` meets its contract.
 use mathlib.Core.Path.{sym, _∙_}
 use Rattle.sir_analyses.specs.Calls.{inWords}
-use Rattle.sir_analyses.specs.Questions.{ownRules, answerWords}
-use Rattle.sir_analyses.proofs.Calls.{call-refused, call-answered}
-use Rattle.sir_analyses.proofs.Asked.{own-as, answered-as}
+use Rattle.sir_analyses.specs.inner.Questions.{ownRules, answerWords}
+use Rattle.sir_analyses.proofs.answers.Calls.{call-refused, call-answered}
+use Rattle.sir_analyses.proofs.questions.Asked.{own-as, answered-as}
 use borrow.Author.Needs.{needs}
 use Rattle.sir_analyses.proofs.ask.answer.Statement.{statement}
 use Rattle.sir_analyses.proofs.ask.answer.Tie as tie

@@ -3,10 +3,10 @@ use mathlib.Core.Path.{_≡_, sym, ap, _∙_}
 use mathlib.Core.List.{List}
 use Prim.Native.Nat.{ℕ}
 use Rattle.sir_analyses.specs.Calls.{call, refusal, inWords}
-use Rattle.sir_analyses.specs.Questions.{ownRules, answerWords}
-use Rattle.sir_analyses.proofs.Calls.{image-refused, image-accepted}
-use Rattle.sir_analyses.proofs.Loads.{front-length}
-use Rattle.sir_analyses.proofs.Proved.{promise}
+use Rattle.sir_analyses.specs.inner.Questions.{ownRules, answerWords}
+use Rattle.sir_analyses.proofs.answers.Calls.{image-refused, image-accepted}
+use Rattle.sir_analyses.proofs.loading.Loads.{front-length}
+use Rattle.sir_analyses.proofs.claims.Proved.{promise}
 use borrow.Author.Needs.{needs}
 use Rattle.sir_analyses.proofs.ask.ask.Statement.{statement}
 use Rattle.sir_analyses.proofs.ask.ask.Tie as tie
@@ -52,19 +52,19 @@ slice-aggregate-answer c =
     let p = at-load .load .ensures .prepared (sym (at-load .load .ensures .number-is) ∙ at-if1 .if1 .left) in
     front-length _ _ (p .words-fit)
 
-array-share-prefix-post : tie.Need-array-share-prefix-post
-array-share-prefix-post c =
+array-share-prefix-postorder : tie.Need-array-share-prefix-postorder
+array-share-prefix-postorder c =
     let at-if1 = c .before in
     let at-load = at-if1 .before .before .before .before .before in
     let p = at-load .load .ensures .prepared (sym (at-load .load .ensures .number-is) ∙ at-if1 .if1 .left) in
-    p .post-fit
+    p .postorder-fit
 
 slice-aggregate-answer-2 : tie.Need-slice-aggregate-answer-2
 slice-aggregate-answer-2 c =
     let at-if1 = c .before .before in
     let at-load = at-if1 .before .before .before .before .before in
     let p = at-load .load .ensures .prepared (sym (at-load .load .ensures .number-is) ∙ at-if1 .if1 .left) in
-    front-length _ _ (p .post-fit)
+    front-length _ _ (p .postorder-fit)
 
 slice-aggregate-answer-3 : tie.Need-slice-aggregate-answer-3
 slice-aggregate-answer-3 c = search needs
@@ -121,7 +121,7 @@ ask-spec =
     returns
     array-share-prefix-words
     slice-aggregate-answer
-    array-share-prefix-post
+    array-share-prefix-postorder
     slice-aggregate-answer-2
     slice-aggregate-answer-3
     array-share-prefix-found

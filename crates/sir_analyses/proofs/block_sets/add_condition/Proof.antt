@@ -2,9 +2,9 @@
 use mathlib.Core.Path.{_≡_, sym, ap, _∙_}
 use mathlib.Core.List.{[], _∷_}
 use Rattle.sir_data.specs.Records.{condition}
-use Rattle.sir_data.specs.Cases.{testedLocals}
+use Rattle.sir_data.specs.inner.Cases.{testedLocals}
 use Rattle.sir_analyses.proofs.Tables.{adds-single, adds-nothing}
-use Rattle.sir_analyses.proofs.BlockSets.{tested-small}
+use Rattle.sir_analyses.proofs.block_sets.BlockSets.{tested-small}
 use native.Mathlib.Omega.{arith}
 use borrow.Author.Needs.{needs}
 use Rattle.sir_analyses.proofs.block_sets.add_condition.Statement.{statement}

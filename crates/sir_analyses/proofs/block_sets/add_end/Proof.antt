@@ -1,6 +1,6 @@
 -- `add_end` meets its contract.
 use Rattle.sir_analyses.proofs.Accepted.{returned-below}
-use Rattle.sir_analyses.proofs.BlockSets.{small, ends-both}
+use Rattle.sir_analyses.proofs.block_sets.BlockSets.{small, ends-both}
 use native.Mathlib.Omega.{arith}
 use borrow.Author.Needs.{needs}
 use Rattle.sir_analyses.proofs.block_sets.add_end.Statement.{statement}

@@ -5,8 +5,9 @@ use lib.ListN.{length, getD, take}
 use lib.Dec.{eqb}
 use Rattle.plank_core.specs.Lists.{mem}
 use Rattle.plank_core.specs.laws.Lists.{getD-mem}
-use Rattle.sir_analyses.specs.Tables.{Adds}
-use Rattle.sir_analyses.proofs.Tables.{adds-as, adds-then, adds-none, adds-one, and-next, and-all}
+use Rattle.sir_analyses.specs.inner.Tables.{Adds}
+use Rattle.sir_analyses.proofs.Tables.{adds-as, adds-then, adds-none, adds-one}
+use Rattle.plank_core.specs.laws.Prefixes.{and-next, and-all}
 use native.Mathlib.Omega.{arith}
 use Rattle.sir_analyses.proofs.block_sets.add_run.Statement.{statement}
 use Rattle.sir_analyses.proofs.block_sets.add_run.Tie as tie

@@ -6,8 +6,9 @@ use lib.Dec.{eqb}
 use Rattle.plank_core.specs.Lists.{mem}
 use Rattle.plank_core.specs.laws.Lists.{getD-mem}
 use Rattle.sir_data.specs.Records.{successors}
-use Rattle.sir_analyses.specs.Tables.{Adds}
-use Rattle.sir_analyses.proofs.Tables.{adds-as, adds-then, adds-none, adds-one, and-next, and-all}
+use Rattle.sir_analyses.specs.inner.Tables.{Adds}
+use Rattle.sir_analyses.proofs.Tables.{adds-as, adds-then, adds-none, adds-one}
+use Rattle.plank_core.specs.laws.Prefixes.{and-next, and-all}
 use borrow.Author.Needs.{needs}
 use native.Mathlib.Omega.{arith}
 use Rattle.sir_analyses.proofs.block_sets.add_to_successors.Statement.{statement}

@@ -2,9 +2,9 @@
 use mathlib.Core.Path.{ap, _∙_}
 use lib.ListN.{length}
 use Rattle.plank_core.specs.laws.DenseIndexSet.{length-row}
-use Rattle.sir_analyses.proofs.Parts.{length-part, putBack}
-use Rattle.sir_analyses.proofs.LivenessTables.{used-long, block-added}
-use Rattle.sir_analyses.specs.Stages.{part}
+use Rattle.sir_analyses.proofs.stages.Parts.{length-part, putBack}
+use Rattle.sir_analyses.proofs.local_liveness.LivenessTables.{used-long, block-added}
+use Rattle.sir_analyses.specs.inner.Stages.{part}
 use borrow.Author.Needs.{needs}
 use native.Mathlib.Omega.{arith}
 use Rattle.sir_analyses.proofs.block_sets.block_rows.Statement.{statement}

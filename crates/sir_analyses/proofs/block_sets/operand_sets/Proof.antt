@@ -4,10 +4,10 @@ use Prim.Native.Nat.{_-_, _≤_, _<_}
 use native.Mathlib.Numerals.{add-one}
 use Rattle.sir_data.specs.Records.{operations}
 use Rattle.sir_analyses.proofs.Tables.{cleared-long}
-use Rattle.sir_analyses.proofs.Parts.{length-part, putBack}
-use Rattle.sir_analyses.proofs.LivenessTables.{OperandsTo, operands-none, operands-mid, operands-more, operands-all}
-use Rattle.sir_analyses.proofs.BlockSets.{small}
-use Rattle.sir_analyses.specs.Stages.{part}
+use Rattle.sir_analyses.proofs.stages.Parts.{length-part, putBack}
+use Rattle.sir_analyses.proofs.local_liveness.LivenessTables.{OperandsTo, operands-none, operands-mid, operands-more, operands-all}
+use Rattle.sir_analyses.proofs.block_sets.BlockSets.{small}
+use Rattle.sir_analyses.specs.inner.Stages.{part}
 use borrow.Author.Needs.{needs}
 use native.Mathlib.Omega.{arith}
 use Rattle.sir_analyses.proofs.block_sets.operand_sets.Statement.{statement}

@@ -9,9 +9,10 @@ use borrow.Author.Tests.{le-ltb}
 use Rattle.plank_core.specs.Lists.{mem}
 use Rattle.sir_data.specs.Records.{blocks, successors}
 use Rattle.sir_analyses.specs.Order.{isVisited}
-use Rattle.sir_analyses.specs.Tables.{Rows, Adds}
-use Rattle.sir_analyses.proofs.Tables.{adds-as, adds-none, below-more, cleared-long, cleared-row}
-use Rattle.sir_analyses.proofs.BlockSets.{pred-test}
+use Rattle.sir_analyses.specs.inner.Tables.{Rows, Adds}
+use Rattle.sir_analyses.proofs.Tables.{adds-as, adds-none, cleared-long, cleared-row}
+use Rattle.plank_core.specs.laws.Prefixes.{below-more}
+use Rattle.sir_analyses.proofs.block_sets.BlockSets.{pred-test}
 use native.Mathlib.Omega.{arith}
 use Rattle.sir_analyses.proofs.block_sets.predecessor_sets.Statement.{statement}
 use Rattle.sir_analyses.proofs.block_sets.predecessor_sets.Tie as tie

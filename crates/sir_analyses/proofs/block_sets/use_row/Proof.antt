@@ -2,7 +2,7 @@
 use mathlib.Core.Path.{ap, _∙_}
 use lib.ListN.{length}
 use Rattle.plank_core.specs.laws.DenseIndexSet.{length-row}
-use Rattle.sir_analyses.proofs.BlockSets.{row-used}
+use Rattle.sir_analyses.proofs.block_sets.BlockSets.{row-used}
 use borrow.Author.Needs.{needs}
 use native.Mathlib.Omega.{arith}
 use Rattle.sir_analyses.proofs.block_sets.use_row.Statement.{statement}

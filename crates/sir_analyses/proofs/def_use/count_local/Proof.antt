@@ -4,7 +4,7 @@ use Prim.Native.Nat.{_+_, _-_, _≤_}
 use native.Mathlib.Omega.{arith}
 use lib.ListN.{length, drop}
 use Rattle.sir_analyses.specs.Liveness.{positions}
-use Rattle.sir_analyses.proofs.UseWords.{place-here, place-other, places-end}
+use Rattle.sir_analyses.proofs.def_use.UseWords.{place-here, place-other, places-end}
 use Rattle.sir_analyses.proofs.def_use.count_local.Statement.{statement}
 use Rattle.sir_analyses.proofs.def_use.count_local.Tie as tie
 

@@ -9,7 +9,7 @@ use lib.Seq.{getD-set-same, getD-set-other}
 use Rattle.plank_core.specs.laws.Lists.{below-next}
 use Rattle.sir_data.specs.Records.{operations, ins}
 use Rattle.sir_analyses.specs.Liveness.{positions}
-use Rattle.sir_analyses.proofs.UseWords.{inputs-most}
+use Rattle.sir_analyses.proofs.def_use.UseWords.{inputs-most}
 use Rattle.sir_analyses.proofs.def_use.input_counts.Statement.{statement}
 use Rattle.sir_analyses.proofs.def_use.input_counts.Tie as tie
 

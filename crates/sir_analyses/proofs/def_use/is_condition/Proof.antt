@@ -4,7 +4,7 @@ use mathlib.Core.Bool.{or-false}
 use mathlib.Core.List.{[], _∷_}
 use Rattle.plank_core.specs.Lists.{mem}
 use Rattle.sir_data.specs.Records.{condition}
-use Rattle.sir_data.specs.Cases.{testedLocals}
+use Rattle.sir_data.specs.inner.Cases.{testedLocals}
 use borrow.Author.Needs.{needs}
 use Rattle.sir_analyses.proofs.def_use.is_condition.Statement.{statement}
 use Rattle.sir_analyses.proofs.def_use.is_condition.Tie as tie

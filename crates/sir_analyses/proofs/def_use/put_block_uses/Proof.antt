@@ -4,8 +4,8 @@ use mathlib.Core.List.{_++_}
 use Prim.Native.Nat.{ℕ, _+_}
 use native.Mathlib.Omega.{arith}
 use lib.ListN.{length, length-append}
-use Rattle.sir_analyses.specs.Uses.{operationUses, conditionUses, outputUses, blockUses}
-use Rattle.sir_analyses.proofs.Writing.{puts-then}
+use Rattle.sir_analyses.specs.inner.Uses.{operationUses, conditionUses, outputUses, blockUses}
+use Rattle.sir_analyses.proofs.answers.Writing.{puts-then}
 use borrow.Author.Needs.{needs}
 use Rattle.sir_analyses.proofs.def_use.put_block_uses.Statement.{statement}
 use Rattle.sir_analyses.proofs.def_use.put_block_uses.Tie as tie

@@ -1,7 +1,7 @@
 -- `put_condition_use` meets its contract.
 use mathlib.Core.Path.{sym, _∙_}
-use Rattle.sir_analyses.proofs.Writing.{puts-as, puts-nothing}
-use Rattle.sir_analyses.proofs.UseWords.{condition-use, no-condition-use}
+use Rattle.sir_analyses.proofs.answers.Writing.{puts-as, puts-nothing}
+use Rattle.sir_analyses.proofs.def_use.UseWords.{condition-use, no-condition-use}
 use borrow.Author.Needs.{needs}
 use Rattle.sir_analyses.proofs.def_use.put_condition_use.Statement.{statement}
 use Rattle.sir_analyses.proofs.def_use.put_condition_use.Tie as tie

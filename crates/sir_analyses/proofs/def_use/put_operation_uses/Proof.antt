@@ -4,9 +4,9 @@ use Prim.Native.Nat.{_+_, _-_, _^_, _<_}
 use native.Mathlib.Omega.{arith}
 use lib.ListN.{length, getD}
 use Rattle.sir_data.specs.Records.{operations}
-use Rattle.sir_analyses.specs.Uses.{sameUses}
-use Rattle.sir_analyses.proofs.Writing.{Putting, putting-none, putting-as, putting-count, putting-more, putting-all, puts-as}
-use Rattle.sir_analyses.proofs.UseWords.{operationsLeft, operation-next, operation-end, same-uses-length, span-is}
+use Rattle.sir_analyses.specs.inner.Uses.{repeatedUses}
+use Rattle.sir_analyses.proofs.answers.Writing.{Putting, putting-none, putting-as, putting-count, putting-more, putting-all, puts-as}
+use Rattle.sir_analyses.proofs.def_use.UseWords.{operationsLeft, operation-next, operation-end, repeated-uses-length, span-is}
 use borrow.Author.Needs.{needs}
 use Rattle.sir_analyses.proofs.def_use.put_operation_uses.Statement.{statement}
 use Rattle.sir_analyses.proofs.def_use.put_operation_uses.Tie as tie
@@ -23,8 +23,8 @@ operations-requires c κs = search needs
 loop-holds : tie.Need-loop-holds Inv-loop μ-loop
 loop-holds c = putting-none
 
-cast-put-same : tie.Need-cast-put-same Inv-loop μ-loop
-cast-put-same c =
+cast-put-repeated : tie.Need-cast-put-repeated Inv-loop μ-loop
+cast-put-repeated c =
     let at-loop-test = c .before in
     let at-loop = at-loop-test .before in
     let at-operations = at-loop .before in
@@ -35,8 +35,8 @@ cast-put-same c =
     let m = start .pre .0 .sized .operations-most in
     omega (arith, start .pre .1 .0 .1)
 
-mul-put-same : tie.Need-mul-put-same Inv-loop μ-loop
-mul-put-same c =
+mul-put-repeated : tie.Need-mul-put-repeated Inv-loop μ-loop
+mul-put-repeated c =
     let at-loop-test = c .before in
     let at-loop = at-loop-test .before in
     let at-operations = at-loop .before in
@@ -47,8 +47,8 @@ mul-put-same c =
     let m = start .pre .0 .sized .operations-most in
     omega (arith, start .pre .1 .0 .1)
 
-shared-slice-read-put-same : tie.Need-shared-slice-read-put-same Inv-loop μ-loop
-shared-slice-read-put-same c =
+shared-slice-read-put-repeated : tie.Need-shared-slice-read-put-repeated Inv-loop μ-loop
+shared-slice-read-put-repeated c =
     let at-loop-test = c .before .before in
     let at-loop = at-loop-test .before in
     let at-operations = at-loop .before in
@@ -59,16 +59,16 @@ shared-slice-read-put-same c =
     let m = start .pre .0 .sized .operations-most in
     omega (arith, start .pre .1 .0 .1)
 
-put-same-requires : tie.Need-put-same-requires Inv-loop μ-loop
-put-same-requires c κs =
+put-repeated-requires : tie.Need-put-repeated-requires Inv-loop μ-loop
+put-repeated-requires c κs =
     let at-loop-test = c .before .before in
     let at-loop = at-loop-test .before in
     let at-operations = at-loop .before in
     let start = at-operations .before .before .before .before in
     let L = at-loop .loop in
     let e = operation-next (start .args .words .now) (start .args .counts .now) (start .args .b .0) (L .o) (at-operations .operations .result .end) (at-loop-test .loop-test .taken) in
-    let q = putting-count (sameUses (start .args .b .0) (L .o) (getD (start .args .counts .now) (L .o) 0)) (operationsLeft (start .args .words .now) (start .args .counts .now) (start .args .b .0) (L .o + 1) (at-operations .operations .result .end)) {k = 2 ^ 59} (omega (arith, ap length (span-is (start .args .words .now) (start .args .counts .now) (start .args .b .0) _ _ (at-operations .operations .ensures .0) (at-operations .operations .ensures .1)), start .pre .1 .1)) (putting-as e (L .inv)) in
-    omega (arith, q, same-uses-length (start .args .b .0) (L .o) (getD (start .args .counts .now) (L .o) 0))
+    let q = putting-count (repeatedUses (start .args .b .0) (L .o) (getD (start .args .counts .now) (L .o) 0)) (operationsLeft (start .args .words .now) (start .args .counts .now) (start .args .b .0) (L .o + 1) (at-operations .operations .result .end)) {k = 2 ^ 59} (omega (arith, ap length (span-is (start .args .words .now) (start .args .counts .now) (start .args .b .0) _ _ (at-operations .operations .ensures .0) (at-operations .operations .ensures .1)), start .pre .1 .1)) (putting-as e (L .inv)) in
+    omega (arith, q, repeated-uses-length (start .args .b .0) (L .o) (getD (start .args .counts .now) (L .o) 0))
 
 add-o : tie.Need-add-o Inv-loop μ-loop
 add-o c =
@@ -87,14 +87,14 @@ loop-less c = omega arith
 
 loop-again : tie.Need-loop-again Inv-loop μ-loop
 loop-again c =
-    let at-put-same = c .before .before in
-    let at-loop-test = at-put-same .before .before .before in
+    let at-put-repeated = c .before .before in
+    let at-loop-test = at-put-repeated .before .before .before in
     let at-loop = at-loop-test .before in
     let at-operations = at-loop .before in
     let start = at-operations .before .before .before .before in
     let L = at-loop .loop in
     let e = operation-next (start .args .words .now) (start .args .counts .now) (start .args .b .0) (L .o) (at-operations .operations .result .end) (at-loop-test .loop-test .taken) in
-    putting-more (putting-as e (L .inv)) (at-put-same .put-same .ensures)
+    putting-more (putting-as e (L .inv)) (at-put-repeated .put-repeated .ensures)
 
 same-length : tie.Need-same-length Inv-loop μ-loop
 same-length c = c .before .loop .inv .long
@@ -115,10 +115,10 @@ put-operation-uses-spec =
     μ-loop
     operations-requires
     loop-holds
-    cast-put-same
-    mul-put-same
-    shared-slice-read-put-same
-    put-same-requires
+    cast-put-repeated
+    mul-put-repeated
+    shared-slice-read-put-repeated
+    put-repeated-requires
     add-o
     loop-less
     loop-again

@@ -5,9 +5,9 @@ use Prim.Native.Nat.{ℕ, _+_, _-_, _≤_, _<_}
 use native.Mathlib.Omega.{arith}
 use lib.ListN.{length, getD}
 use Rattle.sir_data.specs.Records.{outputs}
-use Rattle.sir_analyses.specs.Uses.{outputUses}
-use Rattle.sir_analyses.proofs.Writing.{Putting, putting-none, putting-as, putting-count, putting-more, putting-all}
-use Rattle.sir_analyses.proofs.UseWords.{outputsLeft, output-here, output-other, output-end, outputs-most}
+use Rattle.sir_analyses.specs.inner.Uses.{outputUses}
+use Rattle.sir_analyses.proofs.answers.Writing.{Putting, putting-none, putting-as, putting-count, putting-more, putting-all}
+use Rattle.sir_analyses.proofs.def_use.UseWords.{outputsLeft, output-here, output-other, output-end, outputs-most}
 use borrow.Author.Needs.{needs}
 use Rattle.sir_analyses.proofs.def_use.put_output_uses.Statement.{statement}
 use Rattle.sir_analyses.proofs.def_use.put_output_uses.Tie as tie

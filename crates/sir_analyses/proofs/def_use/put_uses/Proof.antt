@@ -6,10 +6,10 @@ use native.Mathlib.Omega.{arith}
 use lib.ListN.{length, getD, drop}
 use Rattle.plank_core.specs.Lists.{bind}
 use Rattle.plank_core.specs.laws.Lists.{getD-mem}
-use Rattle.sir_analyses.specs.Uses.{blockUses, usesOf}
-use Rattle.sir_analyses.proofs.Keys.{rpo-below}
-use Rattle.sir_analyses.proofs.Writing.{Putting, putting-none, putting-as, putting-count, putting-more, putting-all}
-use Rattle.sir_analyses.proofs.UseWords.{block-next, block-end}
+use Rattle.sir_analyses.specs.inner.Uses.{blockUses, usesOf}
+use Rattle.sir_analyses.proofs.claims.order.OrderLength.{rpo-below}
+use Rattle.sir_analyses.proofs.answers.Writing.{Putting, putting-none, putting-as, putting-count, putting-more, putting-all}
+use Rattle.sir_analyses.proofs.def_use.UseWords.{block-next, block-end}
 use Rattle.sir_analyses.proofs.def_use.put_uses.Statement.{statement}
 use Rattle.sir_analyses.proofs.def_use.put_uses.Tie as tie
 

@@ -6,7 +6,7 @@ use Rattle.plank_core.specs.Lists.{bind}
 use Rattle.sir_data.specs.Pages.{bytesOf}
 use Rattle.sir_analyses.specs.Calls.{answered}
 use borrow.Author.Tests.{not-true, not-false}
-use Rattle.sir_analyses.proofs.SetAnswers.{no-entry}
+use Rattle.sir_analyses.proofs.live_answers.SetAnswers.{no-entry}
 use borrow.Author.Needs.{needs}
 use native.Mathlib.Omega.{arith}
 use Rattle.sir_analyses.proofs.live_answers.entry_answer.Statement.{statement}
@@ -34,8 +34,8 @@ returns c =
     let start = at-is-visited .before .before .before .before .before in
     at-set-answer .set-answer .ensures ∙ ap (λ (l : List ℕ). answered (bind l bytesOf) (start .args .out .now)) (no-entry (start .args .words .now) (start .args .b .0) (sym (start .pre .0 .visited-is (start .args .b .0) (start .pre .1 .1)) ∙ sym (at-is-visited .is-visited .ensures) ∙ not-true _ (at-if1 .if1 .taken)))
 
-entry-requires : tie.Need-entry-requires
-entry-requires c κs =
+compute-liveness-at-block-entry-requires : tie.Need-compute-liveness-at-block-entry-requires
+compute-liveness-at-block-entry-requires c κs =
     let at-shared-slice-known = c .before .before .before .before .before in
     let start = at-shared-slice-known .before in
     (start .pre .1 .0 .long, omega (arith, start .pre .1 .1, start .pre .0 .well-formed .sized .blocks-most))
@@ -49,11 +49,11 @@ same-length-2 c = search needs
 returns-2 : tie.Need-returns-2
 returns-2 c =
     let at-set-answer2 = c .before .before in
-    let at-entry = at-set-answer2 .before .before .before .before .before in
-    let at-if1 = at-entry .before in
+    let at-compute-liveness-at-block-entry = at-set-answer2 .before .before .before .before .before in
+    let at-if1 = at-compute-liveness-at-block-entry .before in
     let at-is-visited = at-if1 .before in
     let start = at-is-visited .before .before .before .before .before in
-    at-set-answer2 .set-answer2 .ensures ∙ ap (λ (l : List ℕ). answered (bind l bytesOf) (start .args .out .now)) (start .pre .1 .0 .sets .entry-is (start .args .b .0) (start .pre .1 .1) (sym (start .pre .0 .visited-is (start .args .b .0) (start .pre .1 .1)) ∙ sym (at-is-visited .is-visited .ensures) ∙ not-false _ (at-if1 .if1 .left)) (at-entry .entry .result .words) (at-entry .entry .ensures .1))
+    at-set-answer2 .set-answer2 .ensures ∙ ap (λ (l : List ℕ). answered (bind l bytesOf) (start .args .out .now)) (start .pre .1 .0 .sets .entry-is (start .args .b .0) (start .pre .1 .1) (sym (start .pre .0 .visited-is (start .args .b .0) (start .pre .1 .1)) ∙ sym (at-is-visited .is-visited .ensures) ∙ not-false _ (at-if1 .if1 .left)) (at-compute-liveness-at-block-entry .compute-liveness-at-block-entry .result .words) (at-compute-liveness-at-block-entry .compute-liveness-at-block-entry .ensures .1))
 
 pub entry-answer-spec : {M : Type 1} → statement M
 entry-answer-spec =
@@ -64,7 +64,7 @@ entry-answer-spec =
     set-answer-requires
     same-length
     returns
-    entry-requires
+    compute-liveness-at-block-entry-requires
     set-answer-requires-2
     same-length-2
     returns-2)

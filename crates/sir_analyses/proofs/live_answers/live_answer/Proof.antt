@@ -8,19 +8,19 @@ use Rattle.sir_data.specs.Pages.{bytesOf}
 use Rattle.sir_data.specs.Records.{blocks, locals}
 use Rattle.sir_analyses.specs.Calls.{answered}
 use Rattle.sir_analyses.specs.declared.questions.Question.{Question}
-use Rattle.sir_analyses.proofs.Calls.{known-below}
-use Rattle.sir_analyses.proofs.Asked.{own-as, answered-as}
-use Rattle.sir_analyses.proofs.SetAnswers.{row-answer}
+use Rattle.sir_analyses.proofs.answers.Calls.{known-below}
+use Rattle.sir_analyses.proofs.questions.Asked.{own-as, answered-as}
+use Rattle.sir_analyses.proofs.live_answers.SetAnswers.{row-answer}
 use lib.ListN.{length}
 use borrow.Author.Needs.{needs}
 use Rattle.sir_analyses.proofs.live_answers.live_answer.Statement.{statement}
 use Rattle.sir_analyses.proofs.live_answers.live_answer.Tie as tie
 
-slice-aggregate-live-sets : tie.Need-slice-aggregate-live-sets
-slice-aggregate-live-sets c = search needs
+slice-aggregate-compute-liveness : tie.Need-slice-aggregate-compute-liveness
+slice-aggregate-compute-liveness c = search needs
 
-live-sets-requires : tie.Need-live-sets-requires
-live-sets-requires c κs =
+compute-liveness-requires : tie.Need-compute-liveness-requires
+compute-liveness-requires c κs =
     let start = c .before .before .before .before in
     (start .pre .0, refl)
 
@@ -33,9 +33,9 @@ slice-aggregate-entry-answer c = search needs
 entry-answer-requires : tie.Need-entry-answer-requires
 entry-answer-requires c κs =
     let at-question = c .before .before .before in
-    let at-live-sets = at-question .before .before .before in
-    let start = at-live-sets .before .before .before .before .before in
-    (start .pre .0, (at-live-sets .live-sets .ensures .1, known-below blocks _ (start .args .words .now) (own-as Question.OfLiveness (start .args .words .now) (at-question .question .given .1) (start .pre .1))))
+    let at-compute-liveness = at-question .before .before .before in
+    let start = at-compute-liveness .before .before .before .before .before in
+    (start .pre .0, (at-compute-liveness .compute-liveness .ensures .1, known-below blocks _ (start .args .words .now) (own-as Question.OfLiveness (start .args .words .now) (at-question .question .given .1) (start .pre .1))))
 
 enum-known-question-2 : tie.Need-enum-known-question-2
 enum-known-question-2 c = search needs
@@ -45,8 +45,8 @@ slice-aggregate-exits c = search needs
 
 exits-requires : tie.Need-exits-requires
 exits-requires c κs =
-    let at-live-sets = c .before .before .before .before .before in
-    at-live-sets .live-sets .ensures .1 .long
+    let at-compute-liveness = c .before .before .before .before .before in
+    at-compute-liveness .compute-liveness .ensures .1 .long
 
 cast-row-of : tie.Need-cast-row-of
 cast-row-of c = search needs
@@ -55,18 +55,18 @@ row-of-requires : tie.Need-row-of-requires
 row-of-requires c κs =
     let at-exits = c .before in
     let at-question2 = at-exits .before .before .before in
-    let at-live-sets = at-question2 .before .before .before in
-    let start = at-live-sets .before .before .before .before .before in
-    omega (arith, known-below blocks _ (start .args .words .now) (own-as Question.OfLiveness (start .args .words .now) (at-question2 .question2 .given .1) (start .pre .1)), ap length (at-exits .exits .ensures) ∙ at-live-sets .live-sets .ensures .1 .sets .exits-long, start .pre .0 .well-formed .sized .blocks-most)
+    let at-compute-liveness = at-question2 .before .before .before in
+    let start = at-compute-liveness .before .before .before .before .before in
+    omega (arith, known-below blocks _ (start .args .words .now) (own-as Question.OfLiveness (start .args .words .now) (at-question2 .question2 .given .1) (start .pre .1)), ap length (at-exits .exits .ensures) ∙ at-compute-liveness .compute-liveness .ensures .1 .sets .exits-long, start .pre .0 .well-formed .sized .blocks-most)
 
 set-answer-requires : tie.Need-set-answer-requires
 set-answer-requires c κs =
     let at-row-of = c .before in
     let at-exits = at-row-of .before .before in
     let at-question2 = at-exits .before .before .before in
-    let at-live-sets = at-question2 .before .before .before in
-    let start = at-live-sets .before .before .before .before .before in
-    row-answer (start .pre .0 .well-formed) (at-live-sets .live-sets .ensures .1 .sets) (known-below blocks _ (start .args .words .now) (own-as Question.OfLiveness (start .args .words .now) (at-question2 .question2 .given .1) (start .pre .1))) (rw (at-exits .exits .ensures) at (at-row-of .row-of .ensures)) .0
+    let at-compute-liveness = at-question2 .before .before .before in
+    let start = at-compute-liveness .before .before .before .before .before in
+    row-answer (start .pre .0 .well-formed) (at-compute-liveness .compute-liveness .ensures .1 .sets) (known-below blocks _ (start .args .words .now) (own-as Question.OfLiveness (start .args .words .now) (at-question2 .question2 .given .1) (start .pre .1))) (rw (at-exits .exits .ensures) at (at-row-of .row-of .ensures)) .0
 
 enum-known-question-3 : tie.Need-enum-known-question-3
 enum-known-question-3 c = search needs
@@ -77,9 +77,9 @@ slice-aggregate-intervals-answer c = search needs
 intervals-answer-requires : tie.Need-intervals-answer-requires
 intervals-answer-requires c κs =
     let at-question3 = c .before .before .before in
-    let at-live-sets = at-question3 .before .before .before in
-    let start = at-live-sets .before .before .before .before .before in
-    (start .pre .0, (at-live-sets .live-sets .ensures .1, known-below locals _ (start .args .words .now) (own-as Question.OfLiveness (start .args .words .now) (at-question3 .question3 .given .1) (start .pre .1))))
+    let at-compute-liveness = at-question3 .before .before .before in
+    let start = at-compute-liveness .before .before .before .before .before in
+    (start .pre .0, (at-compute-liveness .compute-liveness .ensures .1, known-below locals _ (start .args .words .now) (own-as Question.OfLiveness (start .args .words .now) (at-question3 .question3 .given .1) (start .pre .1))))
 
 enum-told : tie.Need-enum-told
 enum-told c = search needs
@@ -98,9 +98,9 @@ slice-aggregate-all-entry-sets-answer c = search needs
 
 all-entry-sets-answer-requires : tie.Need-all-entry-sets-answer-requires
 all-entry-sets-answer-requires c κs =
-    let at-live-sets = c .before .before .before .before .before in
-    let start = at-live-sets .before .before .before .before .before in
-    (start .pre .0, at-live-sets .live-sets .ensures .1)
+    let at-compute-liveness = c .before .before .before .before .before in
+    let start = at-compute-liveness .before .before .before .before .before in
+    (start .pre .0, at-compute-liveness .compute-liveness .ensures .1)
 
 enum-told-3 : tie.Need-enum-told-3
 enum-told-3 c = search needs
@@ -110,8 +110,8 @@ slice-aggregate-all-exit-sets-answer c = search needs
 
 all-exit-sets-answer-requires : tie.Need-all-exit-sets-answer-requires
 all-exit-sets-answer-requires c κs =
-    let at-live-sets = c .before .before .before .before .before in
-    at-live-sets .live-sets .ensures .1
+    let at-compute-liveness = c .before .before .before .before .before in
+    at-compute-liveness .compute-liveness .ensures .1
 
 enum-told-4 : tie.Need-enum-told-4
 enum-told-4 c = search needs
@@ -121,9 +121,9 @@ slice-aggregate-all-intervals-answer c = search needs
 
 all-intervals-answer-requires : tie.Need-all-intervals-answer-requires
 all-intervals-answer-requires c κs =
-    let at-live-sets = c .before .before .before .before .before in
-    let start = at-live-sets .before .before .before .before .before in
-    (start .pre .0, at-live-sets .live-sets .ensures .1)
+    let at-compute-liveness = c .before .before .before .before .before in
+    let start = at-compute-liveness .before .before .before .before .before in
+    (start .pre .0, at-compute-liveness .compute-liveness .ensures .1)
 
 same-length : tie.Need-same-length
 same-length c = search needs
@@ -146,10 +146,10 @@ returns-2 c =
     let at-row-of = at-set-answer .before .before in
     let at-exits = at-row-of .before .before in
     let at-question2 = at-exits .before .before .before in
-    let at-live-sets = at-question2 .before .before .before in
-    let start = at-live-sets .before .before .before .before .before in
+    let at-compute-liveness = at-question2 .before .before .before in
+    let start = at-compute-liveness .before .before .before .before .before in
     let a = start .args in
-    at-set-answer .set-answer .ensures ∙ ap (λ (l : List ℕ). answered (bind l bytesOf) (a .out .now)) (row-answer (start .pre .0 .well-formed) (at-live-sets .live-sets .ensures .1 .sets) (known-below blocks _ (start .args .words .now) (own-as Question.OfLiveness (start .args .words .now) (at-question2 .question2 .given .1) (start .pre .1))) (rw (at-exits .exits .ensures) at (at-row-of .row-of .ensures)) .1) ∙ answered-as Question.OfLiveness (a .words .now) (at-question2 .question2 .given .1) (a .out .now)
+    at-set-answer .set-answer .ensures ∙ ap (λ (l : List ℕ). answered (bind l bytesOf) (a .out .now)) (row-answer (start .pre .0 .well-formed) (at-compute-liveness .compute-liveness .ensures .1 .sets) (known-below blocks _ (start .args .words .now) (own-as Question.OfLiveness (start .args .words .now) (at-question2 .question2 .given .1) (start .pre .1))) (rw (at-exits .exits .ensures) at (at-row-of .row-of .ensures)) .1) ∙ answered-as Question.OfLiveness (a .words .now) (at-question2 .question2 .given .1) (a .out .now)
 
 same-length-3 : tie.Need-same-length-3
 same-length-3 c = search needs
@@ -170,10 +170,10 @@ returns-4 : tie.Need-returns-4
 returns-4 c =
     let at-words-answer = c .before .before in
     let at-enum-told = at-words-answer .before .before .before in
-    let at-live-sets = at-enum-told .before .before .before in
-    let start = at-live-sets .before .before .before .before .before in
+    let at-compute-liveness = at-enum-told .before .before .before in
+    let start = at-compute-liveness .before .before .before .before .before in
     let a = start .args in
-    at-words-answer .words-answer .ensures ∙ ap (λ (n : ℕ). answered (bind (n ∷ []) bytesOf) (a .out .now)) (at-live-sets .live-sets .ensures .0) ∙ answered-as Question.OfLiveness (a .words .now) (at-enum-told .enum-told .given .1) (a .out .now)
+    at-words-answer .words-answer .ensures ∙ ap (λ (n : ℕ). answered (bind (n ∷ []) bytesOf) (a .out .now)) (at-compute-liveness .compute-liveness .ensures .0) ∙ answered-as Question.OfLiveness (a .words .now) (at-enum-told .enum-told .given .1) (a .out .now)
 
 same-length-5 : tie.Need-same-length-5
 same-length-5 c = search needs
@@ -215,8 +215,8 @@ pub live-answer-spec : {M : Type 1} → statement M
 live-answer-spec =
     tie.close
     (tie.spec
-    slice-aggregate-live-sets
-    live-sets-requires
+    slice-aggregate-compute-liveness
+    compute-liveness-requires
     enum-known-question
     slice-aggregate-entry-answer
     entry-answer-requires

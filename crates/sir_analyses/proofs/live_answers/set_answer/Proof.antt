@@ -8,8 +8,8 @@ use Rattle.plank_core.specs.Lists.{bind}
 use Rattle.plank_core.specs.laws.Members.{members-most}
 use Rattle.sir_data.specs.Pages.{bytesOf}
 use Rattle.sir_analyses.specs.Calls.{answered}
-use Rattle.sir_analyses.proofs.SetAnswers.{front-members}
-use Rattle.sir_analyses.proofs.Loads.{front-length}
+use Rattle.sir_analyses.proofs.live_answers.SetAnswers.{front-members}
+use Rattle.sir_analyses.proofs.loading.Loads.{front-length}
 use borrow.Author.Needs.{needs}
 use Rattle.sir_analyses.proofs.live_answers.set_answer.Statement.{statement}
 use Rattle.sir_analyses.proofs.live_answers.set_answer.Tie as tie

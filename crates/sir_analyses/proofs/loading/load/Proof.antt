@@ -3,8 +3,8 @@ use mathlib.Core.Path.{_≡_, sym, ap, _∙_}
 use Prim.Native.Nat.{ℕ}
 use native.Mathlib.Omega.{arith}
 use lib.ListN.{length}
-use Rattle.sir_analyses.proofs.Keys.{capped-fits}
-use Rattle.sir_analyses.proofs.Loads.{refused-early, words-fit, front-is, front-good, refused-last, refused-never, front-length, found-over, accepted-stage}
+use Rattle.sir_analyses.proofs.Listing.{capped-fits}
+use Rattle.sir_analyses.proofs.loading.Loads.{refused-early, words-fit, front-is, front-good, refused-last, refused-never, front-length, found-over, accepted-stage}
 use borrow.Author.Needs.{needs}
 use Rattle.sir_analyses.proofs.loading.load.Statement.{statement}
 use Rattle.sir_analyses.proofs.loading.load.Tie as tie
@@ -96,8 +96,8 @@ returns-2 c =
 slice-reshare-prefix-rule-12 : tie.Need-slice-reshare-prefix-rule-12
 slice-reshare-prefix-rule-12 c =
     let at-find-allocations-arg2 = c .before .before .before .before .before in
-    let at-post = at-find-allocations-arg2 .before .before .before .before .before in
-    let at-if1 = at-post .before .before .before .before .before in
+    let at-postorder = at-find-allocations-arg2 .before .before .before .before .before in
+    let at-if1 = at-postorder .before .before .before .before .before in
     let at-read-image = at-if1 .before .before .before in
     words-fit (at-read-image .read-image .ensures) (at-if1 .if1 .left)
 
@@ -185,7 +185,7 @@ returns-4 c =
       prepared = λ q. record {
         words-fit = words-fit r z;
         words-are = front-is r z;
-        post-fit = at-compute-visit .compute-visit .ensures .0;
+        postorder-fit = at-compute-visit .compute-visit .ensures .0;
         sites-fit = omega (arith, at-if2 .if2 .left);
         order-stage = at-compute-visit .compute-visit .ensures .1;
         visit-stage = at-compute-visit .compute-visit .ensures .2;

@@ -1,12 +1,12 @@
 -- `block_intervals` meets its contract. The invariant: the operations from o on are done, and their intervals written.
-use Rattle.sir_analyses.specs.Stages.{readsIn, writesIn}
+use Rattle.sir_analyses.specs.inner.Stages.{readsIn, writesIn}
 use mathlib.Core.Path.{_≡_, refl, ap₂}
 use Prim.Native.Nat.{_+_, _-_, _*_, _≤_, _<_}
 use lib.ListN.{length}
 use Rattle.plank_core.specs.Lists.{range}
 use Rattle.plank_core.specs.laws.Loops.{range-before, range-none}
 use Rattle.sir_data.specs.Records.{operations, blockWord, ops}
-use Rattle.sir_analyses.proofs.Scanning.{Scanning, scanning-starts, scanning-more, scanning-ends, closing-few}
+use Rattle.sir_analyses.proofs.local_intervals.Scanning.{Scanning, scanning-starts, scanning-more, scanning-ends, closing-few}
 use native.Mathlib.Omega.{arith}
 use Rattle.sir_analyses.proofs.local_intervals.block_intervals.Statement.{statement}
 use Rattle.sir_analyses.proofs.local_intervals.block_intervals.Tie as tie

@@ -1,11 +1,10 @@
 -- `open_end` meets its contract.
 use mathlib.Core.Path.{ap, sym, _∙_}
 use lib.ListN.{length}
-use Rattle.sir_analyses.proofs.Parts.{length-part}
+use Rattle.sir_analyses.proofs.stages.Parts.{length-part}
 use mathlib.Core.List.{List}
 use Prim.Native.Nat.{ℕ, _+_, _*_}
-use Rattle.plank_core.specs.DenseIndexSet.{contains}
-use mathlib.Core.Path.{sym, _∙_}
+use Rattle.plank_core.specs.inner.DenseIndexSet.{contains}
 use borrow.Author.Needs.{needs}
 use native.Mathlib.Omega.{arith}
 use Rattle.sir_analyses.proofs.local_intervals.open_end.Statement.{statement}

@@ -3,7 +3,7 @@ use mathlib.Core.Path.{_≡_, sym}
 use mathlib.Core.List.{append-nil}
 use lib.ListN.{take, length-set}
 use borrow.Author.Tests.{ne-eqb}
-use Rattle.sir_analyses.proofs.Scanning.{put-three}
+use Rattle.sir_analyses.proofs.local_intervals.Scanning.{put-three}
 use native.Mathlib.Omega.{arith}
 use borrow.Author.Needs.{needs}
 use Rattle.sir_analyses.proofs.local_intervals.put_interval.Statement.{statement}

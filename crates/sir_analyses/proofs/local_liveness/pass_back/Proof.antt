@@ -6,11 +6,11 @@ use lib.ListN.{length, getD}
 use Rattle.plank_core.specs.Lists.{_∈_}
 use Rattle.plank_core.specs.laws.Lists.{getD-mem}
 use Rattle.sir_analyses.specs.Order.{blocksRpo}
-use Rattle.sir_analyses.specs.Stages.{PassStep}
-use Rattle.sir_analyses.proofs.OrderProof.{blocks-below}
-use Rattle.sir_analyses.proofs.Growth.{told-set, told-kept}
-use Rattle.sir_analyses.proofs.Passes.{from, from-none, from-next, from-all}
-use Rattle.sir_analyses.proofs.LivenessTables.{passing-on, pass-none, pass-as, pass-then}
+use Rattle.sir_analyses.specs.inner.Stages.{PassStep}
+use Rattle.sir_analyses.proofs.claims.order.OrderProof.{blocks-below}
+use Rattle.sir_analyses.proofs.local_liveness.Growth.{told-set, told-kept}
+use Rattle.sir_analyses.proofs.local_liveness.Passes.{from, from-none, from-next, from-all}
+use Rattle.sir_analyses.proofs.local_liveness.LivenessTables.{passing-on, pass-none, pass-as, pass-then}
 use native.Mathlib.Omega.{arith}
 use Rattle.sir_analyses.proofs.local_liveness.pass_back.Statement.{statement}
 use Rattle.sir_analyses.proofs.local_liveness.pass_back.Tie as tie
@@ -40,8 +40,8 @@ mul-t10 c = omega arith
 shared-slice-read-t12 : tie.Need-shared-slice-read-t12 Inv-loop μ-loop
 shared-slice-read-t12 c = omega arith
 
-send-back-requires : tie.Need-send-back-requires Inv-loop μ-loop
-send-back-requires c κs =
+propagate-liveness-to-predecessors-requires : tie.Need-propagate-liveness-to-predecessors-requires Inv-loop μ-loop
+propagate-liveness-to-predecessors-requires c κs =
     let at-loop = c .before .before .before .before in
     let at-rpo = at-loop .before in
     let start = at-rpo .before .before .before .before .before in
@@ -58,24 +58,24 @@ loop-less c = omega arith
 
 loop-again : tie.Need-loop-again Inv-loop μ-loop
 loop-again c =
-    let at-send-back = c .before .before .before .before .before in
-    let at-loop = at-send-back .before .before .before .before .before in
+    let at-propagate-liveness-to-predecessors = c .before .before .before .before .before in
+    let at-loop = at-propagate-liveness-to-predecessors .before .before .before .before .before in
     let at-rpo = at-loop .before in
     let start = at-rpo .before .before .before .before .before in
     let l = at-loop .loop in
-    (omega arith, pass-as (pass-then (l .inv .1) (at-send-back .send-back .ensures) (told-set (l .grew) (c .if1 .taken) refl)) (from-next (start .args .words .now) (at-rpo .rpo .result .now) (l .k) (omega arith) (omega arith)))
+    (omega arith, pass-as (pass-then (l .inv .1) (at-propagate-liveness-to-predecessors .propagate-liveness-to-predecessors .ensures) (told-set (l .grew) (c .if1 .taken) refl)) (from-next (start .args .words .now) (at-rpo .rpo .result .now) (l .k) (omega arith) (omega arith)))
 
 loop-less-2 : tie.Need-loop-less-2 Inv-loop μ-loop
 loop-less-2 c = omega arith
 
 loop-again-2 : tie.Need-loop-again-2 Inv-loop μ-loop
 loop-again-2 c =
-    let at-send-back = c .before .before .before .before .before in
-    let at-loop = at-send-back .before .before .before .before .before in
+    let at-propagate-liveness-to-predecessors = c .before .before .before .before .before in
+    let at-loop = at-propagate-liveness-to-predecessors .before .before .before .before .before in
     let at-rpo = at-loop .before in
     let start = at-rpo .before .before .before .before .before in
     let l = at-loop .loop in
-    (omega arith, pass-as (pass-then (l .inv .1) (at-send-back .send-back .ensures) (told-kept (l .grew) (c .if1 .left) refl)) (from-next (start .args .words .now) (at-rpo .rpo .result .now) (l .k) (omega arith) (omega arith)))
+    (omega arith, pass-as (pass-then (l .inv .1) (at-propagate-liveness-to-predecessors .propagate-liveness-to-predecessors .ensures) (told-kept (l .grew) (c .if1 .left) refl)) (from-next (start .args .words .now) (at-rpo .rpo .result .now) (l .k) (omega arith) (omega arith)))
 
 same-length : tie.Need-same-length Inv-loop μ-loop
 same-length c = c .before .loop .inv .1 .long
@@ -102,7 +102,7 @@ pass-back-spec =
     sub-k
     mul-t10
     shared-slice-read-t12
-    send-back-requires
+    propagate-liveness-to-predecessors-requires
     loop-less
     loop-again
     loop-less-2

@@ -9,9 +9,9 @@ use lib.Seq.{take-all}
 use Rattle.plank_core.specs.Lists.{mem, _∈_}
 use Rattle.plank_core.specs.laws.Lists.{getD-mem}
 use Rattle.sir_data.specs.Records.{blocks}
-use Rattle.sir_analyses.specs.Tables.{arrives, Sends}
-use Rattle.sir_analyses.proofs.Growth.{sends-as, sends-then, sends-none, told-set, told-kept}
-use Rattle.sir_analyses.proofs.Sending.{and-taken}
+use Rattle.sir_analyses.specs.inner.Tables.{arrives, Sends}
+use Rattle.sir_analyses.proofs.local_liveness.Growth.{sends-as, sends-then, sends-none, told-set, told-kept}
+use Rattle.plank_core.specs.laws.Prefixes.{and-taken}
 use native.Mathlib.Omega.{arith}
 use Rattle.sir_analyses.proofs.local_liveness.send_all.Statement.{statement}
 use Rattle.sir_analyses.proofs.local_liveness.send_all.Tie as tie

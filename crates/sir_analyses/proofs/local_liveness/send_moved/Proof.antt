@@ -10,10 +10,10 @@ use lib.Dec.{eqb}
 use Rattle.plank_core.specs.Lists.{mem}
 use Rattle.plank_core.specs.laws.Lists.{getD-mem}
 use Rattle.sir_data.specs.Records.{blocks}
-use Rattle.sir_analyses.specs.Tables.{Sends}
-use Rattle.sir_analyses.proofs.Growth.{sends-as, sends-then, sends-none, sends-one, told-set, told-kept}
-use Rattle.sir_analyses.proofs.Tables.{mapped-next}
-use Rattle.sir_analyses.proofs.Sending.{output-small}
+use Rattle.sir_analyses.specs.inner.Tables.{Sends}
+use Rattle.sir_analyses.proofs.local_liveness.Growth.{sends-as, sends-then, sends-none, sends-one, told-set, told-kept}
+use Rattle.plank_core.specs.laws.Prefixes.{mapped-next}
+use Rattle.sir_analyses.proofs.local_liveness.Sending.{output-small}
 use borrow.Author.Needs.{needs}
 use native.Mathlib.Omega.{arith}
 use Rattle.sir_analyses.proofs.local_liveness.send_moved.Statement.{statement}

@@ -5,10 +5,10 @@ use Prim.Native.Nat.{ℕ, _*_, _≤_}
 use lib.ListN.{length}
 use lib.Dec.{eqb}
 use Rattle.plank_core.specs.Lists.{mem}
-use Rattle.plank_core.specs.DenseIndexSet.{contains}
+use Rattle.plank_core.specs.inner.DenseIndexSet.{contains}
 use Rattle.sir_data.specs.Records.{blocks}
-use Rattle.sir_analyses.specs.Tables.{outputsAt}
-use Rattle.sir_analyses.proofs.Growth.{sends-as, sends-then, sends-union, told-set, told-kept}
+use Rattle.sir_analyses.specs.inner.Tables.{outputsAt}
+use Rattle.sir_analyses.proofs.local_liveness.Growth.{sends-as, sends-then, sends-union, told-set, told-kept}
 use native.Mathlib.Omega.{arith}
 use borrow.Author.Needs.{needs}
 use Rattle.sir_analyses.proofs.local_liveness.send_to.Statement.{statement}

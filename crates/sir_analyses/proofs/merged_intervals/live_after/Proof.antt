@@ -1,10 +1,10 @@
 -- `live_after` meets its contract.
-use Rattle.sir_analyses.specs.Stages.{endsIn, exitsIn}
-use Rattle.sir_analyses.proofs.Parts.{length-part}
+use Rattle.sir_analyses.specs.inner.Stages.{endsIn, exitsIn}
+use Rattle.sir_analyses.proofs.stages.Parts.{length-part}
 use mathlib.Core.Path.{ap, _∙_}
 use lib.ListN.{length}
 use Rattle.plank_core.specs.laws.DenseIndexSet.{length-row}
-use Rattle.sir_analyses.proofs.MergedIntervals.{joined}
+use Rattle.sir_analyses.proofs.merged_intervals.MergedIntervals.{joined}
 use native.Mathlib.Omega.{arith}
 use borrow.Author.Needs.{needs}
 use Rattle.sir_analyses.proofs.merged_intervals.live_after.Statement.{statement}

@@ -1,10 +1,10 @@
 -- `live_before` meets its contract.
-use Rattle.sir_analyses.specs.Stages.{readsIn, writesIn}
-use Rattle.sir_analyses.proofs.Parts.{length-part}
+use Rattle.sir_analyses.specs.inner.Stages.{readsIn, writesIn}
+use Rattle.sir_analyses.proofs.stages.Parts.{length-part}
 use mathlib.Core.Path.{ap, _∙_}
 use lib.ListN.{length}
 use Rattle.plank_core.specs.laws.DenseIndexSet.{length-row}
-use Rattle.sir_analyses.proofs.MergedIntervals.{exchanged}
+use Rattle.sir_analyses.proofs.merged_intervals.MergedIntervals.{exchanged}
 use native.Mathlib.Omega.{arith}
 use borrow.Author.Needs.{needs}
 use Rattle.sir_analyses.proofs.merged_intervals.live_before.Statement.{statement}

@@ -1,5 +1,5 @@
 -- `merge_intervals` meets its contract. The invariant: the operations from o on are done, and their intervals written.
-use Rattle.sir_analyses.specs.Stages.{readsIn, writesIn, endsIn, exitsIn}
+use Rattle.sir_analyses.specs.inner.Stages.{readsIn, writesIn, endsIn, exitsIn}
 use mathlib.Core.Path.{_≡_, refl, ap₂}
 use Prim.Native.Nat.{_+_, _-_, _*_, _≤_, _<_}
 use lib.ListN.{length}
@@ -8,8 +8,8 @@ use Rattle.plank_core.specs.laws.Loops.{range-before, range-none}
 use Rattle.sir_data.specs.Records.{operations, blockWord, ops}
 use Rattle.sir_analyses.specs.Answers.{intervalWords}
 use Rattle.sir_analyses.specs.Liveness.{closing}
-use Rattle.sir_analyses.proofs.Scanning.{closing-few}
-use Rattle.sir_analyses.proofs.MergedIntervals.{Sweeping, sweeping-starts, sweeping-more, sweeping-ends}
+use Rattle.sir_analyses.proofs.local_intervals.Scanning.{closing-few}
+use Rattle.sir_analyses.proofs.merged_intervals.MergedIntervals.{Sweeping, sweeping-starts, sweeping-more, sweeping-ends}
 use borrow.Author.Needs.{needs}
 use native.Mathlib.Omega.{arith}
 use Rattle.sir_analyses.proofs.merged_intervals.merge_intervals.Statement.{statement}

@@ -6,7 +6,7 @@ use native.Mathlib.Omega.{arith}
 use lib.ListN.{length}
 use Rattle.sir_data.specs.Records.{blocks}
 use Rattle.sir_analyses.specs.Order.{isVisited}
-use Rattle.sir_analyses.proofs.MergedIntervals.{lent-most, Populating, populating-none, populating-more, populating-on, populating-all}
+use Rattle.sir_analyses.proofs.merged_intervals.MergedIntervals.{lent-most, Populating, populating-none, populating-more, populating-on, populating-all}
 use Rattle.sir_analyses.proofs.merged_intervals.populate_intervals_from_local_liveness.Statement.{statement}
 use Rattle.sir_analyses.proofs.merged_intervals.populate_intervals_from_local_liveness.Tie as tie
 

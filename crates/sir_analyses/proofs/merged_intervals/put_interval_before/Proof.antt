@@ -2,7 +2,7 @@
 use mathlib.Core.Path.{_≡_}
 use lib.ListN.{length-set}
 use borrow.Author.Tests.{ne-eqb}
-use Rattle.sir_analyses.proofs.MergedIntervals.{three-before}
+use Rattle.sir_analyses.proofs.merged_intervals.MergedIntervals.{three-before}
 use native.Mathlib.Omega.{arith}
 use borrow.Author.Needs.{needs}
 use Rattle.sir_analyses.proofs.merged_intervals.put_interval_before.Statement.{statement}

@@ -6,7 +6,7 @@ use Rattle.plank_core.specs.Lists.{bind}
 use Rattle.sir_data.specs.Pages.{bytesOf}
 use Rattle.sir_analyses.specs.Calls.{answered}
 use Rattle.sir_analyses.specs.declared.questions.Question.{Question}
-use Rattle.sir_analyses.proofs.Asked.{answered-as}
+use Rattle.sir_analyses.proofs.questions.Asked.{answered-as}
 use borrow.Author.Needs.{needs}
 use Rattle.sir_analyses.proofs.order_answers.order_answer.Statement.{statement}
 use Rattle.sir_analyses.proofs.order_answers.order_answer.Tie as tie

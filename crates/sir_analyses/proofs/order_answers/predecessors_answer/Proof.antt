@@ -1,12 +1,10 @@
 -- `predecessors_answer` meets its contract.
-use mathlib.Core.Path.{sym}
+use mathlib.Core.Path.{sym, refl}
 use lib.Seq.{length-take-le}
-use Rattle.sir_analyses.proofs.Calls.{finish-fits}
-use mathlib.Core.Path.{refl}
+use Rattle.sir_analyses.proofs.answers.Calls.{finish-fits, count-write}
 use native.Mathlib.Omega.{arith}
 use Rattle.sir_analyses.specs.Order.{predecessors}
-use Rattle.sir_analyses.proofs.Edges.{predecessors-most}
-use Rattle.sir_analyses.proofs.Calls.{count-write, finish-fits}
+use Rattle.sir_analyses.proofs.predecessors.Edges.{predecessors-most}
 use borrow.Author.Needs.{needs}
 use Rattle.sir_analyses.proofs.order_answers.predecessors_answer.Statement.{statement}
 use Rattle.sir_analyses.proofs.order_answers.predecessors_answer.Tie as tie

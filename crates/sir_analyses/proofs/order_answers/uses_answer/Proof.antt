@@ -1,13 +1,11 @@
 -- `uses_answer` meets its contract.
-use mathlib.Core.Path.{sym}
+use mathlib.Core.Path.{sym, refl}
 use lib.Seq.{length-take-le}
-use Rattle.sir_analyses.proofs.Calls.{finish-fits}
-use mathlib.Core.Path.{refl}
+use Rattle.sir_analyses.proofs.answers.Calls.{finish-fits, count-write}
 use native.Mathlib.Omega.{arith}
 use Rattle.sir_analyses.specs.Answers.{usesAnswer}
-use Rattle.sir_analyses.proofs.Writing.{puts-as}
-use Rattle.sir_analyses.proofs.UseWords.{uses-are, uses-most}
-use Rattle.sir_analyses.proofs.Calls.{count-write, finish-fits}
+use Rattle.sir_analyses.proofs.answers.Writing.{puts-as}
+use Rattle.sir_analyses.proofs.def_use.UseWords.{uses-are, uses-most}
 use borrow.Author.Needs.{needs}
 use Rattle.sir_analyses.proofs.order_answers.uses_answer.Statement.{statement}
 use Rattle.sir_analyses.proofs.order_answers.uses_answer.Tie as tie

@@ -7,7 +7,7 @@ use lib.ListN.{length}
 use Rattle.plank_core.specs.Lists.{bind}
 use Rattle.sir_data.specs.Pages.{bytesOf}
 use Rattle.sir_analyses.specs.Calls.{answered}
-use Rattle.sir_analyses.proofs.Loads.{front-length}
+use Rattle.sir_analyses.proofs.loading.Loads.{front-length}
 use borrow.Author.Needs.{needs}
 use Rattle.sir_analyses.proofs.order_answers.visit_answer.Statement.{statement}
 use Rattle.sir_analyses.proofs.order_answers.visit_answer.Tie as tie

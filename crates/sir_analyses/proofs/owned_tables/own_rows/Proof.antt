@@ -7,10 +7,10 @@ use lib.ListN.{length}
 use lib.Dec.{eqb, ltb}
 use mathlib.Core.Bool.{_&&_}
 use Rattle.sir_data.specs.Records.{locals}
-use Rattle.sir_analyses.specs.Tables.{Adds}
-use Rattle.sir_analyses.specs.AllocationPieces.{unmarkedOwner}
-use Rattle.sir_analyses.proofs.PointerTables.{allocations-few}
-use Rattle.sir_analyses.proofs.OwnedTables.{ownedTo, rows-none, rows-more, rows-skip}
+use Rattle.sir_analyses.specs.inner.Tables.{Adds}
+use Rattle.sir_analyses.specs.inner.AllocationPieces.{unmarkedOwner}
+use Rattle.sir_analyses.proofs.allocation_liveness.PointerTables.{allocations-few}
+use Rattle.sir_analyses.proofs.owned_tables.OwnedTables.{ownedTo, rows-none, rows-more, rows-skip}
 use Rattle.sir_analyses.proofs.owned_tables.own_rows.Statement.{statement}
 use Rattle.sir_analyses.proofs.owned_tables.own_rows.Tie as tie
 

@@ -7,10 +7,10 @@ use borrow.Author.Needs.{needs}
 use lib.ListN.{length, length-set}
 use lib.Dec.{ltb}
 use Rattle.sir_data.specs.Records.{locals}
-use Rattle.sir_analyses.specs.Scatter.{numberAt}
-use Rattle.sir_analyses.specs.AllocationPieces.{unmarkedOwner}
-use Rattle.sir_analyses.proofs.PointerTables.{allocations-few}
-use Rattle.sir_analyses.proofs.OwnedTables.{words-none, words-more}
+use Rattle.sir_analyses.specs.inner.Scatter.{numberAt}
+use Rattle.sir_analyses.specs.inner.AllocationPieces.{unmarkedOwner}
+use Rattle.sir_analyses.proofs.allocation_liveness.PointerTables.{allocations-few}
+use Rattle.sir_analyses.proofs.owned_tables.OwnedTables.{words-none, words-more}
 use Rattle.sir_analyses.proofs.owned_tables.own_words.Statement.{statement}
 use Rattle.sir_analyses.proofs.owned_tables.own_words.Tie as tie
 

@@ -4,10 +4,10 @@ use Prim.Native.Nat.{ℕ, _+_, _-_, _*_, _≤_, _<_}
 use native.Mathlib.Omega.{arith}
 use borrow.Author.Needs.{needs}
 use lib.ListN.{length}
-use Rattle.sir_analyses.specs.Stages.{part}
+use Rattle.sir_analyses.specs.inner.Stages.{part}
 use Rattle.sir_analyses.proofs.Tables.{cleared-long}
-use Rattle.sir_analyses.proofs.Parts.{length-part, putBack, put-long}
-use Rattle.sir_analyses.proofs.OwnedTables.{tables-owned}
+use Rattle.sir_analyses.proofs.stages.Parts.{length-part, putBack, put-long}
+use Rattle.sir_analyses.proofs.owned_tables.OwnedTables.{tables-owned}
 use Rattle.sir_analyses.proofs.owned_tables.owned_tables.Statement.{statement}
 use Rattle.sir_analyses.proofs.owned_tables.owned_tables.Tie as tie
 

@@ -6,9 +6,9 @@ use native.Mathlib.Omega.{arith}
 use borrow.Author.Needs.{needs}
 use lib.ListN.{length}
 use Rattle.plank_core.specs.laws.DenseIndexSet.{length-row}
-use Rattle.sir_analyses.specs.Stages.{part}
-use Rattle.sir_analyses.specs.AllocationPieces.{ownRowsIn}
-use Rattle.sir_analyses.proofs.Parts.{length-part}
+use Rattle.sir_analyses.specs.inner.Stages.{part}
+use Rattle.sir_analyses.specs.inner.AllocationPieces.{ownRowsIn}
+use Rattle.sir_analyses.proofs.stages.Parts.{length-part}
 use Rattle.sir_analyses.proofs.owned_tables.side_of.Statement.{statement}
 use Rattle.sir_analyses.proofs.owned_tables.side_of.Tie as tie
 

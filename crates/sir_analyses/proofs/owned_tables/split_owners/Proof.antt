@@ -5,9 +5,9 @@ use native.Mathlib.Omega.{arith}
 use borrow.Author.Needs.{needs}
 use lib.ListN.{length, getD}
 use Rattle.plank_core.specs.laws.Lists.{getD-mem}
-use Rattle.sir_analyses.specs.Tables.{Adds}
-use Rattle.sir_analyses.specs.AllocationPieces.{ownerIn, side}
-use Rattle.sir_analyses.proofs.OwnedTables.{splitTo, split-none, split-more, split-skip, split-all, owner-read, side-most}
+use Rattle.sir_analyses.specs.inner.Tables.{Adds}
+use Rattle.sir_analyses.specs.inner.AllocationPieces.{ownerIn, side}
+use Rattle.sir_analyses.proofs.owned_tables.OwnedTables.{splitTo, split-none, split-more, split-skip, split-all, owner-read, side-most}
 use Rattle.sir_analyses.proofs.owned_tables.split_owners.Statement.{statement}
 use Rattle.sir_analyses.proofs.owned_tables.split_owners.Tie as tie
 

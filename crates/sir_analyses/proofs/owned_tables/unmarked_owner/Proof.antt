@@ -3,7 +3,7 @@ use mathlib.Core.Path.{_≡_, sym, ap, _∙_}
 use Prim.Native.Nat.{ℕ, _-_}
 use native.Mathlib.Omega.{arith}
 use borrow.Author.Needs.{needs}
-use Rattle.sir_analyses.proofs.OwnedTables.{unowned, owned-marked, owned-unmarked}
+use Rattle.sir_analyses.proofs.owned_tables.OwnedTables.{unowned, owned-marked, owned-unmarked}
 use Rattle.sir_analyses.proofs.owned_tables.unmarked_owner.Statement.{statement}
 use Rattle.sir_analyses.proofs.owned_tables.unmarked_owner.Tie as tie
 

@@ -5,19 +5,20 @@ use lib.Dec.{eqb}
 use Rattle.plank_core.specs.Lists.{range, mem}
 use Rattle.plank_core.specs.laws.Loops.{range-none}
 use Rattle.sir_data.specs.Records.{operations, blockWord, ops}
-use Rattle.sir_analyses.specs.Tables.{Adds}
+use Rattle.sir_analyses.specs.inner.Tables.{Adds}
 use Rattle.sir_analyses.proofs.Tables.{adds-as, adds-then, adds-none}
-use Rattle.sir_analyses.proofs.PointerLinks.{adds-number, range-more}
+use Rattle.sir_analyses.proofs.pointer_links.PointerLinks.{adds-number}
+use Rattle.plank_core.specs.laws.Prefixes.{range-more}
 use borrow.Author.Needs.{needs}
 use native.Mathlib.Omega.{arith}
 use Rattle.sir_analyses.proofs.pointer_links.add_operations.Statement.{statement}
 use Rattle.sir_analyses.proofs.pointer_links.add_operations.Tie as tie
 
 abbrev Inv-loop : tie.InvT-loop
-Inv-loop words met₀ end o₀ met o = (o₀ ≤ o) × (o ≤ end) × Adds met₀ (λ r i. mem (512 * r + i) (range o₀ o)) met
+Inv-loop words visited₀ end o₀ visited o = (o₀ ≤ o) × (o ≤ end) × Adds visited₀ (λ r i. mem (512 * r + i) (range o₀ o)) visited
 
 abbrev μ-loop : tie.MeasureT-loop
-μ-loop words met₀ end o₀ met o = end - o
+μ-loop words visited₀ end o₀ visited o = end - o
 
 operations-requires : tie.Need-operations-requires Inv-loop μ-loop
 operations-requires c κs = search needs
@@ -53,7 +54,7 @@ loop-again c =
     let at-operations = at-loop .before in
     let l = at-loop .loop in
     let n : 512 * (l .o / 512) + l .o % 512 ≡ l .o = omega arith in
-    let a : Adds (l .met) (λ r i. eqb (512 * r + i) (l .o)) (c .before .before .row-add .last .0) = rw (c .before .before .row-add .ensures .1, n) (adds-number (l .met) (l .o)) in
+    let a : Adds (l .visited) (λ r i. eqb (512 * r + i) (l .o)) (c .before .before .row-add .last .0) = rw (c .before .before .row-add .ensures .1, n) (adds-number (l .visited) (l .o)) in
     (omega arith, omega arith, adds-as (λ r i h. range-more (512 * r + i) (at-operations .operations .result .start) (l .o) (l .inv .0)) (adds-then (l .inv .2) a))
 
 same-length : tie.Need-same-length Inv-loop μ-loop

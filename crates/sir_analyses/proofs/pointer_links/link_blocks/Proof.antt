@@ -1,6 +1,5 @@
 -- `link_blocks` meets its contract. The invariant: the edges of the first i blocks are linked, and what these return is added.
-use mathlib.Core.Path.{_∙_}
-use mathlib.Core.Path.{refl, _∙_}
+use mathlib.Core.Path.{_∙_, refl}
 use mathlib.Core.Bool.{_&&_}
 use Prim.Native.Nat.{_-_, _≤_, _<_}
 use lib.ListN.{length, getD, take}
@@ -8,22 +7,22 @@ use lib.Dec.{eqb}
 use Rattle.plank_core.specs.Lists.{any, mem}
 use Rattle.plank_core.specs.laws.Lists.{getD-mem}
 use Rattle.sir_data.specs.Records.{blocks, successors, returned}
-use Rattle.sir_analyses.specs.Tables.{Adds}
-use Rattle.sir_analyses.specs.Pointers.{passesBy}
-use Rattle.sir_analyses.proofs.Keys.{rpo-below}
+use Rattle.sir_analyses.specs.inner.Tables.{Adds}
+use Rattle.sir_analyses.specs.inner.Pointers.{passesBy}
+use Rattle.sir_analyses.proofs.claims.order.OrderLength.{rpo-below}
 use Rattle.sir_analyses.proofs.Tables.{adds-none}
 use Rattle.sir_analyses.proofs.Accepted.{returned-below}
-use Rattle.sir_analyses.proofs.BlockSets.{small}
-use Rattle.sir_analyses.proofs.PointerLinks.{adds-listed, adds-all}
+use Rattle.sir_analyses.proofs.block_sets.BlockSets.{small}
+use Rattle.sir_analyses.proofs.pointer_links.PointerLinks.{adds-listed, adds-all}
 use native.Mathlib.Omega.{arith}
 use Rattle.sir_analyses.proofs.pointer_links.link_blocks.Statement.{statement}
 use Rattle.sir_analyses.proofs.pointer_links.link_blocks.Tie as tie
 
 abbrev Inv-loop : tie.InvT-loop
-Inv-loop words visit links₀ harms₀ order i₀ links harms i = (i ≤ length order) × Adds links₀ (λ v u. any (λ b. any (λ s. passesBy words b s v u) (successors words b)) (take i order)) links × Adds harms₀ (λ r v. any (λ b. eqb r 0 && mem v (returned words b)) (take i order)) harms
+Inv-loop words visit links₀ escaping₀ order i₀ links escaping i = (i ≤ length order) × Adds links₀ (λ v u. any (λ b. any (λ s. passesBy words b s v u) (successors words b)) (take i order)) links × Adds escaping₀ (λ r v. any (λ b. eqb r 0 && mem v (returned words b)) (take i order)) escaping
 
 abbrev μ-loop : tie.MeasureT-loop
-μ-loop words visit links₀ harms₀ order i₀ links harms i = length order - i
+μ-loop words visit links₀ escaping₀ order i₀ links escaping i = length order - i
 
 rpo-requires : tie.Need-rpo-requires Inv-loop μ-loop
 rpo-requires c κs =

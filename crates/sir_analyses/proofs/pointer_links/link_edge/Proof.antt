@@ -3,9 +3,9 @@ use mathlib.Core.Path.{_≡_, refl}
 use Prim.Native.Nat.{_-_, _≤_}
 use lib.ListN.{length, getD}
 use Rattle.plank_core.specs.Lists.{upto, any}
-use Rattle.sir_analyses.specs.Tables.{Adds}
+use Rattle.sir_analyses.specs.inner.Tables.{Adds}
 use Rattle.sir_analyses.proofs.Tables.{adds-none, adds-one}
-use Rattle.sir_analyses.proofs.PointerLinks.{passed, adds-counted, edge-places}
+use Rattle.sir_analyses.proofs.pointer_links.PointerLinks.{passed, adds-counted, edge-places}
 use borrow.Author.Needs.{needs}
 use native.Mathlib.Omega.{arith}
 use Rattle.sir_analyses.proofs.pointer_links.link_edge.Statement.{statement}

@@ -5,10 +5,10 @@ use lib.ListN.{length, take}
 use Rattle.plank_core.specs.Lists.{any}
 use Rattle.plank_core.specs.laws.Lists.{getD-mem}
 use Rattle.sir_data.specs.Records.{successors}
-use Rattle.sir_analyses.specs.Tables.{Adds}
-use Rattle.sir_analyses.specs.Pointers.{passesBy}
+use Rattle.sir_analyses.specs.inner.Tables.{Adds}
+use Rattle.sir_analyses.specs.inner.Pointers.{passesBy}
 use Rattle.sir_analyses.proofs.Tables.{adds-none}
-use Rattle.sir_analyses.proofs.PointerLinks.{adds-listed, adds-all}
+use Rattle.sir_analyses.proofs.pointer_links.PointerLinks.{adds-listed, adds-all}
 use borrow.Author.Needs.{needs}
 use native.Mathlib.Omega.{arith}
 use Rattle.sir_analyses.proofs.pointer_links.link_edges.Statement.{statement}

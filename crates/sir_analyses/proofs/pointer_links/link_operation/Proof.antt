@@ -8,10 +8,11 @@ use borrow.Author.Tests.{not-true, not-false}
 use Rattle.plank_core.specs.Lists.{mem}
 use Rattle.sir_data.specs.Records.{code}
 use Rattle.sir_data.specs.Codes.{derives}
-use Rattle.sir_analyses.specs.Tables.{Adds}
-use Rattle.sir_analyses.proofs.Tables.{adds-as, adds-then, adds-none, and-next, and-all}
-use Rattle.sir_analyses.proofs.BlockSets.{small}
-use Rattle.sir_analyses.proofs.PointerLinks.{read-places}
+use Rattle.sir_analyses.specs.inner.Tables.{Adds}
+use Rattle.sir_analyses.proofs.Tables.{adds-as, adds-then, adds-none}
+use Rattle.plank_core.specs.laws.Prefixes.{and-next, and-all}
+use Rattle.sir_analyses.proofs.block_sets.BlockSets.{small}
+use Rattle.sir_analyses.proofs.pointer_links.PointerLinks.{read-places}
 use native.Mathlib.Omega.{arith}
 use Rattle.sir_analyses.proofs.pointer_links.link_operation.Statement.{statement}
 use Rattle.sir_analyses.proofs.pointer_links.link_operation.Tie as tie

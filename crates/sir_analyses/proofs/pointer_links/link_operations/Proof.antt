@@ -1,27 +1,27 @@
--- `link_operations` meets its contract. The invariant: the operations met below o are linked, and what they harm is added.
+-- `link_operations` meets its contract. The invariant: the visited operations below o are linked, and their escaping locals added.
 use mathlib.Core.Path.{_≡_, refl, sym, ap, _∙_}
 use mathlib.Core.Logic.{⊎-elim}
 use mathlib.Core.Bool.{_&&_}
 use Prim.Native.Nat.{_+_, _-_, _*_, _/_, _%_, _≤_, _<_}
 use lib.Dec.{eqb}
 use Rattle.plank_core.specs.Lists.{upto, any}
-use Rattle.plank_core.specs.DenseIndexSet.{contains}
+use Rattle.plank_core.specs.inner.DenseIndexSet.{contains}
 use Rattle.sir_data.specs.Records.{operations}
-use Rattle.sir_analyses.specs.Tables.{Adds}
+use Rattle.sir_analyses.specs.inner.Tables.{Adds}
 use Rattle.sir_analyses.specs.Allocation.{escapesBy}
-use Rattle.sir_analyses.specs.Pointers.{isMet, derivesBy}
+use Rattle.sir_analyses.specs.inner.Pointers.{isVisitedOp, derivesBy}
 use Rattle.sir_analyses.proofs.Tables.{adds-as, adds-none}
-use Rattle.sir_analyses.proofs.PointerLinks.{adds-counted}
+use Rattle.sir_analyses.proofs.pointer_links.PointerLinks.{adds-counted}
 use borrow.Author.Needs.{needs}
 use native.Mathlib.Omega.{arith}
 use Rattle.sir_analyses.proofs.pointer_links.link_operations.Statement.{statement}
 use Rattle.sir_analyses.proofs.pointer_links.link_operations.Tie as tie
 
 abbrev Inv-loop : tie.InvT-loop
-Inv-loop words met links₀ harms₀ count o₀ links harms o = (o ≤ count) × Adds links₀ (λ v u. any (λ p. isMet words p && derivesBy words p v u) (upto o)) links × Adds harms₀ (λ r v. any (λ p. isMet words p && (eqb r 0 && escapesBy words p v)) (upto o)) harms
+Inv-loop words visited links₀ escaping₀ count o₀ links escaping o = (o ≤ count) × Adds links₀ (λ v u. any (λ p. isVisitedOp words p && derivesBy words p v u) (upto o)) links × Adds escaping₀ (λ r v. any (λ p. isVisitedOp words p && (eqb r 0 && escapesBy words p v)) (upto o)) escaping
 
 abbrev μ-loop : tie.MeasureT-loop
-μ-loop words met links₀ harms₀ count o₀ links harms o = count - o
+μ-loop words visited links₀ escaping₀ count o₀ links escaping o = count - o
 
 operation-count-requires : tie.Need-operation-count-requires Inv-loop μ-loop
 operation-count-requires c κs = search needs
@@ -40,8 +40,8 @@ link-operation-requires : tie.Need-link-operation-requires Inv-loop μ-loop
 link-operation-requires c κs = let s = c .before .before .before .before .before .before .before .before .before .before in
     (s .pre .0, (omega (arith, c .before .before .before .before .before .operation-count .ensures), c .before .before .before .before .loop .inv .1 .long ∙ s .pre .1 .1 .0))
 
-harm-operation-requires : tie.Need-harm-operation-requires Inv-loop μ-loop
-harm-operation-requires c κs = let s = c .before .before .before .before .before .before .before .before .before .before .before .before .before .before in
+add-escaping-requires : tie.Need-add-escaping-requires Inv-loop μ-loop
+add-escaping-requires c κs = let s = c .before .before .before .before .before .before .before .before .before .before .before .before .before .before in
     (s .pre .0, (omega (arith, c .before .before .before .before .before .before .before .before .before .operation-count .ensures), c .before .before .before .before .before .before .before .before .loop .inv .2 .long ∙ s .pre .1 .1 .1))
 
 add-o : tie.Need-add-o Inv-loop μ-loop
@@ -56,18 +56,18 @@ loop-again c = let s = c .before .before .before .before .before .before .before
     let w = s .args .words .now in
     let n : 512 * (l .o / 512) + l .o % 512 ≡ l .o = omega arith in
     let h : l .o < 1024 = omega (arith, s .pre .0 .sized .operations-most, c .before .before .before .before .operation-count .ensures) in
-    let seen : c .before .row-contains .result ≡ isMet w (l .o) = c .before .row-contains .ensures ∙ ap (contains (s .args .met .now)) n ∙ s .pre .1 .0 .1 (l .o) h in
-    let a : Adds (l .links) (λ v u. isMet w (l .o) && derivesBy w (l .o) v u) (c .if1 .links) =
+    let seen : c .before .row-contains .result ≡ isVisitedOp w (l .o) = c .before .row-contains .ensures ∙ ap (contains (s .args .visited .now)) n ∙ s .pre .1 .0 .1 (l .o) h in
+    let a : Adds (l .links) (λ v u. isVisitedOp w (l .o) && derivesBy w (l .o) v u) (c .if1 .links) =
     ⊎-elim
     (λ x. rw (x .9) (adds-as (λ v u i. rw (sym seen ∙ x .0 .taken)) (x .2 .ensures)))
     (λ x. rw (x .1) (adds-none (λ v u i. rw (sym seen ∙ x .0 .left))))
     (c .if1 .came) in
-    let b : Adds (l .harms) (λ r v. isMet w (l .o) && (eqb r 0 && escapesBy w (l .o) v)) (c .if1 .harms) =
+    let b : Adds (l .escaping) (λ r v. isVisitedOp w (l .o) && (eqb r 0 && escapesBy w (l .o) v)) (c .if1 .escaping) =
     ⊎-elim
     (λ x. rw (x .10) (adds-as (λ r v i. rw (sym seen ∙ x .0 .taken)) (x .6 .ensures)))
     (λ x. rw (x .2) (adds-none (λ r v i. rw (sym seen ∙ x .0 .left))))
     (c .if1 .came) in
-    (omega arith, adds-counted (λ p v u. isMet w p && derivesBy w p v u) (l .o) (l .inv .1) a, adds-counted (λ p r v. isMet w p && (eqb r 0 && escapesBy w p v)) (l .o) (l .inv .2) b)
+    (omega arith, adds-counted (λ p v u. isVisitedOp w p && derivesBy w p v u) (l .o) (l .inv .1) a, adds-counted (λ p r v. isVisitedOp w p && (eqb r 0 && escapesBy w p v)) (l .o) (l .inv .2) b)
 
 same-length : tie.Need-same-length Inv-loop μ-loop
 same-length c = c .before .loop .inv .1 .long
@@ -92,7 +92,7 @@ link-operations-spec =
     cast-row-contains
     row-contains-requires
     link-operation-requires
-    harm-operation-requires
+    add-escaping-requires
     add-o
     loop-less
     loop-again

@@ -1,36 +1,36 @@
--- `pointer_links` meets its contract: what the operations met and the visited blocks add is what the definitions say.
+-- `pointer_links` meets its contract: what the visited operations and the visited blocks add is what the definitions say.
 use mathlib.Core.Path.{_∙_}
 use Rattle.sir_analyses.proofs.Tables.{cleared-long}
-use Rattle.sir_analyses.proofs.PointerLinks.{pointer-rows}
+use Rattle.sir_analyses.proofs.pointer_links.PointerLinks.{pointer-rows}
 use borrow.Author.Needs.{needs}
 use Rattle.sir_analyses.proofs.pointer_links.pointer_links.Statement.{statement}
 use Rattle.sir_analyses.proofs.pointer_links.pointer_links.Tie as tie
 
-slice-aggregate-met-operations : tie.Need-slice-aggregate-met-operations
-slice-aggregate-met-operations c = search needs
+slice-aggregate-visited-ops : tie.Need-slice-aggregate-visited-ops
+slice-aggregate-visited-ops c = search needs
 
-met-operations-requires : tie.Need-met-operations-requires
-met-operations-requires c κs = search needs
+visited-ops-requires : tie.Need-visited-ops-requires
+visited-ops-requires c κs = search needs
 
 slice-aggregate-link-operations : tie.Need-slice-aggregate-link-operations
 slice-aggregate-link-operations c = search needs
 
 link-operations-requires : tie.Need-link-operations-requires
 link-operations-requires c κs =
-    let at-met-operations = c .before .before .before .before in
-    let at-shared-slice-known = at-met-operations .before .before .before .before .before in
+    let at-visited-ops = c .before .before .before .before in
+    let at-shared-slice-known = at-visited-ops .before .before .before .before .before in
     let start = at-shared-slice-known .before in
-    (start .pre .0 .well-formed, (at-met-operations .met-operations .ensures, (cleared-long (start .args .links .now) 4096 (start .pre .1 .0), cleared-long (start .args .harms .now) 8 (start .pre .1 .1))))
+    (start .pre .0 .well-formed, (at-visited-ops .visited-ops .ensures, (cleared-long (start .args .links .now) 4096 (start .pre .1 .0), cleared-long (start .args .escaping .now) 8 (start .pre .1 .1))))
 
 link-blocks-requires : tie.Need-link-blocks-requires
 link-blocks-requires c κs =
     let at-links = c .before .before .before .before .before in
     let at-link-operations = at-links .before in
-    let at-met-operations = at-link-operations .before .before .before .before .before in
-    let at-shared-slice-known = at-met-operations .before .before .before .before .before in
+    let at-visited-ops = at-link-operations .before .before .before .before .before in
+    let at-shared-slice-known = at-visited-ops .before .before .before .before .before in
     let start = at-shared-slice-known .before in
     let r = at-link-operations .link-operations .ensures in
-    (start .pre .0, (r .0 .long ∙ cleared-long (start .args .links .now) 4096 (start .pre .1 .0), r .1 .long ∙ cleared-long (start .args .harms .now) 8 (start .pre .1 .1)))
+    (start .pre .0, (r .0 .long ∙ cleared-long (start .args .links .now) 4096 (start .pre .1 .0), r .1 .long ∙ cleared-long (start .args .escaping .now) 8 (start .pre .1 .1)))
 
 same-length : tie.Need-same-length
 same-length c = search needs
@@ -43,8 +43,8 @@ returns c =
     let at-link-blocks = c .before .before .before .before in
     let at-slice-known3 = at-link-blocks .before .before .before .before .before in
     let at-link-operations = at-slice-known3 .before .before in
-    let at-met-operations = at-link-operations .before .before .before .before .before in
-    let at-shared-slice-known = at-met-operations .before .before .before .before .before in
+    let at-visited-ops = at-link-operations .before .before .before .before .before in
+    let at-shared-slice-known = at-visited-ops .before .before .before .before .before in
     let start = at-shared-slice-known .before in
     let r = at-link-operations .link-operations .ensures in
     let b = at-link-blocks .link-blocks .ensures in
@@ -54,8 +54,8 @@ pub pointer-links-spec : {M : Type 1} → statement M
 pointer-links-spec =
     tie.close
     (tie.spec
-    slice-aggregate-met-operations
-    met-operations-requires
+    slice-aggregate-visited-ops
+    visited-ops-requires
     slice-aggregate-link-operations
     link-operations-requires
     link-blocks-requires

@@ -6,8 +6,8 @@ use native.Mathlib.Omega.{arith}
 use lib.ListN.{length}
 use Rattle.sir_data.specs.Records.{successors}
 use Rattle.sir_analyses.specs.Order.{edgesFrom}
-use Rattle.sir_analyses.proofs.Writing.{Putting, putting-none, putting-as, putting-count, putting-more, putting-all}
-use Rattle.sir_analyses.proofs.Edges.{edgesLeft, edge-here, edge-other, edges-end}
+use Rattle.sir_analyses.proofs.answers.Writing.{Putting, putting-none, putting-as, putting-count, putting-more, putting-all}
+use Rattle.sir_analyses.proofs.predecessors.Edges.{edgesLeft, edge-here, edge-other, edges-end}
 use borrow.Author.Needs.{needs}
 use Rattle.sir_analyses.proofs.predecessors.put_edges.Statement.{statement}
 use Rattle.sir_analyses.proofs.predecessors.put_edges.Tie as tie

@@ -6,8 +6,8 @@ use native.Mathlib.Omega.{arith}
 use Rattle.plank_core.specs.laws.Loops.{range-all}
 use Rattle.sir_data.specs.Records.{blocks}
 use Rattle.sir_analyses.specs.Order.{isVisited, edgesFrom, predecessors}
-use Rattle.sir_analyses.proofs.Writing.{Putting, putting-none, putting-as, putting-count, putting-more, putting-all}
-use Rattle.sir_analyses.proofs.Edges.{predecessors-most, predecessorsLeft, visited-next, unvisited-next, none-left}
+use Rattle.sir_analyses.proofs.answers.Writing.{Putting, putting-none, putting-as, putting-count, putting-more, putting-all}
+use Rattle.sir_analyses.proofs.predecessors.Edges.{predecessors-most, predecessorsLeft, visited-next, unvisited-next, none-left}
 use Rattle.sir_analyses.proofs.predecessors.put_predecessors.Statement.{statement}
 use Rattle.sir_analyses.proofs.predecessors.put_predecessors.Tie as tie
 

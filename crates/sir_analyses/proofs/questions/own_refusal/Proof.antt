@@ -2,12 +2,12 @@
 use mathlib.Core.Path.{sym, ap, _∙_}
 use lib.ListN.{length}
 use Rattle.sir_data.specs.Rules.{first}
-use Rattle.sir_analyses.specs.Questions.{ownRules}
+use Rattle.sir_analyses.specs.inner.Questions.{ownRules}
 use Rattle.sir_analyses.specs.declared.questions.LiveQuestion.{LiveQuestion}
 use Rattle.sir_analyses.specs.declared.questions.OrderQuestion.{OrderQuestion}
 use Rattle.sir_analyses.specs.declared.questions.PointerQuestion.{PointerQuestion}
 use Rattle.sir_analyses.specs.declared.questions.Question.{Question}
-use Rattle.sir_analyses.proofs.Discovery.{keys-long}
+use Rattle.sir_analyses.proofs.allocation_liveness.Discovery.{sites-long}
 use borrow.Author.Needs.{needs}
 use Rattle.sir_analyses.proofs.questions.own_refusal.Statement.{statement}
 use Rattle.sir_analyses.proofs.questions.own_refusal.Tie as tie
@@ -183,7 +183,7 @@ returns-13 c =
     let at-question3 = at-q6 .before .before .before in
     let start = at-question3 .before .before .before .before in
     let w = start .args .words .now in
-    (rw (ap length (start .pre .1 .0) ∙ keys-long w) at (c .id-refusal6 .ensures)) ∙ ap (λ (q : PointerQuestion). first (ownRules (Question.OfPointers q) w)) (sym (at-q6 .q6 .given .1)) ∙ ap (λ (q : Question). first (ownRules q w)) (sym (at-question3 .question3 .given .1))
+    (rw (ap length (start .pre .1 .0) ∙ sites-long w) at (c .id-refusal6 .ensures)) ∙ ap (λ (q : PointerQuestion). first (ownRules (Question.OfPointers q) w)) (sym (at-q6 .q6 .given .1)) ∙ ap (λ (q : Question). first (ownRules q w)) (sym (at-question3 .question3 .given .1))
 
 returns-14 : tie.Need-returns-14
 returns-14 c =

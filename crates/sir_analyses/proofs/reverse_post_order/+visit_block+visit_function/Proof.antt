@@ -13,11 +13,11 @@ use borrow.Author.Tests.{not-true, not-false}
 use mathlib.Core.List.{List}
 use lib.ListN.{length, drop, drop-of-length-le}
 use Rattle.plank_core.specs.Lists.{range, foldl, bind}
-use Rattle.plank_core.specs.DenseIndexSet.{contains}
+use Rattle.plank_core.specs.inner.DenseIndexSet.{contains}
 use Rattle.sir_data.specs.Records.{functions, blocks, callees, successors}
 use Rattle.sir_analyses.specs.Order.{seeFunction, seeBlock, visitFunction, visitBlock}
-use Rattle.sir_analyses.specs.Visiting.{Went, unseen}
-use Rattle.sir_analyses.proofs.Visiting.{Entered, enter-function, enter-block, skip-function, skip-block, then, Going, going-none, going-as, going-more, going-all, fits, done-function, done-block, calls-end, calls-skip, calls-call, callee-below, successor-next, successor-below}
+use Rattle.sir_analyses.specs.inner.Visiting.{VisitStep, unseen}
+use Rattle.sir_analyses.proofs.reverse_post_order.Visiting.{Entered, enter-function, enter-block, skip-function, skip-block, then, Going, going-none, going-as, going-more, going-all, fits, done-function, done-block, calls-end, calls-skip, calls-call, callee-below, successor-next, successor-below}
 use Rattle.sir_analyses.proofs.reverse_post_order.visit_block.Reads as visit-block
 use Rattle.sir_analyses.proofs.reverse_post_order.visit_block.Kinds as visit-block-kinds
 use Rattle.sir_analyses.proofs.reverse_post_order.+visit_block+visit_function.Lts-visit_block as visit-block-lts
@@ -63,18 +63,18 @@ abbrev function-claims : ℕ → visit-function-lts.Claims
 function-claims t = (row-add-reads.Asked, row-add-reads.Learnt, entry-block-reads.Asked, entry-block-reads.Learnt, visit-block-below t, visit-block.Post, push-reads.Asked, push-reads.Learnt)
 
 abbrev Inv-calls : visit-block-lts.InvT-calls
-Inv-calls words f b seen₀ post₀ n last m₀ o₀ seen post m o =
-    (o₀ ≤ o) × Going words (visitFunction (fuel words) words) (bind (range o₀ last) (callees words)) seen₀ post₀ m₀ (bind (range o last) (callees words)) seen post m
+Inv-calls words f b seen₀ postorder₀ n last m₀ o₀ seen postorder m o =
+    (o₀ ≤ o) × Going words (visitFunction (fuel words) words) (bind (range o₀ last) (callees words)) seen₀ postorder₀ m₀ (bind (range o last) (callees words)) seen postorder m
 
 abbrev μ-calls : visit-block-lts.MeasureT-calls
-μ-calls words f b seen₀ post₀ n last m₀ o₀ seen post m o = last - o
+μ-calls words f b seen₀ postorder₀ n last m₀ o₀ seen postorder m o = last - o
 
 abbrev Inv-successors : visit-block-lts.InvT-successors
-Inv-successors words f b seen₀ post₀ n last m₀ o count i₀ seen post m i =
-    Going words (visitBlock (fuel words) words (f .0)) (successors words (b .0)) seen₀ post₀ m₀ (drop i (successors words (b .0))) seen post m
+Inv-successors words f b seen₀ postorder₀ n last m₀ o count i₀ seen postorder m i =
+    Going words (visitBlock (fuel words) words (f .0)) (successors words (b .0)) seen₀ postorder₀ m₀ (drop i (successors words (b .0))) seen postorder m
 
 abbrev μ-successors : visit-block-lts.MeasureT-successors
-μ-successors words f b seen₀ post₀ n last m₀ o count i₀ seen post m i = count - i
+μ-successors words f b seen₀ postorder₀ n last m₀ o count i₀ seen postorder m i = count - i
 
 block-row-add-requires : (t : ℕ) → visit-block-lts.Need-row-add-requires (block-claims t) (visit-block-at t) visit-block.Post Inv-calls μ-calls Inv-successors μ-successors
 block-row-add-requires t c κs = (omega (arith, c .before .before .before .before .pre .1 .1 .1 .1 .wide), omega (arith, c .before .before .before .before .pre .1 .1 .1 .0, c .before .before .before .before .pre .1 .0 .sized .blocks-most))
@@ -93,7 +93,7 @@ block-new t c =
 
 -- the block is entered
 block-entered : (t : ℕ) (c : visit-block-lts.Else1 (block-claims t) (visit-block-at t) visit-block.Post Inv-calls μ-calls Inv-successors μ-successors)
-    → Entered (c .before .before .before .before .before .before .before .before .args .words .now) (λ v. seeBlock v (c .before .before .before .before .before .before .before .before .args .b .0)) (c .before .before .before .before .before .before .before .before .args .seen .now) (c .before .before .before .before .before .before .before .before .args .post .now) (c .before .before .before .before .before .before .before .before .args .n) (c .before .before .before .row-add .last .0)
+    → Entered (c .before .before .before .before .before .before .before .before .args .words .now) (λ v. seeBlock v (c .before .before .before .before .before .before .before .before .args .b .0)) (c .before .before .before .before .before .before .before .before .args .seen .now) (c .before .before .before .before .before .before .before .before .args .postorder .now) (c .before .before .before .before .before .before .before .before .args .n) (c .before .before .before .row-add .last .0)
 block-entered t c =
     enter-block (c .before .before .before .before .before .before .before .before .pre .1 .0) (c .before .before .before .before .before .before .before .before .pre .1 .1 .1 .1) (c .before .before .before .before .before .before .before .before .args .b .0) (c .before .before .before .before .before .before .before .before .pre .1 .1 .1 .0) (c .before .before .before .row-add .ensures .1) (block-new t c)
 
@@ -175,7 +175,7 @@ block-add-push-2 t c = omega arith
 
 -- both loops are over: all that the block leads to is visited
 block-kids : (t : ℕ) (c : visit-block-lts.After-successors (block-claims t) (visit-block-at t) visit-block.Post Inv-calls μ-calls Inv-successors μ-successors)
-    → Went (c .before .before .before .before .before .before .before .before .before .before .before .before .before .before .args .words .now) (λ v. foldl (λ u s. visitBlock (fuel (c .before .before .before .before .before .before .before .before .before .before .before .before .before .before .args .words .now)) (c .before .before .before .before .before .before .before .before .before .before .before .before .before .before .args .words .now) (c .before .before .before .before .before .before .before .before .before .before .before .before .before .before .args .f .0) s u) (foldl (λ u g. visitFunction (fuel (c .before .before .before .before .before .before .before .before .before .before .before .before .before .before .args .words .now)) (c .before .before .before .before .before .before .before .before .before .before .before .before .before .before .args .words .now) g u) v (bind (range (c .before .before .before .before .before .block-operations .result .start) (c .before .before .before .before .before .block-operations .result .end)) (callees (c .before .before .before .before .before .before .before .before .before .before .before .before .before .before .args .words .now)))) (successors (c .before .before .before .before .before .before .before .before .before .before .before .before .before .before .args .words .now) (c .before .before .before .before .before .before .before .before .before .before .before .before .before .before .args .b .0))) (c .before .before .before .before .before .before .before .before .before .row-add .last .0) (c .before .before .before .before .before .before .before .before .before .before .before .before .before .before .args .post .now) (c .before .before .before .before .before .before .before .before .before .before .before .before .before .before .args .n) (c .before .successors .seen) (c .before .successors .post) (c .before .successors .m)
+    → VisitStep (c .before .before .before .before .before .before .before .before .before .before .before .before .before .before .args .words .now) (λ v. foldl (λ u s. visitBlock (fuel (c .before .before .before .before .before .before .before .before .before .before .before .before .before .before .args .words .now)) (c .before .before .before .before .before .before .before .before .before .before .before .before .before .before .args .words .now) (c .before .before .before .before .before .before .before .before .before .before .before .before .before .before .args .f .0) s u) (foldl (λ u g. visitFunction (fuel (c .before .before .before .before .before .before .before .before .before .before .before .before .before .before .args .words .now)) (c .before .before .before .before .before .before .before .before .before .before .before .before .before .before .args .words .now) g u) v (bind (range (c .before .before .before .before .before .block-operations .result .start) (c .before .before .before .before .before .block-operations .result .end)) (callees (c .before .before .before .before .before .before .before .before .before .before .before .before .before .before .args .words .now)))) (successors (c .before .before .before .before .before .before .before .before .before .before .before .before .before .before .args .words .now) (c .before .before .before .before .before .before .before .before .before .before .before .before .before .before .args .b .0))) (c .before .before .before .before .before .before .before .before .before .row-add .last .0) (c .before .before .before .before .before .before .before .before .before .before .before .before .before .before .args .postorder .now) (c .before .before .before .before .before .before .before .before .before .before .before .before .before .before .args .n) (c .before .successors .seen) (c .before .successors .postorder) (c .before .successors .m)
 block-kids t c =
     let S = c .before .before .before .before .before .before .before .before .before .before .before .before .before .before in
     let C = c .before .before .before .before .calls in
@@ -216,7 +216,7 @@ function-new t c =
     not-true _ (sym (rw zero-add at (c .before .before .before .row-add .ensures .0)) ∙ not-false _ (c .if1 .left))
 
 function-entered : (t : ℕ) (c : visit-function-lts.Else1 (function-claims t) (visit-function-at t) visit-function.Post)
-    → Entered (c .before .before .before .before .before .before .before .before .args .words .now) (λ v. seeFunction v (c .before .before .before .before .before .before .before .before .args .f .0)) (c .before .before .before .before .before .before .before .before .args .seen .now) (c .before .before .before .before .before .before .before .before .args .post .now) (c .before .before .before .before .before .before .before .before .args .n) (c .before .before .before .row-add .last .0)
+    → Entered (c .before .before .before .before .before .before .before .before .args .words .now) (λ v. seeFunction v (c .before .before .before .before .before .before .before .before .args .f .0)) (c .before .before .before .before .before .before .before .before .args .seen .now) (c .before .before .before .before .before .before .before .before .args .postorder .now) (c .before .before .before .before .before .before .before .before .args .n) (c .before .before .before .row-add .last .0)
 function-entered t c =
     enter-function (c .before .before .before .before .before .before .before .before .pre .1 .0) (c .before .before .before .before .before .before .before .before .pre .1 .1 .1) (c .before .before .before .before .before .before .before .before .args .f .0) (c .before .before .before .before .before .before .before .before .pre .1 .1 .0) (rw zero-add at (c .before .before .before .row-add .ensures .1)) (function-new t c)
 

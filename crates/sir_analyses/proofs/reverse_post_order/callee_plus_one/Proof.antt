@@ -4,7 +4,7 @@ use mathlib.Core.Bool.{true, false}
 use native.Mathlib.Numerals.{add-one}
 use Rattle.sir_data.specs.Records.{code}
 use Rattle.sir_data.specs.Codes.{isCall}
-use Rattle.sir_analyses.proofs.Visiting.{call-below}
+use Rattle.sir_analyses.proofs.reverse_post_order.Visiting.{call-below}
 use native.Mathlib.Omega.{arith}
 use borrow.Author.Needs.{needs}
 use Rattle.sir_analyses.proofs.reverse_post_order.callee_plus_one.Statement.{statement}

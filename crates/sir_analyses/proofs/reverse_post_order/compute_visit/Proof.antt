@@ -1,8 +1,8 @@
 -- `compute_visit` meets its contract.
 use mathlib.Core.Path.{refl, sym, _∙_}
-use Rattle.sir_analyses.proofs.Loads.{blocks-fit, finished-fit, front-length, order-stage}
-use Rattle.sir_analyses.proofs.VisitTables.{table-long, rpo-room, blocks-few, rpo-put-long, flags-empty, flags-put-long, visit-stage}
-use Rattle.sir_analyses.specs.Stages.{part}
+use Rattle.sir_analyses.proofs.loading.Loads.{blocks-fit, finished-fit, front-length, order-stage}
+use Rattle.sir_analyses.proofs.reverse_post_order.VisitTables.{table-long, rpo-room, blocks-few, rpo-put-long, flags-empty, flags-put-long, visit-stage}
+use Rattle.sir_analyses.specs.inner.Stages.{part}
 use borrow.Author.Needs.{needs}
 use native.Mathlib.Omega.{arith}
 use Rattle.sir_analyses.proofs.reverse_post_order.compute_visit.Statement.{statement}

@@ -3,7 +3,7 @@ use mathlib.Core.Path.{sym, ap, _∙_}
 use mathlib.Core.Logic.{⊎-elim}
 use Prim.Native.Nat.{ℕ, _-_, _≤_, _<_}
 use lib.ListN.{length, length-replicate}
-use Rattle.sir_analyses.proofs.VisitTables.{FlagsTo, flags-none, flags-seen, flags-unseen, flags-all}
+use Rattle.sir_analyses.proofs.reverse_post_order.VisitTables.{FlagsTo, flags-none, flags-seen, flags-unseen, flags-all}
 use native.Mathlib.Omega.{arith}
 use Rattle.sir_analyses.proofs.reverse_post_order.flag_visited.Statement.{statement}
 use Rattle.sir_analyses.proofs.reverse_post_order.flag_visited.Tie as tie

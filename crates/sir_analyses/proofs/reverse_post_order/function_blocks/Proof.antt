@@ -6,20 +6,21 @@ use native.Mathlib.Omega.{arith}
 use lib.ListN.{length, getD, take}
 use borrow.Author.Tests.{eq-eqb, ne-eqb}
 use Rattle.plank_core.specs.Lists.{bind}
-use Rattle.sir_analyses.specs.Visiting.{blockOf, blocksOf}
-use Rattle.sir_analyses.proofs.Keys.{Listing, listing-none, listing-as, listing-room, listing-one, listing-all, back-start, back-next, back-end}
+use Rattle.sir_analyses.specs.inner.Visiting.{blockOf, blocksOf}
+use Rattle.sir_analyses.proofs.reverse_post_order.Postorder.{back-start, back-next, back-end}
+use Rattle.sir_analyses.proofs.Listing.{Listing, listing-none, listing-as, listing-room, listing-one, listing-all}
 use Rattle.sir_analyses.proofs.reverse_post_order.function_blocks.Statement.{statement}
 use Rattle.sir_analyses.proofs.reverse_post_order.function_blocks.Tie as tie
 
 abbrev Inv-loop : tie.InvT-loop
-Inv-loop keys f out₀ at m₀ i₀ out m i = (i ≤ length keys) × Listing (blocksOf (f .0) keys) at out₀ (bind (reverse (take i keys)) (blockOf (f .0))) out m
+Inv-loop postorder f out₀ at m₀ i₀ out m i = (i ≤ length postorder) × Listing (blocksOf (f .0) postorder) at out₀ (bind (reverse (take i postorder)) (blockOf (f .0))) out m
 
 abbrev μ-loop : tie.MeasureT-loop
-μ-loop keys f out₀ at m₀ i₀ out m i = i
+μ-loop postorder f out₀ at m₀ i₀ out m i = i
 
 loop-holds : tie.Need-loop-holds Inv-loop μ-loop
 unfolding blocksOf
-loop-holds c = (omega arith, listing-as (back-start (blockOf (c .args .f .0)) (c .args .keys .now)) listing-none)
+loop-holds c = (omega arith, listing-as (back-start (blockOf (c .args .f .0)) (c .args .postorder .now)) listing-none)
 
 sub-i : tie.Need-sub-i Inv-loop μ-loop
 sub-i c = omega arith
@@ -39,7 +40,7 @@ mul-out c = omega arith
 slice-write-out : tie.Need-slice-write-out Inv-loop μ-loop
 slice-write-out c = let S = c .before .before .before .before .before in
     let L = c .before .before .before .before .loop in
-    let ks = S .args .keys .now in
+    let ks = S .args .postorder .now in
     let f = S .args .f .0 in
     let e : bind (reverse (take (L .i) ks)) (blockOf f) ≡ (getD ks (L .i - 1) 0 % 256) ∷ bind (reverse (take (L .i - 1) ks)) (blockOf f) =
     back-next (blockOf f) ks (L .i) (c .before .before .before .loop-test .taken) (L .inv .0) ∙ rw (eq-eqb _ _ (c .if1 .taken)) in
@@ -48,7 +49,7 @@ slice-write-out c = let S = c .before .before .before .before .before in
 add-m : tie.Need-add-m Inv-loop μ-loop
 add-m c = let S = c .before .before .before .before .before in
     let L = c .before .before .before .before .loop in
-    let ks = S .args .keys .now in
+    let ks = S .args .postorder .now in
     let f = S .args .f .0 in
     let e : bind (reverse (take (L .i) ks)) (blockOf f) ≡ (getD ks (L .i - 1) 0 % 256) ∷ bind (reverse (take (L .i - 1) ks)) (blockOf f) =
     back-next (blockOf f) ks (L .i) (c .before .before .before .loop-test .taken) (L .inv .0) ∙ rw (eq-eqb _ _ (c .if1 .taken)) in
@@ -60,7 +61,7 @@ loop-less c = omega arith
 loop-again : tie.Need-loop-again Inv-loop μ-loop
 loop-again c = let S = c .before .before .before .before .before in
     let L = c .before .before .before .before .loop in
-    let ks = S .args .keys .now in
+    let ks = S .args .postorder .now in
     let f = S .args .f .0 in
     let e : bind (reverse (take (L .i) ks)) (blockOf f) ≡ (getD ks (L .i - 1) 0 % 256) ∷ bind (reverse (take (L .i - 1) ks)) (blockOf f) =
     back-next (blockOf f) ks (L .i) (c .before .before .before .loop-test .taken) (L .inv .0) ∙ rw (eq-eqb _ _ (c .if1 .taken)) in
@@ -72,7 +73,7 @@ loop-less-2 c = omega arith
 loop-again-2 : tie.Need-loop-again-2 Inv-loop μ-loop
 loop-again-2 c = let S = c .before .before .before .before .before in
     let L = c .before .before .before .before .loop in
-    let ks = S .args .keys .now in
+    let ks = S .args .postorder .now in
     let f = S .args .f .0 in
     let e : bind (reverse (take (L .i) ks)) (blockOf f) ≡ bind (reverse (take (L .i - 1) ks)) (blockOf f) =
     back-next (blockOf f) ks (L .i) (c .before .before .before .loop-test .taken) (L .inv .0) ∙ rw (ne-eqb _ _ (c .if1 .left)) in
@@ -82,7 +83,7 @@ same-length : tie.Need-same-length Inv-loop μ-loop
 same-length c = c .before .loop .inv .1 .long
 
 returns : tie.Need-returns Inv-loop μ-loop
-returns c = listing-all (back-end (blockOf (c .before .before .args .f .0)) (c .before .before .args .keys .now) (c .before .loop .i) (c .loop-test .left)) (c .before .loop .inv .1)
+returns c = listing-all (back-end (blockOf (c .before .before .args .f .0)) (c .before .before .args .postorder .now) (c .before .loop .i) (c .loop-test .left)) (c .before .loop .inv .1)
 
 pub function-blocks-spec : {M : Type 1} → statement M
 function-blocks-spec =

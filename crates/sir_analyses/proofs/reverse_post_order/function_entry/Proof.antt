@@ -2,7 +2,7 @@
 use mathlib.Core.Path.{refl, _∙_}
 use native.Mathlib.Omega.{arith}
 use lib.ListN.{length-set}
-use Rattle.sir_analyses.proofs.Keys.{listed-headed}
+use Rattle.sir_analyses.proofs.Listing.{listed-headed}
 use borrow.Author.Needs.{needs}
 use Rattle.sir_analyses.proofs.reverse_post_order.function_entry.Statement.{statement}
 use Rattle.sir_analyses.proofs.reverse_post_order.function_entry.Tie as tie

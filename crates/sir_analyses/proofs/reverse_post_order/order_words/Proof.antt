@@ -6,20 +6,21 @@ use native.Mathlib.Omega.{arith}
 use lib.ListN.{length, getD, take}
 use borrow.Author.Tests.{lt-ltb, le-ltb}
 use Rattle.plank_core.specs.Lists.{bind}
-use Rattle.sir_analyses.specs.Visiting.{functionOf, entryOf, orderIn}
-use Rattle.sir_analyses.proofs.Keys.{Listing, listing-none, listing-as, listing-fits, listing-more, listing-all, back-start, back-next, back-end}
+use Rattle.sir_analyses.specs.inner.Visiting.{functionOf, entryOf, orderIn}
+use Rattle.sir_analyses.proofs.reverse_post_order.Postorder.{back-start, back-next, back-end}
+use Rattle.sir_analyses.proofs.Listing.{Listing, listing-none, listing-as, listing-fits, listing-more, listing-all}
 use Rattle.sir_analyses.proofs.reverse_post_order.order_words.Statement.{statement}
 use Rattle.sir_analyses.proofs.reverse_post_order.order_words.Tie as tie
 
 abbrev Inv-loop : tie.InvT-loop
-Inv-loop keys out₀ m₀ i₀ out m i = (i ≤ length keys) × Listing (orderIn keys) 0 out₀ (bind (reverse (take i keys)) (functionOf (λ f. entryOf f keys))) out m
+Inv-loop postorder out₀ m₀ i₀ out m i = (i ≤ length postorder) × Listing (orderIn postorder) 0 out₀ (bind (reverse (take i postorder)) (functionOf (λ f. entryOf f postorder))) out m
 
 abbrev μ-loop : tie.MeasureT-loop
-μ-loop keys out₀ m₀ i₀ out m i = i
+μ-loop postorder out₀ m₀ i₀ out m i = i
 
 loop-holds : tie.Need-loop-holds Inv-loop μ-loop
 unfolding orderIn
-loop-holds c = (omega arith, listing-as (back-start (functionOf (λ f. entryOf f (c .before .before .args .keys .now))) (c .before .before .args .keys .now)) listing-none)
+loop-holds c = (omega arith, listing-as (back-start (functionOf (λ f. entryOf f (c .before .before .args .postorder .now))) (c .before .before .args .postorder .now)) listing-none)
 
 sub-i : tie.Need-sub-i Inv-loop μ-loop
 sub-i c = omega arith
@@ -33,7 +34,7 @@ shared-slice-read-key c = omega arith
 function-entry-requires : tie.Need-function-entry-requires Inv-loop μ-loop
 function-entry-requires c κs = let S = c .before .before .before .before .before .before .before in
     let L = c .before .before .before .before .loop in
-    let ks = S .args .keys .now in
+    let ks = S .args .postorder .now in
     let g : ℕ → List ℕ = functionOf (λ f. entryOf f ks) in
     let e : bind (reverse (take (L .i) ks)) g ≡ entryOf (getD ks (L .i - 1) 0) ks ++ bind (reverse (take (L .i - 1) ks)) g =
     back-next g ks (L .i) (c .before .before .before .loop-test .taken) (L .inv .0) ∙ rw (lt-ltb _ _ (c .before .if1 .taken)) in
@@ -45,7 +46,7 @@ loop-less c = omega arith
 loop-again : tie.Need-loop-again Inv-loop μ-loop
 loop-again c = let S = c .before .before .before .before .before .before .before .before .before .before in
     let L = c .before .before .before .before .before .before .before .loop in
-    let ks = S .args .keys .now in
+    let ks = S .args .postorder .now in
     let g : ℕ → List ℕ = functionOf (λ f. entryOf f ks) in
     let e : bind (reverse (take (L .i) ks)) g ≡ entryOf (getD ks (L .i - 1) 0) ks ++ bind (reverse (take (L .i - 1) ks)) g =
     back-next g ks (L .i) (c .before .before .before .before .before .before .loop-test .taken) (L .inv .0) ∙ rw (lt-ltb _ _ (c .before .before .before .before .if1 .taken)) in
@@ -57,7 +58,7 @@ loop-less-2 c = omega arith
 loop-again-2 : tie.Need-loop-again-2 Inv-loop μ-loop
 loop-again-2 c = let S = c .before .before .before .before .before .before in
     let L = c .before .before .before .loop in
-    let ks = S .args .keys .now in
+    let ks = S .args .postorder .now in
     let g : ℕ → List ℕ = functionOf (λ f. entryOf f ks) in
     let e : bind (reverse (take (L .i) ks)) g ≡ bind (reverse (take (L .i - 1) ks)) g =
     back-next g ks (L .i) (c .before .before .loop-test .taken) (L .inv .0) ∙ rw (le-ltb _ _ (c .if1 .left)) in
@@ -67,7 +68,7 @@ same-length : tie.Need-same-length Inv-loop μ-loop
 same-length c = c .before .loop .inv .1 .long
 
 returns : tie.Need-returns Inv-loop μ-loop
-returns c = listing-all (back-end (functionOf (λ f. entryOf f (c .before .before .before .before .args .keys .now))) (c .before .before .before .before .args .keys .now) (c .before .loop .i) (c .loop-test .left)) (c .before .loop .inv .1)
+returns c = listing-all (back-end (functionOf (λ f. entryOf f (c .before .before .before .before .args .postorder .now))) (c .before .before .before .before .args .postorder .now) (c .before .loop .i) (c .loop-test .left)) (c .before .loop .inv .1)
 
 pub order-words-spec : {M : Type 1} → statement M
 order-words-spec =

@@ -6,11 +6,11 @@ use borrow.Author.Needs.{needs}
 use Rattle.sir_analyses.proofs.reverse_post_order.push.Statement.{statement}
 use Rattle.sir_analyses.proofs.reverse_post_order.push.Tie as tie
 
-mul-post : tie.Need-mul-post
-mul-post c = search needs
+mul-postorder : tie.Need-mul-postorder
+mul-postorder c = search needs
 
-slice-write-post : tie.Need-slice-write-post
-slice-write-post c = search needs
+slice-write-postorder : tie.Need-slice-write-postorder
+slice-write-postorder c = search needs
 
 add-result : tie.Need-add-result
 add-result c = search needs
@@ -19,7 +19,7 @@ same-length : tie.Need-same-length
 same-length c = search needs
 
 returns : tie.Need-returns
-returns c = (refl, rw add-one (take-suc-set (c .args .post .now) (c .args .n) (c .args .key) (c .pre)))
+returns c = (refl, rw add-one (take-suc-set (c .args .postorder .now) (c .args .n) (c .args .key) (c .pre)))
 
 pub push-spec : {M : Type 1} → statement M
-push-spec = tie.close (tie.spec mul-post slice-write-post add-result same-length returns)
+push-spec = tie.close (tie.spec mul-postorder slice-write-postorder add-result same-length returns)

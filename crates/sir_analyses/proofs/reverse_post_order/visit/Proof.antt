@@ -3,7 +3,7 @@ use mathlib.Core.Path.{_≡_, sym, _∙_}
 use Prim.Native.Nat.{suc, _-_}
 use native.Mathlib.Omega.{arith}
 use Rattle.sir_data.specs.Records.{mainPlusOne}
-use Rattle.sir_analyses.proofs.Visiting.{held-start, visited-one, visited-two}
+use Rattle.sir_analyses.proofs.reverse_post_order.Visiting.{held-start, visited-one, visited-two}
 use borrow.Author.Needs.{needs}
 use Rattle.sir_analyses.proofs.reverse_post_order.visit.Statement.{statement}
 use Rattle.sir_analyses.proofs.reverse_post_order.visit.Tie as tie

@@ -1,8 +1,8 @@
 -- `advance` meets its contract.
 use native.Mathlib.Omega.{arith}
-use Rattle.sir_analyses.specs.Scatter.{forward}
-use Rattle.sir_analyses.specs.Pieces.{blanks}
-use Rattle.sir_analyses.proofs.Scattering.{scatters-blank, blanks-long, fits-one}
+use Rattle.sir_analyses.specs.inner.Scatter.{forward}
+use Rattle.sir_analyses.specs.inner.Pieces.{blanks}
+use Rattle.sir_analyses.proofs.scatter.Scattering.{scatters-blank, blanks-long, fits-one}
 use borrow.Author.Needs.{needs}
 use Rattle.sir_analyses.proofs.scatter.advance.Statement.{statement}
 use Rattle.sir_analyses.proofs.scatter.advance.Tie as tie

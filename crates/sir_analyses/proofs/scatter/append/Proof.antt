@@ -2,8 +2,8 @@
 use mathlib.Core.Path.{ap}
 use native.Mathlib.Omega.{arith}
 use lib.ListN.{set}
-use Rattle.sir_analyses.specs.Scatter.{forward}
-use Rattle.sir_analyses.proofs.Scattering.{fits-one, scatters-one}
+use Rattle.sir_analyses.specs.inner.Scatter.{forward}
+use Rattle.sir_analyses.proofs.scatter.Scattering.{fits-one, scatters-one}
 use borrow.Author.Needs.{needs}
 use Rattle.sir_analyses.proofs.scatter.append.Statement.{statement}
 use Rattle.sir_analyses.proofs.scatter.append.Tie as tie

@@ -5,10 +5,10 @@ use Prim.Native.Nat.{ℕ, _+_, _-_, _≤_, _<_}
 use native.Mathlib.Omega.{arith}
 use lib.ListN.{length, getD, drop}
 use Rattle.plank_core.specs.laws.Lists.{getD-mem}
-use Rattle.sir_analyses.specs.Scatter.{forward}
-use Rattle.sir_analyses.specs.Pieces.{piecesAt}
-use Rattle.sir_analyses.proofs.Scattering.{Scattering, scattering-none, scattering-as, scattering-fits, scattering-more, scattering-all}
-use Rattle.sir_analyses.proofs.PieceLaws.{piece-next, piece-end}
+use Rattle.sir_analyses.specs.inner.Scatter.{forward}
+use Rattle.sir_analyses.specs.inner.Pieces.{piecesAt}
+use Rattle.sir_analyses.proofs.scatter.Scattering.{Scattering, scattering-none, scattering-as, scattering-fits, scattering-more, scattering-all}
+use Rattle.sir_analyses.proofs.scatter.PieceLaws.{piece-next, piece-end}
 use Rattle.sir_analyses.proofs.scatter.append_each.Statement.{statement}
 use Rattle.sir_analyses.proofs.scatter.append_each.Tie as tie
 

@@ -1,8 +1,8 @@
 -- `prepend` meets its contract.
 use mathlib.Core.Path.{refl}
 use native.Mathlib.Omega.{arith}
-use Rattle.sir_analyses.specs.Scatter.{backward}
-use Rattle.sir_analyses.proofs.Scattering.{fits-one, scatters-one}
+use Rattle.sir_analyses.specs.inner.Scatter.{backward}
+use Rattle.sir_analyses.proofs.scatter.Scattering.{fits-one, scatters-one}
 use borrow.Author.Needs.{needs}
 use Rattle.sir_analyses.proofs.scatter.prepend.Statement.{statement}
 use Rattle.sir_analyses.proofs.scatter.prepend.Tie as tie

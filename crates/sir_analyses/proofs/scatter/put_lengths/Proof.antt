@@ -3,8 +3,8 @@ use mathlib.Core.Path.{_≡_, refl, sym, ap, _∙_}
 use Prim.Native.Nat.{_-_, _≤_}
 use native.Mathlib.Omega.{arith}
 use lib.ListN.{length, set, length-set}
-use Rattle.sir_analyses.specs.Scatter.{numberAt, origin, toward}
-use Rattle.sir_analyses.proofs.Scattering.{Placing, placing-none, placing-next, placing-more, origin-is}
+use Rattle.sir_analyses.specs.inner.Scatter.{numberAt, origin, toward}
+use Rattle.sir_analyses.proofs.scatter.Scattering.{Placing, placing-none, placing-next, placing-more, origin-is}
 use Rattle.sir_analyses.proofs.scatter.put_lengths.Statement.{statement}
 use Rattle.sir_analyses.proofs.scatter.put_lengths.Tie as tie
 

@@ -3,7 +3,7 @@ use mathlib.Core.Path.{_≡_, refl, ap, _∙_}
 use Prim.Native.Nat.{_-_, _≤_}
 use native.Mathlib.Omega.{arith}
 use lib.ListN.{length}
-use Rattle.sir_analyses.specs.Scatter.{numberAt, base}
+use Rattle.sir_analyses.specs.inner.Scatter.{numberAt, base}
 use Rattle.sir_analyses.specs.laws.Scatter.{base-next, base-within}
 use Rattle.sir_analyses.proofs.scatter.total_words.Statement.{statement}
 use Rattle.sir_analyses.proofs.scatter.total_words.Tie as tie

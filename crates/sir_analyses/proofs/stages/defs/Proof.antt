@@ -1,5 +1,5 @@
 -- `defs` meets its contract.
-use Rattle.sir_analyses.specs.Stages.{part}
+use Rattle.sir_analyses.specs.inner.Stages.{part}
 use borrow.Author.Needs.{needs}
 use Rattle.sir_analyses.proofs.stages.defs.Statement.{statement}
 use Rattle.sir_analyses.proofs.stages.defs.Tie as tie

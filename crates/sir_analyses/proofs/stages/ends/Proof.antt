@@ -1,5 +1,5 @@
 -- `ends` meets its contract.
-use Rattle.sir_analyses.specs.Stages.{part}
+use Rattle.sir_analyses.specs.inner.Stages.{part}
 use borrow.Author.Needs.{needs}
 use Rattle.sir_analyses.proofs.stages.ends.Statement.{statement}
 use Rattle.sir_analyses.proofs.stages.ends.Tie as tie

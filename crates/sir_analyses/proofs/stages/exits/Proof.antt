@@ -1,5 +1,5 @@
 -- `exits` meets its contract.
-use Rattle.sir_analyses.specs.Stages.{part}
+use Rattle.sir_analyses.specs.inner.Stages.{part}
 use borrow.Author.Needs.{needs}
 use Rattle.sir_analyses.proofs.stages.exits.Statement.{statement}
 use Rattle.sir_analyses.proofs.stages.exits.Tie as tie

@@ -3,7 +3,7 @@ use mathlib.Core.Path.{sym, ap}
 use mathlib.Core.Bool.{not}
 use Prim.Native.Nat.{ℕ}
 use lib.Dec.{eqb}
-use Rattle.sir_analyses.proofs.Parts.{part-get}
+use Rattle.sir_analyses.proofs.stages.Parts.{part-get}
 use native.Mathlib.Omega.{arith}
 use Rattle.sir_analyses.proofs.stages.is_marked.Statement.{statement}
 use Rattle.sir_analyses.proofs.stages.is_marked.Tie as tie

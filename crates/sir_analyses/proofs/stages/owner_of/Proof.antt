@@ -1,6 +1,6 @@
 -- `owner_of` meets its contract.
 use mathlib.Core.Path.{sym}
-use Rattle.sir_analyses.proofs.Parts.{part-get}
+use Rattle.sir_analyses.proofs.stages.Parts.{part-get}
 use native.Mathlib.Omega.{arith}
 use Rattle.sir_analyses.proofs.stages.owner_of.Statement.{statement}
 use Rattle.sir_analyses.proofs.stages.owner_of.Tie as tie

@@ -1,5 +1,5 @@
 -- `reads` meets its contract.
-use Rattle.sir_analyses.specs.Stages.{part}
+use Rattle.sir_analyses.specs.inner.Stages.{part}
 use borrow.Author.Needs.{needs}
 use Rattle.sir_analyses.proofs.stages.reads.Statement.{statement}
 use Rattle.sir_analyses.proofs.stages.reads.Tie as tie

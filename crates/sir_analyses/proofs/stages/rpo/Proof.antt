@@ -2,7 +2,7 @@
 use mathlib.Core.Path.{_≡_, ap}
 use Prim.Native.Nat.{ℕ, _+_, _-_}
 use lib.ListN.{getD, take, drop}
-use Rattle.sir_analyses.specs.Stages.{part}
+use Rattle.sir_analyses.specs.inner.Stages.{part}
 use native.Mathlib.Omega.{arith}
 use Rattle.sir_analyses.proofs.stages.rpo.Statement.{statement}
 use Rattle.sir_analyses.proofs.stages.rpo.Tie as tie

@@ -7,7 +7,7 @@ use lib.ListN.{length, drop}
 use borrow.Author.Tests.{not-true, not-false}
 use Rattle.plank_core.specs.Lists.{distinct}
 use Rattle.plank_core.specs.laws.Lists.{getD-mem}
-use Rattle.plank_core.specs.DenseIndexSet.{emptySet, setOf, wordOf, fresh}
+use Rattle.plank_core.specs.inner.DenseIndexSet.{emptySet, setOf, wordOf, fresh}
 use Rattle.plank_core.specs.laws.Distinct.{fresh-all, fresh-step, fresh-stop, fresh-end}
 use Rattle.sir_data.proofs.block_rules.all_distinct.Statement.{statement}
 use Rattle.sir_data.proofs.block_rules.all_distinct.Tie as tie

@@ -4,7 +4,7 @@ use Prim.Native.Nat.{_-_, _%_, _^_, _≤_}
 use native.Mathlib.Omega.{arith}
 use borrow.Author.Needs.{needs}
 use Rattle.sir_data.specs.Pages.{pageWord}
-use Rattle.sir_data.proofs.PageCheck.{total, running, total-none, turn-a, turn-b, check-is}
+use Rattle.sir_data.proofs.pages.PageCheck.{total, running, total-none, turn-a, turn-b, check-is}
 use Rattle.sir_data.proofs.pages.page_check.Statement.{statement}
 use Rattle.sir_data.proofs.pages.page_check.Tie as tie
 

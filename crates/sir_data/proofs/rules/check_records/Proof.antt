@@ -1,4 +1,4 @@
--- `check_records` meets its contract: the head decides, then the fit, then what is behind it.
+-- `check_records` meets its contract: the head decides, then the fit, then what is after it.
 use mathlib.Core.Path.{_≡_, refl, sym, _∙_}
 use mathlib.Core.Bool.{Bool, true, false}
 use mathlib.Core.List.{List, _∷_, _++_}
@@ -10,7 +10,7 @@ use borrow.Author.Needs.{needs}
 use Rattle.sir_data.proofs.rules.check_records.Statement.{statement}
 use Rattle.sir_data.proofs.rules.check_records.Tie as tie
 
--- the rules behind the head
+-- the rules after the head
 abbrev behind : List ℕ → List (ℕ × Bool)
 behind w = (6, rule6 w) ∷ fieldRules w ++ operandRules w
 

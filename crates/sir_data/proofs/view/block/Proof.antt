@@ -36,7 +36,7 @@ use Rattle.plank_core.specs.declared.index.BlockId.{BlockId}
 use Rattle.plank_core.proofs.index.BlockId as I
 use Rattle.plank_core.proofs.index.BlockId.Laws as I′
 use Rattle.sir_data.specs.declared.view.BlockView.{BlockView}
-use Rattle.sir_data.proofs.Apart.{B, D, L}
+use Rattle.sir_data.proofs.view.Apart.{B, D, L}
 use Rattle.sir_data.proofs.view.BlockView.Laws as T′
 use Rattle.sir_data.proofs.view.block as self
 use Rattle.sir_data.proofs.view.block.Key.{name}

@@ -4,7 +4,7 @@ use contract.Running.{givenOf}
 use denote.Enum.Laws.{lawful}
 use Rattle.sir_data.proofs.records.Tested as E
 use Rattle.sir_data.proofs.records.Tested.Laws as E′
-use Rattle.sir_data.proofs.Through.{function-spec}
+use Rattle.sir_data.proofs.view.Through.{function-spec}
 use Rattle.sir_data.proofs.view.BlockView.condition.Symbol as method
 use Rattle.sir_data.proofs.view.BlockView.condition.Met as theorem
 use Rattle.sir_data.proofs.view.condition as self

@@ -4,7 +4,7 @@ use contract.Running.{givenOf}
 use mir.Syntax.{named}
 use denote.Builtin.{u32}
 use denote.Slice.{shr-slice-lawful}
-use Rattle.sir_data.proofs.Through.{function-spec}
+use Rattle.sir_data.proofs.view.Through.{function-spec}
 use Rattle.sir_data.proofs.view.BlockView.inputs.Symbol as method
 use Rattle.sir_data.proofs.view.BlockView.inputs.Met as theorem
 use Rattle.sir_data.proofs.view.inputs as self

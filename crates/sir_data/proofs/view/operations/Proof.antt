@@ -4,7 +4,7 @@ use contract.Running.{givenOf}
 use denote.Struct.Laws.{lawful}
 use Rattle.plank_core.proofs.span.Span as S
 use Rattle.plank_core.proofs.span.Span.Laws as S′
-use Rattle.sir_data.proofs.Through.{function-spec}
+use Rattle.sir_data.proofs.view.Through.{function-spec}
 use Rattle.sir_data.proofs.view.BlockView.operations.Symbol as method
 use Rattle.sir_data.proofs.view.BlockView.operations.Met as theorem
 use Rattle.sir_data.proofs.view.operations as self

@@ -37,8 +37,8 @@ use Rattle.plank_core.specs.declared.index.BlockId.{BlockId}
 use Rattle.plank_core.proofs.index.BlockId as I
 use Rattle.plank_core.proofs.index.BlockId.Laws as I′
 use Rattle.sir_data.specs.declared.view.BlockView.{BlockView}
-use Rattle.sir_data.proofs.AfterCall.{clause, returned}
-use Rattle.sir_data.proofs.Through.{Block, slice, viewOf, View, to-block, goes-block, typed, viewed}
+use Rattle.sir_data.proofs.view.AfterCall.{clause, returned}
+use Rattle.sir_data.proofs.view.Through.{Block, slice, viewOf, View, to-block, goes-block, typed, viewed}
 use Rattle.sir_data.proofs.view.BlockView.Laws as T′
 use Rattle.sir_data.proofs.view.block.Symbol as block-def
 use Rattle.sir_data.proofs.view.block.Met as block-thm

@@ -3,7 +3,7 @@ use mathlib.Core.Path.{refl}
 use contract.Running.{givenOf}
 use mir.Syntax.{w64}
 use denote.Plain.{uint-lawful}
-use Rattle.sir_data.proofs.Through.{function-spec}
+use Rattle.sir_data.proofs.view.Through.{function-spec}
 use Rattle.sir_data.proofs.view.BlockView.successor_count.Symbol as method
 use Rattle.sir_data.proofs.view.BlockView.successor_count.Met as theorem
 use Rattle.sir_data.proofs.view.successor_count as self

@@ -4,7 +4,7 @@ use contract.Running.{givenOf}
 use denote.Enum.Laws.{lawful}
 use Rattle.sir_data.proofs.records.Tested as E
 use Rattle.sir_data.proofs.records.Tested.Laws as E′
-use Rattle.sir_data.proofs.Apart.{method-spec}
+use Rattle.sir_data.proofs.view.Apart.{method-spec}
 use Rattle.sir_data.proofs.records.tested_local as callee
 use Rattle.sir_data.proofs.records.tested_local.Symbol as symbol
 use Rattle.sir_data.proofs.records.tested_local.Met as theorem

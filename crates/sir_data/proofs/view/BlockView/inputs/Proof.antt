@@ -4,7 +4,7 @@ use contract.Running.{givenOf}
 use mir.Syntax.{named}
 use denote.Builtin.{u32}
 use denote.Slice.{shr-slice-lawful}
-use Rattle.sir_data.proofs.Apart.{method-spec}
+use Rattle.sir_data.proofs.view.Apart.{method-spec}
 use Rattle.sir_data.proofs.records.block_inputs as callee
 use Rattle.sir_data.proofs.records.block_inputs.Symbol as symbol
 use Rattle.sir_data.proofs.records.block_inputs.Met as theorem

@@ -4,7 +4,7 @@ use contract.Running.{givenOf}
 use denote.Struct.Laws.{lawful}
 use Rattle.plank_core.proofs.span.Span as S
 use Rattle.plank_core.proofs.span.Span.Laws as S′
-use Rattle.sir_data.proofs.Apart.{method-spec}
+use Rattle.sir_data.proofs.view.Apart.{method-spec}
 use Rattle.sir_data.proofs.records.block_operations as callee
 use Rattle.sir_data.proofs.records.block_operations.Symbol as symbol
 use Rattle.sir_data.proofs.records.block_operations.Met as theorem

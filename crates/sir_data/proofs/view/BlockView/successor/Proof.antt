@@ -39,8 +39,8 @@ use Rattle.plank_core.specs.declared.index.BlockId.{BlockId}
 use Rattle.plank_core.proofs.index.BlockId as I
 use Rattle.plank_core.proofs.index.BlockId.Laws as I′
 use Rattle.sir_data.specs.declared.view.BlockView.{BlockView}
-use Rattle.sir_data.proofs.AfterCall.{clause, returned}
-use Rattle.sir_data.proofs.Apart.{B, D, L}
+use Rattle.sir_data.proofs.view.AfterCall.{clause, returned}
+use Rattle.sir_data.proofs.view.Apart.{B, D, L}
 use Rattle.sir_data.proofs.records.successor as callee
 use Rattle.sir_data.proofs.records.successor.Symbol as symbol
 use Rattle.sir_data.proofs.records.successor.Met as theorem

@@ -3,7 +3,7 @@ use mathlib.Core.Path.{refl}
 use contract.Running.{givenOf}
 use mir.Syntax.{w64}
 use denote.Plain.{uint-lawful}
-use Rattle.sir_data.proofs.Apart.{method-spec}
+use Rattle.sir_data.proofs.view.Apart.{method-spec}
 use Rattle.sir_data.proofs.records.successor_count as callee
 use Rattle.sir_data.proofs.records.successor_count.Symbol as symbol
 use Rattle.sir_data.proofs.records.successor_count.Met as theorem

@@ -1,0 +1,3 @@
+-- What the proofs of the functions of `all_allocations` share.
+pub mod AllocationPieces
+pub mod SweptEnds

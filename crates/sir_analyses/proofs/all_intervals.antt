@@ -1,0 +1,3 @@
+-- What the proofs of the functions of `all_intervals` share.
+pub mod IntervalPieces
+pub mod OpenEnds

@@ -1,0 +1,2 @@
+-- What the proofs of the functions of `all_sets` share.
+pub mod AllLaws

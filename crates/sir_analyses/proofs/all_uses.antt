@@ -1,0 +1,2 @@
+-- What the proofs of the functions of `all_uses` share.
+pub mod UsePieces

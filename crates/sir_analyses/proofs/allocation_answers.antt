@@ -1,0 +1,2 @@
+-- What the proofs of the functions of `allocation_answers` share.
+pub mod AllocationWords

@@ -1,0 +1,151 @@
+-- The locals that an allocation owns as a set, and the words of its answer.
+use mathlib.Core.Path.{_≡_, refl, sym, ap, _∙_}
+use mathlib.Core.Bool.{Bool, true, false, _&&_, _||_, not}
+use mathlib.Core.List.{List, [], _∷_, _++_, append-nil, append-assoc}
+use Prim.Native.Nat.{ℕ, _+_, _-_, _*_, _/_, _%_, _≤_, _<_}
+use native.Mathlib.Omega.{arith}
+use native.Mathlib.Numerals.{add-one}
+use lib.ListN.{length, getD, replicate, length-append}
+use lib.Dec.{eqb, ltb}
+use borrow.Author.Tests.{eqb-true, eqb-false, lt-ltb, le-ltb, ltb-true, ltb-false}
+use Rattle.plank_core.specs.Lists.{upto, oneIf}
+use Rattle.plank_core.specs.inner.DenseIndexSet.{contains, added}
+use Rattle.plank_core.specs.laws.DenseIndexSet.{contains-added, contains-cleared}
+use Rattle.sir_data.specs.Records.{blocks, operations, locals, code, outs}
+use Rattle.sir_data.specs.Codes.{isAlloc}
+use Rattle.sir_data.specs.inner.WellFormed.{WellFormed}
+use Rattle.sir_analyses.specs.Liveness.{Set, has, Interval}
+use Rattle.sir_analyses.specs.Allocation.{allocs, allocAt, base, reach, marked, merged}
+use Rattle.sir_analyses.specs.Answers.{intervalWords, allocationAnswer}
+use Rattle.sir_analyses.specs.Kinds.{kindOf, kindWords}
+use Rattle.sir_analyses.specs.declared.allocation_words.AllocKind.{AllocKind}
+use Rattle.sir_analyses.specs.inner.Tables.{Same}
+use Rattle.sir_analyses.specs.inner.Discovery.{allocSites, Discovered, Site, Unmarked, headWords}
+use Rattle.sir_analyses.specs.inner.Sweep.{sweepFrom}
+use Rattle.sir_analyses.specs.inner.Writing.{Puts}
+use Rattle.sir_analyses.proofs.claims.liveness.GenKill.{beyond}
+use Rattle.sir_analyses.proofs.claims.marks.Marks.{reach-length}
+use Rattle.sir_analyses.proofs.merged_intervals.SweepProof.{sweep-merged}
+use Rattle.sir_analyses.proofs.allocation_liveness.Discovery.{sites-long, alloc-op, site-op, site-block}
+use Rattle.sir_analyses.proofs.answers.Writing.{puts-as, puts-then, puts-past}
+
+-- ---- the locals below v for which a test holds
+
+abbrev pub Below : (ℕ → Bool) → ℕ → List ℕ → Type 0
+Below own v set = (u : ℕ) → u < 512 → contains set u ≡ (ltb u v && own u)
+
+pub below-next : (u v : ℕ) → (u ≡ v → ⊥) → ltb u (v + 1) ≡ ltb u v
+below-next u v n = go (ltb u v) refl
+  where
+    go : (t : Bool) → ltb u v ≡ t → ltb u (v + 1) ≡ t
+    go true e = lt-ltb u (v + 1) (omega (arith, ltb-true u v e))
+    go false e = le-ltb u (v + 1) (let h : v ≤ u = ltb-false u v e in omega (arith, n))
+
+pub below-none : (own : ℕ → Bool) (set : List ℕ) → set ≡ replicate 8 0 → Below own 0 set
+below-none own set e u h = ap (λ (l : List ℕ). contains l u) e ∙ contains-cleared 8 u ∙ rw (le-ltb u 0 (omega arith)) refl
+
+module _ (own : ℕ → Bool) (set : List ℕ) (v : ℕ) (b : Below own v set) where
+  pub below-more : (set′ : List ℕ) → length set ≡ 8 → set′ ≡ added set v → own v ≡ true → Below own (v + 1) set′
+  below-more set′ long e t u h =
+      ap (λ (l : List ℕ). contains l u) e ∙ contains-added set v u (omega arith) ∙ go (eqb u v) refl
+    where
+      go : (x : Bool) → eqb u v ≡ x → (x || contains set u) ≡ (ltb u (v + 1) && own u)
+      go true q = let p : u ≡ v = eqb-true u v q in rw (p, lt-ltb v (v + 1) (omega arith), t) refl
+      go false q = b u h ∙ ap (λ (x : Bool). x && own u) (sym (below-next u v (eqb-false u v q)))
+
+  pub below-on : own v ≡ false → Below own (v + 1) set
+  below-on f u h = go (eqb u v) refl
+    where
+      go : (x : Bool) → eqb u v ≡ x → contains set u ≡ (ltb u (v + 1) && own u)
+      go true q = let p : u ≡ v = eqb-true u v q in b u h ∙ rw (p, le-ltb v v (omega arith), lt-ltb v (v + 1) (omega arith), f) refl
+      go false q = b u h ∙ ap (λ (x : Bool). x && own u) (sym (below-next u v (eqb-false u v q)))
+
+-- ---- the reach of an unmarked allocation, and its merged intervals
+
+module _ {w owner marks : List ℕ} (good : WellFormed w) (d : Discovered w owner marks) {a : ℕ} (l : a < length (allocs w)) (u : marked w a ≡ false) where
+  owned-reach : (set : List ℕ) → Below (λ v. eqb (getD owner v 0) (a + 1)) (locals w) set → Same set (reach w (allocAt w a))
+  owned-reach set b v h = b v h ∙ go (ltb v (locals w)) refl
+    where
+      go : (t : Bool) → ltb v (locals w) ≡ t → (t && eqb (getD owner v 0) (a + 1)) ≡ has (reach w (allocAt w a)) v
+      go true e = ap (eqb (getD owner v 0)) (add-one a) ∙ sym (d .reach-is a v l u (ltb-true v (locals w) e))
+      go false e = sym (beyond (reach w (allocAt w a)) v (omega (arith, reach-length w good a, ltb-false v (locals w) e)))
+
+  pub owned-unmarked : {b o : ℕ} {set : List ℕ} → Site w a b o → (length set ≡ 8) × Below (λ v. eqb (getD owner v 0) (a + 1)) (locals w) set → Unmarked w b o set a
+  owned-unmarked {b} {o} {set} x s = record { site = x; unmarked = u; long = s .0; same = owned-reach set (s .1) }
+
+-- the array of marks tells
+pub mark-told : {w owner marks : List ℕ} → Discovered w owner marks → {a : ℕ} → a < length (allocs w) → {told t : Bool} → told ≡ not (eqb (getD marks a 0) 0) → told ≡ t → marked w a ≡ t
+mark-told {w} d {a} l p q = sym (flag (marked w a)) ∙ ap (λ (k : ℕ). not (eqb k 0)) (sym (d .mark-is a l)) ∙ sym p ∙ q
+  where
+    flag : (m : Bool) → not (eqb (oneIf m) 0) ≡ m
+    flag true = refl
+    flag false = refl
+
+pub interval-count : (is : List Interval) → length (intervalWords is) ≡ 3 * length is
+interval-count [] = refl
+interval-count (i ∷ is) = let h = interval-count is in omega arith
+
+-- ---- the answer: its head, then the intervals
+
+pub head-made : (w : List ℕ) (b o mark count : ℕ) {v k s i : ℕ} → v ≡ getD (outs w o) 0 0 → k ∷ s ∷ i ∷ [] ≡ kindWords (kindOf w o)
+    → b ∷ o ∷ v ∷ k ∷ s ∷ i ∷ mark ∷ count ∷ [] ≡ headWords w b o mark count
+head-made w b o mark count p q = rw p (ap (λ (xs : List ℕ). b ∷ o ∷ getD (outs w o) 0 0 ∷ (xs ++ (mark ∷ count ∷ []))) q)
+
+-- a kind has three words, and so a head has eight
+kind-long : (k : AllocKind) → length (kindWords k) ≡ 3
+kind-long (AllocKind.Static size id) = refl
+kind-long (AllocKind.Dynamic local) = refl
+
+pub head-long : (w : List ℕ) (b o mark count : ℕ) → length (headWords w b o mark count) ≡ 8
+head-long w b o mark count = let l = length-append (kindWords (kindOf w o)) (mark ∷ count ∷ []) in omega (arith, kind-long (kindOf w o))
+
+-- the site of an allocation, from its number
+pub site-there : (w : List ℕ) (good : WellFormed w) {sites : List ℕ} {a : ℕ} → a < length sites → sites ≡ allocSites w → Site w a (getD sites a 0 / 1024) (getD sites a 0 % 1024)
+site-there w good {sites} {a} l e =
+    let k : a < length (allocs w) = omega (arith, ap length e, sites-long w) in
+    record {
+      known = k;
+      block-is = ap (λ (ks : List ℕ). getD ks a 0 / 1024) e ∙ site-block w good a k;
+      op-is = ap (λ (ks : List ℕ). getD ks a 0 % 1024) e ∙ site-op w good a k;
+    }
+
+module _ (w : List ℕ) {a b o : ℕ} (good : WellFormed w) (x : Site w a b o) where
+  pub site-known : (o < operations w) × (isAlloc (code w o) ≡ true)
+  site-known = rw (x .op-is) (alloc-op w good a (x .known))
+
+  pub head-is : (m n : ℕ) → m ≡ oneIf (marked w a) → n ≡ length (merged w a) → headWords w b o m n ++ intervalWords (merged w a) ≡ allocationAnswer w a
+  head-is m n p q =
+      rw (x .op-is, x .block-is, p, q)
+      (ap (λ (l : List ℕ). allocAt w a .block ∷ allocAt w a .op ∷ base w (allocAt w a) ∷ l) (append-assoc (kindWords (kindOf w (allocAt w a .op))) (oneIf (marked w a) ∷ length (merged w a) ∷ []) (intervalWords (merged w a))))
+
+  pub marked-answer : marked w a ≡ true → headWords w b o 1 0 ≡ allocationAnswer w a
+  marked-answer t = sym (append-nil (headWords w b o 1 0)) ∙ ap (λ (is : List Interval). headWords w b o 1 0 ++ intervalWords is) (sym none) ∙ head-is 1 0 (rw t refl) (rw none refl)
+    where
+      none : merged w a ≡ []
+      none = rw t refl
+
+  pub marked-long : marked w a ≡ true → 8 ≡ length (allocationAnswer w a)
+  marked-long t = sym (head-long w b o 1 0) ∙ ap length (marked-answer t)
+
+-- what a sweep for some locals puts after the head
+abbrev Sweeps : List ℕ → List ℕ → List ℕ → List ℕ → ℕ → Type 0
+Sweeps w set out out′ r = (s : Set) → length s ≡ locals w → Same set s → Puts 8 (intervalWords (sweepFrom w s (upto (blocks w)))) out out′ r
+
+module _ {w set : List ℕ} {b o a : ℕ} (good : WellFormed w) (x : Unmarked w b o set a) where
+  swept : {r : ℕ} {out out′ : List ℕ} → Sweeps w set out out′ r → Puts 8 (intervalWords (merged w a)) out out′ r
+  swept p = puts-as (ap intervalWords (sweep-merged w good a (x .unmarked))) (p (reach w (allocAt w a)) (reach-length w good a) (x .same))
+
+  pub answer-long : length (allocationAnswer w a) ≡ 8 + length (intervalWords (merged w a))
+  answer-long = sym (ap length (head-is w good (x .site) (oneIf (marked w a)) (length (merged w a)) refl refl)) ∙ length-append (headWords w b o (oneIf (marked w a)) (length (merged w a))) (intervalWords (merged w a)) ∙ rw (head-long w b o (oneIf (marked w a)) (length (merged w a)))
+
+  -- counting gives the number of words
+  pub swept-count : {n : ℕ} {out counted : List ℕ} → Sweeps w set out counted n → n ≡ length (allocationAnswer w a)
+  swept-count p = let q = swept p in omega (arith, q .next, answer-long)
+
+  pub swept-answer : {n m r : ℕ} {out headed left : List ℕ} → n ≡ length (allocationAnswer w a)
+      → Puts 0 (headWords w b o 0 ((n - 8) / 3)) out headed m → Sweeps w set headed left r → Puts 0 (allocationAnswer w a) out left r
+  swept-answer {n} {m} {r} {out} {headed} {left} e p q =
+      let z : (n - 8) / 3 ≡ length (merged w a) = omega (arith, e, answer-long, interval-count (merged w a)) in
+      let g : m ≡ 8 = omega (arith, p .next, head-long w b o 0 ((n - 8) / 3)) in
+      let p′ : Puts 0 (headWords w b o 0 ((n - 8) / 3)) out headed 8 = rw g at p in
+      puts-as (head-is w good (x .site) 0 ((n - 8) / 3) (rw (x .unmarked) refl) z) (puts-then p′ (swept q))

@@ -1,0 +1,3 @@
+-- What the proofs of the functions of `answers` share.
+pub mod Writing
+pub mod Calls

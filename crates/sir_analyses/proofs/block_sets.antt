@@ -1,0 +1,2 @@
+-- What the proofs of the functions of `block_sets` share.
+pub mod BlockSets

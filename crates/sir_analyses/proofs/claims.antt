@@ -1,0 +1,7 @@
+-- The theorems on what is claimed of every accepted image.
+pub mod order
+pub mod liveness
+pub mod source
+pub mod marks
+pub mod lifetimes
+pub mod Proved

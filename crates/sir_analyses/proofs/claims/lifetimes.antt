@@ -1,0 +1,4 @@
+-- Merged intervals, and what they cover on every walk.
+pub mod Merging
+pub mod Scans
+pub mod Lifetime

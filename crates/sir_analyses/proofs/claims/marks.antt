@@ -1,0 +1,3 @@
+-- Reach, marks and owners.
+pub mod Marks
+pub mod Propagation

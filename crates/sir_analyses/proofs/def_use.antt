@@ -1,0 +1,2 @@
+-- What the proofs of the functions of `def_use` share.
+pub mod UseWords

@@ -1,0 +1,6 @@
+-- What the proofs of the functions of `local_liveness` share.
+pub mod Growth
+pub mod Sending
+pub mod Stepping
+pub mod Passes
+pub mod LivenessTables

@@ -1,0 +1,2 @@
+-- What the proofs of the functions of `pointer_links` share.
+pub mod PointerLinks

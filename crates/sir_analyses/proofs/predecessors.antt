@@ -1,0 +1,2 @@
+-- What the proofs of the functions of `predecessors` share.
+pub mod Edges

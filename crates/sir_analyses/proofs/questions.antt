@@ -1,0 +1,2 @@
+-- What the proofs of the functions of `questions` share.
+pub mod Asked

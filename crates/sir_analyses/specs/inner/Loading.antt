@@ -1,0 +1,23 @@
+-- What every question starts from: the refusal of the image, or its words, the visit, the order's words and its allocations.
+use mathlib.Core.Path.{_≡_}
+use mathlib.Core.List.{List}
+use Prim.Native.Nat.{ℕ, _≤_}
+use lib.ListN.{length, take}
+use Rattle.sir_data.specs.Pages.{payload}
+use Rattle.sir_analyses.specs.Calls.{refusal}
+use Rattle.sir_analyses.specs.inner.Stages.{OrderStage, VisitStage, AcceptedStage}
+
+-- n words, k keys of the visit and a allocations stand at the front of their arrays
+pub record Prepared (w words postorder visit sites : List ℕ) (n k a : ℕ) : Type 0 where
+  pub words-fit : n ≤ length words
+  pub words-are : take n words ≡ w
+  pub postorder-fit : k ≤ length postorder
+  pub sites-fit : a ≤ length sites
+  pub order-stage : OrderStage (take n words) (take k postorder)
+  pub visit-stage : VisitStage (take n words) visit
+  pub accepted-stage : AcceptedStage (take n words) (take a sites)
+
+-- an image is read: its refusal, or all that is prepared from it
+pub record Loaded (s words postorder visit sites : List ℕ) (number n k a : ℕ) : Type 0 where
+  pub number-is : number ≡ refusal s
+  pub prepared : refusal s ≡ 0 → Prepared (payload s) words postorder visit sites n k a

@@ -1,4 +1,0 @@
-pub mod AfterCall
-pub mod Apart
-pub mod PageCheck
-pub mod Through

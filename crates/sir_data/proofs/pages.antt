@@ -1,0 +1,2 @@
+-- What the proofs of the functions of `pages` share.
+pub mod PageCheck

@@ -1,0 +1,4 @@
+-- Forms between our own functions: contracts of functions that are not exported. No exported promise speaks of them.
+pub mod Cases
+pub mod WellFormed
+pub mod Image
