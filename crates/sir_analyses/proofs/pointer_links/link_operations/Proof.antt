@@ -41,8 +41,12 @@ link-operation-requires c κs = let s = c .before .before .before .before .befor
     (s .pre .0, (omega (arith, c .before .before .before .before .before .operation-count .ensures), c .before .before .before .before .loop .inv .1 .long ∙ s .pre .1 .1 .0))
 
 add-escaping-requires : tie.Need-add-escaping-requires Inv-loop μ-loop
-add-escaping-requires c κs = let s = c .before .before .before .before .before .before .before .before .before .before .before .before .before .before in
-    (s .pre .0, (omega (arith, c .before .before .before .before .before .before .before .before .before .operation-count .ensures), c .before .before .before .before .before .before .before .before .loop .inv .2 .long ∙ s .pre .1 .1 .1))
+add-escaping-requires c κs =
+    let at-link-operation = c .before .before .before .before in
+    let at-loop = at-link-operation .before .before .before .before in
+    let at-operation-count = at-loop .before in
+    let start = at-operation-count .before .before .before .before .before in
+    (start .pre .0, (omega (arith, at-operation-count .operation-count .ensures), at-loop .loop .inv .2 .long ∙ start .pre .1 .1 .1))
 
 add-o : tie.Need-add-o Inv-loop μ-loop
 add-o c = omega arith

@@ -83,19 +83,28 @@ block-same-length : (t : ℕ) → visit-block-lts.Need-same-length (block-claims
 block-same-length t c = c .before .before .before .row-add .kept .0
 
 block-returns : (t : ℕ) → visit-block-lts.Need-returns (block-claims t) (visit-block-at t) visit-block.Post Inv-calls μ-calls Inv-successors μ-successors
-block-returns t c = skip-block (c .before .before .before .before .before .before .before .before .pre .1 .0) (c .before .before .before .before .before .before .before .before .pre .1 .1 .1 .1) (c .before .before .before .before .before .before .before .before .args .f .0) (c .before .before .before .before .before .before .before .before .args .b .0) (c .before .before .before .before .before .before .before .before .pre .1 .1 .1 .0) (c .before .before .before .row-add .ensures .1) (not-false _ (sym (c .before .before .before .row-add .ensures .0) ∙ not-true _ (c .if1 .taken)))
+block-returns t c =
+    let at-row-add = c .before .before .before in
+    let start = at-row-add .before .before .before .before .before in
+    skip-block (start .pre .1 .0) (start .pre .1 .1 .1 .1) (start .args .f .0) (start .args .b .0) (start .pre .1 .1 .1 .0) (at-row-add .row-add .ensures .1) (not-false _ (sym (at-row-add .row-add .ensures .0) ∙ not-true _ (c .if1 .taken)))
 
 -- it was not seen
 block-new : (t : ℕ) (c : visit-block-lts.Else1 (block-claims t) (visit-block-at t) visit-block.Post Inv-calls μ-calls Inv-successors μ-successors)
-    → contains (c .before .before .before .before .before .before .before .before .args .seen .now) (512 + c .before .before .before .before .before .before .before .before .args .b .0) ≡ false
+    → let at-slice-known2 = c .before .before .before .before .before in
+    let start = at-slice-known2 .before .before .before in
+    contains (start .args .seen .now) (512 + start .args .b .0) ≡ false
 block-new t c =
     not-true _ (sym (c .before .before .before .row-add .ensures .0) ∙ not-false _ (c .if1 .left))
 
 -- the block is entered
 block-entered : (t : ℕ) (c : visit-block-lts.Else1 (block-claims t) (visit-block-at t) visit-block.Post Inv-calls μ-calls Inv-successors μ-successors)
-    → Entered (c .before .before .before .before .before .before .before .before .args .words .now) (λ v. seeBlock v (c .before .before .before .before .before .before .before .before .args .b .0)) (c .before .before .before .before .before .before .before .before .args .seen .now) (c .before .before .before .before .before .before .before .before .args .postorder .now) (c .before .before .before .before .before .before .before .before .args .n) (c .before .before .before .row-add .last .0)
+    → let at-row-add = c .before .before .before in
+    let start = at-row-add .before .before .before .before .before in
+    Entered (start .args .words .now) (λ v. seeBlock v (start .args .b .0)) (start .args .seen .now) (start .args .postorder .now) (start .args .n) (at-row-add .row-add .last .0)
 block-entered t c =
-    enter-block (c .before .before .before .before .before .before .before .before .pre .1 .0) (c .before .before .before .before .before .before .before .before .pre .1 .1 .1 .1) (c .before .before .before .before .before .before .before .before .args .b .0) (c .before .before .before .before .before .before .before .before .pre .1 .1 .1 .0) (c .before .before .before .row-add .ensures .1) (block-new t c)
+    let at-row-add = c .before .before .before in
+    let start = at-row-add .before .before .before .before .before in
+    enter-block (start .pre .1 .0) (start .pre .1 .1 .1 .1) (start .args .b .0) (start .pre .1 .1 .1 .0) (at-row-add .row-add .ensures .1) (block-new t c)
 
 block-block-operations-requires : (t : ℕ) → visit-block-lts.Need-block-operations-requires (block-claims t) (visit-block-at t) visit-block.Post Inv-calls μ-calls Inv-successors μ-successors
 block-block-operations-requires t c κs = search needs
@@ -104,17 +113,28 @@ block-calls-holds : (t : ℕ) → visit-block-lts.Need-calls-holds (block-claims
 block-calls-holds t c = (le-refl _, going-none (block-entered t (c .before) .held))
 
 block-callee-plus-one-requires : (t : ℕ) → visit-block-lts.Need-callee-plus-one-requires (block-claims t) (visit-block-at t) visit-block.Post Inv-calls μ-calls Inv-successors μ-successors
-block-callee-plus-one-requires t c κs = let r = c .before .before .before .before .before .before .before .before .before .before .before .pre .1 .0 .in-range .ops-range (c .before .before .before .before .before .before .before .before .before .before .before .args .b .0) (c .before .before .before .before .before .before .before .before .before .before .before .pre .1 .1 .1 .0) in (c .before .before .before .before .before .before .before .before .before .before .before .pre .1 .0, omega (arith, r, c .before .before .block-operations .ensures, c .calls-test .taken))
+block-callee-plus-one-requires t c κs =
+    let at-seen = c .before .before .before .before .before in
+    let at-shared-slice-known = at-seen .before .before .before .before .before in
+    let start = at-shared-slice-known .before in
+    let r = start .pre .1 .0 .in-range .ops-range (start .args .b .0) (start .pre .1 .1 .1 .0) in (start .pre .1 .0, omega (arith, r, c .before .before .block-operations .ensures, c .calls-test .taken))
 
 block-sub-t20 : (t : ℕ) → visit-block-lts.Need-sub-t20 (block-claims t) (visit-block-at t) visit-block.Post Inv-calls μ-calls Inv-successors μ-successors
 block-sub-t20 t c = omega arith
 
 block-visit-function-requires : (t : ℕ) → visit-block-lts.Need-visit-function-requires (block-claims t) (visit-block-at t) visit-block.Post Inv-calls μ-calls Inv-successors μ-successors
-block-visit-function-requires t c κs = let S = c .before .before .before .before .before .before .before .before .before .before .before .before .before .before .before in
-    let L = c .before .before .before .before .before .calls in
-    let r = S .pre .1 .0 .in-range .ops-range (S .args .b .0) (S .pre .1 .1 .1 .0) in
-    let l = callee-below (S .pre .1 .0) (L .o) _ (omega (arith, r, c .before .before .before .before .before .before .block-operations .ensures, c .before .before .before .before .calls-test .taken)) (c .before .before .before .callee-plus-one .ensures) (c .before .before .if2 .taken) in
-    (omega (arith, block-entered t (c .before .before .before .before .before .before .before) .fewer, S .pre .0, L .inv .1 .down), (S .pre .1 .0, (l, L .inv .1 .held)))
+block-visit-function-requires t c κs =
+    let at-callee-plus-one = c .before .before .before in
+    let at-calls-test = at-callee-plus-one .before in
+    let at-calls = at-calls-test .before in
+    let at-block-operations = at-calls .before in
+    let at-if1 = at-block-operations .before in
+    let at-slice-known2 = at-if1 .before .before .before .before .before in
+    let start = at-slice-known2 .before .before .before in
+    let L = at-calls .calls in
+    let r = start .pre .1 .0 .in-range .ops-range (start .args .b .0) (start .pre .1 .1 .1 .0) in
+    let l = callee-below (start .pre .1 .0) (L .o) _ (omega (arith, r, at-block-operations .block-operations .ensures, at-calls-test .calls-test .taken)) (at-callee-plus-one .callee-plus-one .ensures) (c .before .before .if2 .taken) in
+    (omega (arith, block-entered t at-if1 .fewer, start .pre .0, L .inv .1 .down), (start .pre .1 .0, (l, L .inv .1 .held)))
 
 block-add-o : (t : ℕ) → visit-block-lts.Need-add-o (block-claims t) (visit-block-at t) visit-block.Post Inv-calls μ-calls Inv-successors μ-successors
 block-add-o t c = omega arith
@@ -123,9 +143,14 @@ block-calls-less : (t : ℕ) → visit-block-lts.Need-calls-less (block-claims t
 block-calls-less t c = omega arith
 
 block-calls-again : (t : ℕ) → visit-block-lts.Need-calls-again (block-claims t) (visit-block-at t) visit-block.Post Inv-calls μ-calls Inv-successors μ-successors
-block-calls-again t c = let w = c .before .before .before .before .before .before .before .before .before .before .before .before .before .args .words .now in
-    let L = c .before .before .before .calls in
-    let last = c .before .before .before .before .block-operations .result .end in
+block-calls-again t c =
+    let at-calls = c .before .before .before in
+    let at-block-operations = at-calls .before in
+    let at-row-add-arg = at-block-operations .before .before .before .before .before in
+    let start = at-row-add-arg .before .before .before .before in
+    let w = start .args .words .now in
+    let L = at-calls .calls in
+    let last = at-block-operations .block-operations .result .end in
     let turn = c .before .before .calls-test .taken in
     let e = c .before .callee-plus-one .ensures in (
       omega (arith, L .inv .0),
@@ -142,14 +167,25 @@ block-successors-holds : (t : ℕ) → visit-block-lts.Need-successors-holds (bl
 block-successors-holds t c = going-none (c .before .before .calls .inv .1 .held)
 
 block-successor-requires : (t : ℕ) → visit-block-lts.Need-successor-requires (block-claims t) (visit-block-at t) visit-block.Post Inv-calls μ-calls Inv-successors μ-successors
-block-successor-requires t c κs = let S = c .before .before .before .before .before .before .before .before .before .before .before .before .before .before in (S .pre .1 .0 .sized, (S .pre .1 .0 .in-range, (S .pre .1 .1 .1 .0, omega (arith, c .before .before .successor-count .ensures, c .successors-test .taken))))
+block-successor-requires t c κs =
+    let at-block-operations = c .before .before .before .before .before in
+    let at-row-add-arg = at-block-operations .before .before .before .before .before in
+    let start = at-row-add-arg .before .before .before .before in
+    (start .pre .1 .0 .sized, (start .pre .1 .0 .in-range, (start .pre .1 .1 .1 .0, omega (arith, c .before .before .successor-count .ensures, c .successors-test .taken))))
 
 block-visit-block-requires : (t : ℕ) → visit-block-lts.Need-visit-block-requires (block-claims t) (visit-block-at t) visit-block.Post Inv-calls μ-calls Inv-successors μ-successors
-block-visit-block-requires t c κs = let S = c .before .before .before .before .before .before .before .before .before .before .before .before .before .before .before .before .before in
-    let L = c .before .before .before .before .successors in
-    let l = successor-below (S .pre .1 .0) (S .args .b .0) (L .i) (S .pre .1 .1 .1 .0) (omega (arith, c .before .before .before .before .before .successor-count .ensures, c .before .before .before .successors-test .taken)) in (
-      omega (arith, block-entered t (c .before .before .before .before .before .before .before .before .before) .fewer, S .pre .0, L .inv .down, c .before .before .before .before .before .before .before .calls .inv .1 .down),
-      (S .pre .1 .0, (S .pre .1 .1 .0, (omega (arith, c .before .before .successor .ensures, l), L .inv .held))),
+block-visit-block-requires t c κs =
+    let at-successors-test = c .before .before .before in
+    let at-successors = at-successors-test .before in
+    let at-successor-count = at-successors .before in
+    let at-calls = at-successor-count .before .before in
+    let at-if1 = at-calls .before .before in
+    let at-slice-known2 = at-if1 .before .before .before .before .before in
+    let start = at-slice-known2 .before .before .before in
+    let L = at-successors .successors in
+    let l = successor-below (start .pre .1 .0) (start .args .b .0) (L .i) (start .pre .1 .1 .1 .0) (omega (arith, at-successor-count .successor-count .ensures, at-successors-test .successors-test .taken)) in (
+      omega (arith, block-entered t at-if1 .fewer, start .pre .0, L .inv .down, at-calls .calls .inv .1 .down),
+      (start .pre .1 .0, (start .pre .1 .1 .0, (omega (arith, c .before .before .successor .ensures, l), L .inv .held))),
     )
 
 block-add-i : (t : ℕ) → visit-block-lts.Need-add-i (block-claims t) (visit-block-at t) visit-block.Post Inv-calls μ-calls Inv-successors μ-successors
@@ -159,10 +195,18 @@ block-successors-less : (t : ℕ) → visit-block-lts.Need-successors-less (bloc
 block-successors-less t c = omega arith
 
 block-successors-again : (t : ℕ) → visit-block-lts.Need-successors-again (block-claims t) (visit-block-at t) visit-block.Post Inv-calls μ-calls Inv-successors μ-successors
-block-successors-again t c = let S = c .before .before .before .before .before .before .before .before .before .before .before .before .before .before .before .before .before .before .before .before .before .before in
-    let L = c .before .before .before .before .before .before .before .before .before .successors in
-    let l : L .i < length (successors (S .args .words .now) (S .args .b .0)) = omega (arith, c .before .before .before .before .before .before .before .before .before .before .successor-count .ensures, c .before .before .before .before .before .before .before .before .successors-test .taken) in
-    going-more (going-as (successor-next (S .args .words .now) (S .args .b .0) (L .i) l) (L .inv)) (rw (c .before .before .before .before .before .before .before .successor .ensures) at (c .before .before .before .before .visit-block .ensures))
+block-successors-again t c =
+    let at-visit-block = c .before .before .before .before in
+    let at-successor = at-visit-block .before .before .before in
+    let at-successors-test = at-successor .before in
+    let at-successors = at-successors-test .before in
+    let at-successor-count = at-successors .before in
+    let at-slice-known3 = at-successor-count .before .before .before .before .before in
+    let at-slice-known = at-slice-known3 .before .before .before .before .before in
+    let start = at-slice-known .before .before in
+    let L = at-successors .successors in
+    let l : L .i < length (successors (start .args .words .now) (start .args .b .0)) = omega (arith, at-successor-count .successor-count .ensures, at-successors-test .successors-test .taken) in
+    going-more (going-as (successor-next (start .args .words .now) (start .args .b .0) (L .i) l) (L .inv)) (rw (at-successor .successor .ensures) at (at-visit-block .visit-block .ensures))
 
 block-add-push : (t : ℕ) → visit-block-lts.Need-add-push (block-claims t) (visit-block-at t) visit-block.Post Inv-calls μ-calls Inv-successors μ-successors
 block-add-push t c = omega arith
@@ -175,30 +219,61 @@ block-add-push-2 t c = omega arith
 
 -- both loops are over: all that the block leads to is visited
 block-kids : (t : ℕ) (c : visit-block-lts.After-successors (block-claims t) (visit-block-at t) visit-block.Post Inv-calls μ-calls Inv-successors μ-successors)
-    → VisitStep (c .before .before .before .before .before .before .before .before .before .before .before .before .before .before .args .words .now) (λ v. foldl (λ u s. visitBlock (fuel (c .before .before .before .before .before .before .before .before .before .before .before .before .before .before .args .words .now)) (c .before .before .before .before .before .before .before .before .before .before .before .before .before .before .args .words .now) (c .before .before .before .before .before .before .before .before .before .before .before .before .before .before .args .f .0) s u) (foldl (λ u g. visitFunction (fuel (c .before .before .before .before .before .before .before .before .before .before .before .before .before .before .args .words .now)) (c .before .before .before .before .before .before .before .before .before .before .before .before .before .before .args .words .now) g u) v (bind (range (c .before .before .before .before .before .block-operations .result .start) (c .before .before .before .before .before .block-operations .result .end)) (callees (c .before .before .before .before .before .before .before .before .before .before .before .before .before .before .args .words .now)))) (successors (c .before .before .before .before .before .before .before .before .before .before .before .before .before .before .args .words .now) (c .before .before .before .before .before .before .before .before .before .before .before .before .before .before .args .b .0))) (c .before .before .before .before .before .before .before .before .before .row-add .last .0) (c .before .before .before .before .before .before .before .before .before .before .before .before .before .before .args .postorder .now) (c .before .before .before .before .before .before .before .before .before .before .before .before .before .before .args .n) (c .before .successors .seen) (c .before .successors .postorder) (c .before .successors .m)
+    → let at-block-operations = c .before .before .before .before .before in
+    let at-row-add = at-block-operations .before .before .before .before in
+    let start = at-row-add .before .before .before .before .before in
+    VisitStep (start .args .words .now) (λ v. foldl (λ u s. visitBlock (fuel (start .args .words .now)) (start .args .words .now) (start .args .f .0) s u) (foldl (λ u g. visitFunction (fuel (start .args .words .now)) (start .args .words .now) g u) v (bind (range (at-block-operations .block-operations .result .start) (at-block-operations .block-operations .result .end)) (callees (start .args .words .now)))) (successors (start .args .words .now) (start .args .b .0))) (at-row-add .row-add .last .0) (start .args .postorder .now) (start .args .n) (c .before .successors .seen) (c .before .successors .postorder) (c .before .successors .m)
 block-kids t c =
-    let S = c .before .before .before .before .before .before .before .before .before .before .before .before .before .before in
-    let C = c .before .before .before .before .calls in
+    let at-calls-test = c .before .before .before in
+    let at-calls = at-calls-test .before in
+    let at-row-add = at-calls .before .before .before .before .before in
+    let start = at-row-add .before .before .before .before .before in
+    let C = at-calls .calls in
     let L = c .before .successors in
-    let e : length (successors (S .args .words .now) (S .args .b .0)) ≤ L .i = omega (arith, c .before .before .successor-count .ensures, c .successors-test .left) in
+    let e : length (successors (start .args .words .now) (start .args .b .0)) ≤ L .i = omega (arith, c .before .before .successor-count .ensures, c .successors-test .left) in
     then
-    (going-all (calls-end (S .args .words .now) (C .o) _ (c .before .before .before .calls-test .left)) (C .inv .1))
-    (going-all (drop-of-length-le (successors (S .args .words .now) (S .args .b .0)) {i = L .i} e) (L .inv))
+    (going-all (calls-end (start .args .words .now) (C .o) _ (at-calls-test .calls-test .left)) (C .inv .1))
+    (going-all (drop-of-length-le (successors (start .args .words .now) (start .args .b .0)) {i = L .i} e) (L .inv))
 
 block-push-requires : (t : ℕ) → visit-block-lts.Need-push-requires (block-claims t) (visit-block-at t) visit-block.Post Inv-calls μ-calls Inv-successors μ-successors
-block-push-requires t c κs = omega (arith, fits (c .before .before .before .before .before .before .before .before .before .before .before .before .before .before .before .before .before .pre .1 .0) (block-entered t (c .before .before .before .before .before .before .before .before .before)) (block-kids t (c .before .before .before)), c .before .before .before .before .successors .inv .held .long)
+block-push-requires t c κs =
+    let at-successors-test = c .before .before .before in
+    let at-successors = at-successors-test .before in
+    let at-if1 = at-successors .before .before .before .before .before in
+    let at-slice-known2 = at-if1 .before .before .before .before .before in
+    let start = at-slice-known2 .before .before .before in
+    omega (arith, fits (start .pre .1 .0) (block-entered t at-if1) (block-kids t at-successors-test), at-successors .successors .inv .held .long)
 
 block-same-length-2 : (t : ℕ) → visit-block-lts.Need-same-length-2 (block-claims t) (visit-block-at t) visit-block.Post Inv-calls μ-calls Inv-successors μ-successors
-block-same-length-2 t c = omega (arith, c .before .before .before .before .before .before .before .successors .inv .held .wide, c .before .before .before .before .before .before .before .before .before .before .before .before .before .before .before .before .before .before .before .before .pre .1 .1 .1 .1 .wide)
+block-same-length-2 t c =
+    let at-push-arg = c .before .before .before .before .before in
+    let at-successors = at-push-arg .before .before in
+    let at-if1 = at-successors .before .before .before .before .before in
+    let at-slice-known2 = at-if1 .before .before .before .before .before in
+    let start = at-slice-known2 .before .before .before in
+    omega (arith, at-successors .successors .inv .held .wide, start .pre .1 .1 .1 .1 .wide)
 
 block-same-length-3 : (t : ℕ) → visit-block-lts.Need-same-length-3 (block-claims t) (visit-block-at t) visit-block.Post Inv-calls μ-calls Inv-successors μ-successors
-block-same-length-3 t c = omega (arith, c .before .before .push .kept, c .before .before .before .before .before .before .before .successors .inv .held .long, c .before .before .before .before .before .before .before .before .before .before .before .before .before .before .before .before .before .before .before .before .pre .1 .1 .1 .1 .long)
+block-same-length-3 t c =
+    let at-push-arg = c .before .before .before .before .before in
+    let at-successors = at-push-arg .before .before in
+    let at-if1 = at-successors .before .before .before .before .before in
+    let at-slice-known2 = at-if1 .before .before .before .before .before in
+    let start = at-slice-known2 .before .before .before in
+    omega (arith, c .before .before .push .kept, at-successors .successors .inv .held .long, start .pre .1 .1 .1 .1 .long)
 
 block-returns-2 : (t : ℕ) → visit-block-lts.Need-returns-2 (block-claims t) (visit-block-at t) visit-block.Post Inv-calls μ-calls Inv-successors μ-successors
-block-returns-2 t c = let S = c .before .before .before .before .before .before .before .before .before .before .before .before .before .before .before .before .before .before .before .before in
-    let span = c .before .before .before .before .before .before .before .before .before .before .before .block-operations .ensures in
-    done-block (S .pre .1 .0) (S .args .f .0) (S .args .b .0) (S .pre .1 .1 .1 .0) (block-new t (c .before .before .before .before .before .before .before .before .before .before .before .before)) (block-entered t (c .before .before .before .before .before .before .before .before .before .before .before .before))
-    (rw (span .0, span .1) at (block-kids t (c .before .before .before .before .before .before))) (c .before .before .push .ensures .0) (omega (arith, c .before .before .push .kept, c .before .before .before .before .before .before .before .successors .inv .held .long)) (c .before .before .push .ensures .1)
+block-returns-2 t c =
+    let at-push-arg = c .before .before .before .before .before in
+    let at-successors-test = at-push-arg .before in
+    let at-successors = at-successors-test .before in
+    let at-block-operations = at-successors .before .before .before .before in
+    let at-if1 = at-block-operations .before in
+    let at-slice-known2 = at-if1 .before .before .before .before .before in
+    let start = at-slice-known2 .before .before .before in
+    let span = at-block-operations .block-operations .ensures in
+    done-block (start .pre .1 .0) (start .args .f .0) (start .args .b .0) (start .pre .1 .1 .1 .0) (block-new t at-if1) (block-entered t at-if1)
+    (rw (span .0, span .1) at (block-kids t at-successors-test)) (c .before .before .push .ensures .0) (omega (arith, c .before .before .push .kept, at-successors .successors .inv .held .long)) (c .before .before .push .ensures .1)
 
 function-row-add-requires : (t : ℕ) → visit-function-lts.Need-row-add-requires (function-claims t) (visit-function-at t) visit-function.Post
 function-row-add-requires t c κs = (omega (arith, c .before .before .before .before .pre .1 .1 .1 .wide), omega (arith, c .before .before .before .before .pre .1 .1 .0, c .before .before .before .before .pre .1 .0 .sized .functions-most))
@@ -207,40 +282,78 @@ function-same-length : (t : ℕ) → visit-function-lts.Need-same-length (functi
 function-same-length t c = c .before .before .before .row-add .kept .0
 
 function-returns : (t : ℕ) → visit-function-lts.Need-returns (function-claims t) (visit-function-at t) visit-function.Post
-function-returns t c = skip-function (c .before .before .before .before .before .before .before .before .pre .1 .0) (c .before .before .before .before .before .before .before .before .pre .1 .1 .1) (c .before .before .before .before .before .before .before .before .args .f .0) (c .before .before .before .before .before .before .before .before .pre .1 .1 .0) (rw zero-add at (c .before .before .before .row-add .ensures .1)) (not-false _ (sym (rw zero-add at (c .before .before .before .row-add .ensures .0)) ∙ not-true _ (c .if1 .taken)))
+function-returns t c =
+    let at-row-add = c .before .before .before in
+    let start = at-row-add .before .before .before .before .before in
+    skip-function (start .pre .1 .0) (start .pre .1 .1 .1) (start .args .f .0) (start .pre .1 .1 .0) (rw zero-add at (at-row-add .row-add .ensures .1)) (not-false _ (sym (rw zero-add at (at-row-add .row-add .ensures .0)) ∙ not-true _ (c .if1 .taken)))
 
 -- the function was not seen, and is entered
 function-new : (t : ℕ) (c : visit-function-lts.Else1 (function-claims t) (visit-function-at t) visit-function.Post)
-    → contains (c .before .before .before .before .before .before .before .before .args .seen .now) (c .before .before .before .before .before .before .before .before .args .f .0) ≡ false
+    → let at-slice-known2 = c .before .before .before .before .before in
+    let start = at-slice-known2 .before .before .before in
+    contains (start .args .seen .now) (start .args .f .0) ≡ false
 function-new t c =
     not-true _ (sym (rw zero-add at (c .before .before .before .row-add .ensures .0)) ∙ not-false _ (c .if1 .left))
 
 function-entered : (t : ℕ) (c : visit-function-lts.Else1 (function-claims t) (visit-function-at t) visit-function.Post)
-    → Entered (c .before .before .before .before .before .before .before .before .args .words .now) (λ v. seeFunction v (c .before .before .before .before .before .before .before .before .args .f .0)) (c .before .before .before .before .before .before .before .before .args .seen .now) (c .before .before .before .before .before .before .before .before .args .postorder .now) (c .before .before .before .before .before .before .before .before .args .n) (c .before .before .before .row-add .last .0)
+    → let at-row-add = c .before .before .before in
+    let start = at-row-add .before .before .before .before .before in
+    Entered (start .args .words .now) (λ v. seeFunction v (start .args .f .0)) (start .args .seen .now) (start .args .postorder .now) (start .args .n) (at-row-add .row-add .last .0)
 function-entered t c =
-    enter-function (c .before .before .before .before .before .before .before .before .pre .1 .0) (c .before .before .before .before .before .before .before .before .pre .1 .1 .1) (c .before .before .before .before .before .before .before .before .args .f .0) (c .before .before .before .before .before .before .before .before .pre .1 .1 .0) (rw zero-add at (c .before .before .before .row-add .ensures .1)) (function-new t c)
+    let at-row-add = c .before .before .before in
+    let start = at-row-add .before .before .before .before .before in
+    enter-function (start .pre .1 .0) (start .pre .1 .1 .1) (start .args .f .0) (start .pre .1 .1 .0) (rw zero-add at (at-row-add .row-add .ensures .1)) (function-new t c)
 
 function-entry-block-requires : (t : ℕ) → visit-function-lts.Need-entry-block-requires (function-claims t) (visit-function-at t) visit-function.Post
-function-entry-block-requires t c κs = (c .before .before .before .before .before .before .before .before .pre .1 .0 .sized, c .before .before .before .before .before .before .before .before .pre .1 .1 .0)
+function-entry-block-requires t c κs =
+    let at-slice-known2 = c .before .before .before .before .before in
+    let start = at-slice-known2 .before .before .before in
+    (start .pre .1 .0 .sized, start .pre .1 .1 .0)
 
 function-visit-block-requires : (t : ℕ) → visit-function-lts.Need-visit-block-requires (function-claims t) (visit-function-at t) visit-function.Post
-function-visit-block-requires t c κs = let S = c .before .before .before .before .before .before .before .before .before .before .before in
-    let l = S .pre .1 .0 .in-range .entry (S .args .f .0) (S .pre .1 .1 .0) in
-    (omega (arith, function-entered t (c .before .before .before) .fewer, S .pre .0), (S .pre .1 .0, (S .pre .1 .1 .0, (omega (arith, c .before .before .entry-block .ensures, l), function-entered t (c .before .before .before) .held))))
+function-visit-block-requires t c κs =
+    let at-if1 = c .before .before .before in
+    let at-slice-known2 = at-if1 .before .before .before .before .before in
+    let start = at-slice-known2 .before .before .before in
+    let l = start .pre .1 .0 .in-range .entry (start .args .f .0) (start .pre .1 .1 .0) in
+    (omega (arith, function-entered t at-if1 .fewer, start .pre .0), (start .pre .1 .0, (start .pre .1 .1 .0, (omega (arith, c .before .before .entry-block .ensures, l), function-entered t at-if1 .held))))
 
 function-push-requires : (t : ℕ) → visit-function-lts.Need-push-requires (function-claims t) (visit-function-at t) visit-function.Post
-function-push-requires t c κs = omega (arith, fits (c .before .before .before .before .before .before .before .before .before .before .before .before .before .before .before .before .before .pre .1 .0) (function-entered t (c .before .before .before .before .before .before .before .before .before)) (c .before .before .before .before .before .visit-block .ensures), c .before .before .before .before .before .visit-block .ensures .held .long)
+function-push-requires t c κs =
+    let at-visit-block = c .before .before .before .before .before in
+    let at-if1 = at-visit-block .before .before .before .before in
+    let at-slice-known2 = at-if1 .before .before .before .before .before in
+    let start = at-slice-known2 .before .before .before in
+    omega (arith, fits (start .pre .1 .0) (function-entered t at-if1) (at-visit-block .visit-block .ensures), at-visit-block .visit-block .ensures .held .long)
 
 function-same-length-2 : (t : ℕ) → visit-function-lts.Need-same-length-2 (function-claims t) (visit-function-at t) visit-function.Post
-function-same-length-2 t c = omega (arith, c .before .before .before .before .before .before .before .before .visit-block .ensures .held .wide, c .before .before .before .before .before .before .before .before .before .before .before .before .before .before .before .before .before .before .before .before .pre .1 .1 .1 .wide)
+function-same-length-2 t c =
+    let at-post = c .before .before .before .before .before in
+    let at-visit-block = at-post .before .before .before in
+    let at-slice-known3 = at-visit-block .before .before .before .before .before in
+    let at-slice-known = at-slice-known3 .before .before .before .before .before in
+    let start = at-slice-known .before .before in
+    omega (arith, at-visit-block .visit-block .ensures .held .wide, start .pre .1 .1 .1 .wide)
 
 function-same-length-3 : (t : ℕ) → visit-function-lts.Need-same-length-3 (function-claims t) (visit-function-at t) visit-function.Post
-function-same-length-3 t c = omega (arith, c .before .before .push .kept, c .before .before .before .before .before .before .before .before .visit-block .ensures .held .long, c .before .before .before .before .before .before .before .before .before .before .before .before .before .before .before .before .before .before .before .before .pre .1 .1 .1 .long)
+function-same-length-3 t c =
+    let at-post = c .before .before .before .before .before in
+    let at-visit-block = at-post .before .before .before in
+    let at-slice-known3 = at-visit-block .before .before .before .before .before in
+    let at-slice-known = at-slice-known3 .before .before .before .before .before in
+    let start = at-slice-known .before .before in
+    omega (arith, c .before .before .push .kept, at-visit-block .visit-block .ensures .held .long, start .pre .1 .1 .1 .long)
 
 function-returns-2 : (t : ℕ) → visit-function-lts.Need-returns-2 (function-claims t) (visit-function-at t) visit-function.Post
-function-returns-2 t c = let S = c .before .before .before .before .before .before .before .before .before .before .before .before .before .before .before .before .before .before .before .before in
-    done-function (S .pre .1 .0) (S .args .f .0) (S .pre .1 .1 .0) (function-new t (c .before .before .before .before .before .before .before .before .before .before .before .before)) (function-entered t (c .before .before .before .before .before .before .before .before .before .before .before .before))
-    (rw (c .before .before .before .before .before .before .before .before .before .before .before .entry-block .ensures) at (c .before .before .before .before .before .before .before .before .visit-block .ensures)) (c .before .before .push .ensures .0) (omega (arith, c .before .before .push .kept, c .before .before .before .before .before .before .before .before .visit-block .ensures .held .long)) (c .before .before .push .ensures .1)
+function-returns-2 t c =
+    let at-post = c .before .before .before .before .before in
+    let at-visit-block = at-post .before .before .before in
+    let at-entry-block = at-visit-block .before .before .before in
+    let at-if1 = at-entry-block .before in
+    let at-slice-known2 = at-if1 .before .before .before .before .before in
+    let start = at-slice-known2 .before .before .before in
+    done-function (start .pre .1 .0) (start .args .f .0) (start .pre .1 .1 .0) (function-new t at-if1) (function-entered t at-if1)
+    (rw (at-entry-block .entry-block .ensures) at (at-visit-block .visit-block .ensures)) (c .before .before .push .ensures .0) (omega (arith, c .before .before .push .kept, at-visit-block .visit-block .ensures .held .long)) (c .before .before .push .ensures .1)
 
 pub +visit-block+visit-function-spec : {M : Type 1} → statement M
 +visit-block+visit-function-spec =
