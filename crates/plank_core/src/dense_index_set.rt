@@ -10,6 +10,20 @@ pub struct DenseIndexSet {
     pub words: [u64; 8],
 }
 
+// How many members a set has.
+pub fn len(set: &[u64]) -> usize
+    requires { ⌜ length (now set) ≡ 8 ⌝ }
+    ensures { λ r. ⌜ r ≡ length (members (now (set .entry))) ⌝ }
+{
+    let mut n: usize = 0;
+    let mut k: usize = 0;
+    while k < 8 {
+        n += u64::count_ones(set[k]) as usize;
+        k += 1;
+    }
+    n
+}
+
 pub fn is_empty(set: &[u64]) -> bool
     requires { ⌜ length (now set) ≡ 8 ⌝ }
     ensures { λ r. ⌜ r ≡ isEmpty (now (set .entry)) ⌝ }

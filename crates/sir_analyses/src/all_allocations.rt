@@ -12,6 +12,7 @@ use crate::local_intervals::BLOCK_END;
 use crate::merged_intervals::live_after;
 use crate::merged_intervals::live_before;
 use crate::owned_tables::OWNED;
+use crate::owned_tables::list_owned;
 use crate::owned_tables::owned_tables;
 use crate::owned_tables::split_owners;
 use crate::scatter::passed_words;
@@ -23,7 +24,6 @@ use crate::stages::is_marked;
 use crate::stages::is_visited;
 use crate::stages::reads;
 use crate::stages::writes;
-use plank_core::dense_index_set::list;
 use plank_core::index::AllocId;
 use plank_core::index::BlockId;
 use plank_core::index::OpIdx;
@@ -45,7 +45,7 @@ ghost use Rattle.sir_analyses.specs.Calls.{made, answered};
 ghost use Rattle.sir_analyses.specs.inner.Stages.{VisitStage, LivenessStage, PointerStage};
 ghost use Rattle.sir_analyses.specs.inner.Scatter.{numberAt, backward, Below, Fits, Scatters, Counts};
 ghost use Rattle.sir_analyses.specs.inner.IntervalPieces.{closedPieces};
-ghost use Rattle.sir_analyses.specs.inner.AllocationPieces.{ownerIn, OwnedTables, LiveOwners, SplitOwners, sweepPieces, visitedPieces, headOf, headPieces, recordPieces};
+ghost use Rattle.sir_analyses.specs.inner.AllocationPieces.{OwnedTables, LiveOwners, SplitOwners, sweepPieces, visitedPieces, headOf, headPieces, recordPieces};
 
 // What a start closes for each of some allocations, where an end is open, in front of what each has.
 fn close_before(
@@ -78,7 +78,7 @@ fn live_owners<'a>(owned: &'a [u64], set: &'a [u64], ids: &mut [u32]) -> usize
     requires { ⌜ (length (now set) ≡ 8) × (length (now ids) ≡ 512) ⌝ }
     ensures { λ r. ⌜ (r ≤ 512) × LiveOwners (now (owned .entry)) (now (set .entry)) (take r (now (ids .exit))) ⌝ }
 {
-    let n = list(set, ids);
+    let n = list_owned(owned, set, ids);
     let mut split = [0u64; 16];
     split_owners(&ids[..n], owned, set, &mut split);
     list_row(&split, 0, ids)
@@ -98,7 +98,7 @@ fn split_touched<'a>(
     ids: &mut [u32],
 ) -> Split
     requires { ⌜ (length (now live) ≡ 24576) × (o .0 < 1024) ⌝ }
-    requires { ⌜ (length (now owned) ≡ 4608) × ((v : ℕ) → v < 512 → ownerIn (now owned) v ≤ 512) ⌝ }
+    requires { ⌜ ((w : List ℕ) × OwnedTables w (now owned)) ⌝ }
     requires { ⌜ (length (now set) ≡ 8) × (length (now ids) ≡ 512) ⌝ }
     ensures { λ r. ⌜ SplitOwners (now (live .entry)) (o .0) (now (owned .entry)) (now (set .entry)) (r .words) ⌝ }
 {
@@ -106,7 +106,7 @@ fn split_touched<'a>(
     let mut touched = [0u64; 8];
     row_union_with(&mut touched, 0, row_of(writes(live), row));
     row_union_with(&mut touched, 0, row_of(reads(live), row));
-    let n = list(&touched, ids);
+    let n = list_owned(owned, &touched, ids);
     let mut words = [0u64; 16];
     split_owners(&ids[..n], owned, set, &mut words);
     Split { words }

@@ -7,6 +7,7 @@ use crate::local_liveness::compute_liveness_at_block_entry;
 use crate::stages::exits;
 use crate::stages::is_visited;
 use crate::stages::owner_of;
+use plank_core::dense_index_set::len;
 use plank_core::dense_index_set::list;
 use plank_core::index::BlockId;
 use plank_core::index::LocalId;
@@ -27,11 +28,14 @@ ghost use Rattle.sir_analyses.specs.Calls.{made, answered};
 ghost use Rattle.sir_analyses.specs.inner.Stages.{VisitStage, LivenessStage, PointerStage};
 ghost use Rattle.sir_analyses.specs.inner.Writing.{Puts};
 
-// The members of a set after their number.
+// The members of a set after their number; where they are only counted, none is listed.
 fn put_set(set: &[u64], n: usize, out: &mut [u8]) -> usize
     requires { ⌜ (length (now set) ≡ 8) × (n + 513 < 2 ^ 60) ⌝ }
     ensures { λ r. ⌜ (r ≤ n + 513) × Puts n (length (members (now (set .entry))) ∷ members (now (set .entry))) (now (out .entry)) (now (out .exit)) r ⌝ }
 {
+    if out.len() == 0 {
+        return n + 1 + len(set);
+    }
     let mut ids = [0u32; 512];
     let count = list(set, &mut ids);
     let m = put_word(out, n, count as u32);

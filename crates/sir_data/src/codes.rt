@@ -1,10 +1,12 @@
 // What each operation code says of its operation, in tables by code.
 ghost use mathlib.Core.Path.{_≡_};
+ghost use mathlib.Core.List.{map};
 ghost use Prim.Native.Nat.{_<_, _≤_};
-ghost use Rattle.sir_data.specs.Codes.{arityOk, isCall, isStaticAlloc, isDynamicAlloc, isAlloc, derives, escaping};
+ghost use Rattle.plank_core.specs.Lists.{upto};
+ghost use Rattle.sir_data.specs.Codes.{arity, arityOk, isCall, isStaticAlloc, isDynamicAlloc, isAlloc, derives, escaping};
 
 // How many inputs the code takes, where that is fixed.
-const INPUTS: [u8; 93] = [
+pub const INPUTS: [u8; 93] = [
     2, // Keccak256
     1, // Balance
     1, // CallDataLoad
@@ -101,7 +103,7 @@ const INPUTS: [u8; 93] = [
 ];
 
 // How many outputs the code gives, where that is fixed.
-const OUTPUTS: [u8; 93] = [
+pub const OUTPUTS: [u8; 93] = [
     1, // Keccak256
     1, // Balance
     1, // CallDataLoad
@@ -391,103 +393,6 @@ const DERIVES: [u8; 93] = [
     0, // RuntimeLength
 ];
 
-// 1 for a static allocation, 2 for a dynamic one.
-const ALLOCATES: [u8; 93] = [
-    0, // Keccak256
-    0, // Balance
-    0, // CallDataLoad
-    0, // CallDataCopy
-    0, // CodeCopy
-    0, // ExtCodeSize
-    0, // ExtCodeCopy
-    0, // ReturnDataCopy
-    0, // ExtCodeHash
-    0, // BlockHash
-    0, // BlobHash
-    0, // SLoad
-    0, // SStore
-    0, // TLoad
-    0, // TStore
-    0, // Create
-    0, // Create2
-    0, // Call
-    0, // CallCode
-    0, // DelegateCall
-    0, // StaticCall
-    2, // DynamicAllocZeroed
-    2, // DynamicAllocAnyBytes
-    0, // MemoryCopy
-    0, // MemoryStore
-    0, // InternalCall
-    0, // InternalCallNever
-    0, // Add
-    0, // Mul
-    0, // Sub
-    0, // Div
-    0, // SDiv
-    0, // Mod
-    0, // SMod
-    0, // AddMod
-    0, // MulMod
-    0, // Exp
-    0, // SignExtend
-    0, // Lt
-    0, // Gt
-    0, // SLt
-    0, // SGt
-    0, // Eq
-    0, // IsZero
-    0, // And
-    0, // Or
-    0, // Xor
-    0, // Not
-    0, // Byte
-    0, // Shl
-    0, // Shr
-    0, // Sar
-    0, // Clz
-    0, // Address
-    0, // Origin
-    0, // Caller
-    0, // CallValue
-    0, // CallDataSize
-    0, // CodeSize
-    0, // GasPrice
-    0, // ReturnDataSize
-    0, // Gas
-    0, // Coinbase
-    0, // Timestamp
-    0, // Number
-    0, // Difficulty
-    0, // GasLimit
-    0, // ChainId
-    0, // SelfBalance
-    0, // BaseFee
-    0, // BlobBaseFee
-    0, // Log0
-    0, // Log1
-    0, // Log2
-    0, // Log3
-    0, // Log4
-    0, // Return
-    0, // Stop
-    0, // Revert
-    0, // Invalid
-    0, // SelfDestruct
-    0, // AcquireFreePointer
-    1, // StaticAllocZeroed
-    1, // StaticAllocAnyBytes
-    0, // MemoryLoad
-    0, // SetCopy
-    0, // SetSmallConst
-    0, // SetLargeConst
-    0, // SetDataOffset
-    0, // Noop
-    0, // RuntimeStartOffset
-    0, // InitEndOffset
-    0, // RuntimeLength
-];
-
 // A table's entry as a count.
 fn wide(x: u8) -> usize
     ensures { λ r. ⌜ r ≡ x ⌝ }
@@ -495,8 +400,16 @@ fn wide(x: u8) -> usize
     x as usize
 }
 
-// Are these operand counts right for the code? A call with results takes any to any, one without any to 0.
-pub fn operand_counts_right(code: u32, inputs: usize, outputs: usize) -> bool
+// Are these operand counts right for the code? A call with results takes any to any, one without any to 0. The two tables are lent:
+// whoever asks about many codes copies them once.
+pub fn operand_counts_right<'a>(
+    takes: &'a [u8],
+    gives: &'a [u8],
+    code: u32,
+    inputs: usize,
+    outputs: usize,
+) -> bool
+    requires { ⌜ (now takes ≡ map (λ k. arity k .0) (upto 93)) × (now gives ≡ map (λ k. arity k .1) (upto 93)) ⌝ }
     requires { ⌜ code ≤ 92 ⌝ }
     ensures { λ r. ⌜ r ≡ arityOk code inputs outputs ⌝ }
 {
@@ -507,7 +420,7 @@ pub fn operand_counts_right(code: u32, inputs: usize, outputs: usize) -> bool
         return outputs == 0;
     }
     let c = code as usize;
-    inputs == wide(INPUTS[c]) && outputs == wide(OUTPUTS[c])
+    inputs == wide(takes[c]) && outputs == wide(gives[c])
 }
 
 // Is this bit of the code's mask set?
@@ -540,26 +453,23 @@ pub fn can_derive_pointer(code: u32) -> bool
 
 // Does the code make a static allocation?
 pub fn is_static_alloc(code: u32) -> bool
-    requires { ⌜ code ≤ 92 ⌝ }
     ensures { λ r. ⌜ r ≡ isStaticAlloc code ⌝ }
 {
-    ALLOCATES[code as usize] == 1
+    code == 82 || code == 83
 }
 
 // Does the code make a dynamic allocation?
 pub fn is_dynamic_alloc(code: u32) -> bool
-    requires { ⌜ code ≤ 92 ⌝ }
     ensures { λ r. ⌜ r ≡ isDynamicAlloc code ⌝ }
 {
-    ALLOCATES[code as usize] == 2
+    code == 21 || code == 22
 }
 
 // Does the code make an allocation?
 pub fn is_alloc(code: u32) -> bool
-    requires { ⌜ code ≤ 92 ⌝ }
     ensures { λ r. ⌜ r ≡ isAlloc code ⌝ }
 {
-    ALLOCATES[code as usize] != 0
+    is_static_alloc(code) || is_dynamic_alloc(code)
 }
 
 // Does the code call a function?

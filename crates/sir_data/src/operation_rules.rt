@@ -1,5 +1,7 @@
 // What rules 7 to 9 ask of an operation.
 use crate::bounds::range_ok;
+use crate::codes::INPUTS;
+use crate::codes::OUTPUTS;
 use crate::codes::is_call;
 use crate::codes::is_static_alloc;
 use crate::codes::operand_counts_right;
@@ -12,12 +14,13 @@ use crate::records::operation_count;
 use plank_core::index::OpIdx;
 ghost use mathlib.Core.Path.{_≡_};
 ghost use mathlib.Core.Bool.{not, _||_};
+ghost use mathlib.Core.List.{map};
 ghost use Prim.Native.Nat.{_+_, _<_};
 ghost use lib.Dec.{eqb, ltb};
 ghost use lib.ListN.{length};
 ghost use Rattle.plank_core.specs.Lists.{all, upto};
 ghost use Rattle.sir_data.specs.Records.{operations, operandWords, functions, opWord, code, ins, outs, extra};
-ghost use Rattle.sir_data.specs.Codes.{arityOk, isCall, isStaticAlloc};
+ghost use Rattle.sir_data.specs.Codes.{arity, arityOk, isCall, isStaticAlloc};
 ghost use Rattle.sir_data.specs.Rules.{rangeOk, opFieldsOk, opIdsOk, rule9};
 ghost use Rattle.sir_data.specs.inner.WellFormed.{Sized, InRange};
 
@@ -71,13 +74,10 @@ fn callee_ok(words: &[u32], o: OpIdx) -> bool
     true
 }
 
-// May a static allocation have this id? The source's ids hold every number but the last. An unknown code allocates nothing.
+// May a static allocation have this id? The source's ids hold every number but the last.
 fn static_id_ok(code: u32, id: u32) -> bool
     ensures { λ r. ⌜ r ≡ (not (isStaticAlloc code) || not (eqb id 4294967295)) ⌝ }
 {
-    if code > 92 {
-        return true;
-    }
     if is_static_alloc(code) {
         return id != 4294967295;
     }
@@ -132,16 +132,23 @@ pub fn each_op_ids_ok(words: &[u32]) -> bool
     true
 }
 
-// Are the operation's operand counts right for its code?
-fn op_counts_ok(words: &[u32], o: OpIdx) -> bool
+// Are the operation's operand counts right for its code, by the two tables of counts?
+fn op_counts_ok<'a>(words: &'a [u32], o: OpIdx, takes: &'a [u8], gives: &'a [u8]) -> bool
     requires { ⌜ Sized (now words) ⌝ }
     requires { ⌜ InRange (now words) ⌝ }
     requires { ⌜ o .0 < operations (now words) ⌝ }
+    requires { ⌜ (now takes ≡ map (λ k. arity k .0) (upto 93)) × (now gives ≡ map (λ k. arity k .1) (upto 93)) ⌝ }
     ensures { λ r. ⌜ r ≡ arityOk (code (now (words .entry)) (o .0)) (length (ins (now (words .entry)) (o .0))) (length (outs (now (words .entry)) (o .0))) ⌝ }
 {
     let inputs = op_inputs(words, o);
     let outputs = op_outputs(words, o);
-    operand_counts_right(op_word(words, o, 0), inputs.len(), outputs.len())
+    operand_counts_right(
+        takes,
+        gives,
+        op_word(words, o, 0),
+        inputs.len(),
+        outputs.len(),
+    )
 }
 
 // Rule 9: some operation's operand counts are wrong for its code.
@@ -150,10 +157,12 @@ pub fn rule_9(words: &[u32]) -> bool
     requires { ⌜ InRange (now words) ⌝ }
     ensures { λ r. ⌜ r ≡ rule9 (now (words .entry)) ⌝ }
 {
+    let takes = INPUTS;
+    let gives = OUTPUTS;
     let n = operation_count(words);
     let mut o: u32 = 0;
     while o < n {
-        if !op_counts_ok(words, OpIdx(o)) {
+        if !op_counts_ok(words, OpIdx(o), &takes, &gives) {
             return true;
         }
         o += 1;

@@ -1,13 +1,13 @@
 //! Times the linked library against Plank's own analyses, or against an older library, in one run. From the folder `rust`:
 //!
 //! ```text
-//! cargo run --release -p bench -- [typical] [full] [medium] [worst] [stack] [slowest]
+//! cargo run --release -p bench -- [typical] [full] [medium] [worst] [stack] [growth] [slowest]
 //! cargo run --release -p bench -- --old ARCHIVE [typical] [full] [medium] [worst]
 //! ```
 //!
 //! Without words all groups but `slowest` are taken: typical images of 20 to 60 blocks, full-size images, the worst images
-//! of a medium size that Plank can take too, and the worst legal images; then the stack that a call takes. `slowest` are
-//! legal images on which one run of Plank takes from seconds to a minute.
+//! of a medium size that Plank can take too, and the worst legal images; then the stack that a call takes, and how some
+//! questions grow with the image. `slowest` are legal images on which one run of Plank takes from seconds to a minute.
 //!
 //! The library reads and checks the image anew for every question; Plank begins with a program that is in memory. A
 //! question is timed by itself, as the mean over some ids of each image; for Plank this is the time of the analyses that
@@ -27,6 +27,7 @@ mod old;
 mod stack;
 mod timing;
 
+use image_gen::lifetimes::{self, Lifetimes};
 use image_gen::rings::{self, Rings};
 use image_gen::{Kind, Rng, Size, extremes, generate, worst};
 use sir_analyses::calls;
@@ -37,7 +38,7 @@ use std::process::ExitCode;
 use std::time::Duration;
 use timing::{EVERY, Group, RESULT_BYTES, TOGETHER, Timed, best, head, mean, once, row, together};
 
-const GROUPS: [&str; 6] = ["typical", "full", "medium", "worst", "stack", "slowest"];
+const GROUPS: [&str; 7] = ["typical", "full", "medium", "worst", "stack", "growth", "slowest"];
 
 fn main() -> ExitCode {
     let words: Vec<String> = std::env::args().skip(1).collect();
@@ -81,10 +82,11 @@ fn against_plank(words: &[String]) -> Result<(), String> {
     if !plank_oracle::PRESENT {
         println!("Plank's files were missing when this was built (set PLANK_SRC): it is left out");
     }
-    let names = if asked.is_empty() { GROUPS[..5].to_vec() } else { asked };
+    let names = if asked.is_empty() { GROUPS[..6].to_vec() } else { asked };
     for name in names {
         match name {
             "stack" if sir_analyses::LINKED => stack::table(),
+            "growth" if sir_analyses::LINKED => growth(),
             "slowest" => slowest(),
             _ => groups(name).iter().for_each(table),
         }
@@ -125,6 +127,35 @@ fn long_answers() -> [(&'static str, Image); 2] {
         extremes::spanning(Size { operands, locals, ..Size::FULL }, outputs, &mut Rng::new(0))
     };
     [("all uses in 63 MiB", of(21, 21, false)), ("all intervals in 60 MiB", of(128, 20, true))]
+}
+
+/// Times questions on images of one kind that grow: blocks, locals and allocations together, three or four operations a block.
+fn growth() {
+    let names = ["order", "owner", "rounds", "allocation", "all_intervals", "all_allocations"];
+    println!("\ngrowth, one image a row, microseconds of the library");
+    println!("{:>6} {:>6} {}", "blocks", "pages", names.map(|name| format!("{name:>16}")).concat());
+    let mut result = vec![0; RESULT_BYTES];
+    for blocks in [4, 8, 16, 32, 64, 128, 256] {
+        let groups = (blocks / 3, blocks / 3);
+        let (members, values) = ((3, 3), (blocks / 3, blocks / 3));
+        let shape = Lifetimes {
+            groups,
+            members,
+            values,
+            blocks: (blocks, blocks),
+            operations: (3, 4),
+            arity: 4,
+            ends: 1,
+            leaks: 0,
+        };
+        let image = Timed::new(&lifetimes::image(&shape, &mut Rng::new(0)));
+        let times = names.map(|name| {
+            let kind = Question::KINDS.iter().find(|kind| kind.name == name).expect("a question");
+            let [library, _] = mean_times(&image, kind, false, &mut result);
+            format!("{:>16.1}", library.unwrap_or_default().as_secs_f64() * 1e6)
+        });
+        println!("{blocks:>6} {:>6} {}", image.bytes.len() / 512, times.concat());
+    }
 }
 
 /// Times one allocation of legal images that are slow for Plank.

@@ -20,7 +20,7 @@ outside-empty (x ∷ xs) = rw (contains-empty x, outside-empty xs)
 pub fresh-all : (xs : List ℕ) → fresh emptySet xs ≡ distinct xs
 fresh-all xs = rw (outside-empty xs)
 
-eqb-swap : (x y : ℕ) → eqb x y ≡ eqb y x
+pub eqb-swap : (x y : ℕ) → eqb x y ≡ eqb y x
 eqb-swap x y = go (eqb x y) refl
   where
     go : (t : Bool) → eqb x y ≡ t → eqb x y ≡ eqb y x

@@ -11,7 +11,7 @@ use lib.ListN.{length, getD, take, drop, set, length-append, length-set, take-ap
 use lib.Seq.{length-take-le, take-suc-set, drop-set-lt, drop-drop}
 use lib.Dec.{eqb}
 use lib.Bits.{bitAnd, and-self}
-use lib.Count.{trailingZeros}
+use lib.Count.{trailingZeros, ones, ones-step, ones-ones}
 use Rattle.plank_core.specs.Lists.{count, upto, all, keep, _∈_}
 use Rattle.plank_core.specs.inner.DenseIndexSet.{bit, contains, members}
 use Rattle.plank_core.specs.laws.Lists.{mem-count, count-mem, keep-most, keep-mem, keep-out}
@@ -60,6 +60,18 @@ digits-lowest (suc k) b w p l =
     simp (and-half, and-odd, e, h, g, and-self, add-zero))
     (two (w % 2) (omega arith))
 
+-- there are as many as the word has set digits
+digits-ones : (k b w : ℕ) → w < 2 ^ k → length (digitsFrom k b w) ≡ ones w
+unfolding digitsFrom
+digits-ones zero b w l = let e : w ≡ 0 = omega arith in sym (ap ones e ∙ ones-ones 0)
+digits-ones (suc k) b w l =
+    let e2 : 2 ^ suc k ≡ 2 ^ k * 2 = pow-suc 2 k in
+    let ih : length (digitsFrom k (suc b) (w / 2)) ≡ ones (w / 2) = digits-ones k (suc b) (w / 2) (omega arith) in
+    ⊎-elim
+    (λ (e : w % 2 ≡ 0). simp e (omega (arith, ih, ones-step w)))
+    (λ (e : w % 2 ≡ 1). simp e (omega (arith, ih, ones-step w)))
+    (two (w % 2) (omega arith))
+
 -- a word's digits are what is kept of the numbers from b on, where the test there is the word's
 digits-kept : (p : ℕ → Bool) (k b w : ℕ) → ((j : ℕ) → j < k → p (b + j) ≡ bit w j) → digitsFrom k b w ≡ keep p (count b k)
 unfolding digitsFrom
@@ -95,6 +107,10 @@ from-word s k h =
     ap (λ (n : ℕ). keep (contains s) (count (64 * k) n)) e
     ∙ keep-next (contains s) (64 * k) 64 (512 - 64 * (k + 1)) (getD s k 0) (λ j l. shows-contains s k j l)
     ∙ ap (λ (n : ℕ). digitsFrom 64 (64 * k) (getD s k 0) ++ keep (contains s) (count n (512 - 64 * (k + 1)))) b
+
+-- how many members are in the words from k on
+pub from-length : (s : List ℕ) (k : ℕ) → k < 8 → getD s k 0 < 2 ^ 64 → length (from s k) ≡ ones (getD s k 0) + length (from s (k + 1))
+from-length s k h l = ap length (from-word s k h) ∙ length-append (digitsFrom 64 (64 * k) (getD s k 0)) (from s (k + 1)) ∙ ap (λ (n : ℕ). n + length (from s (k + 1))) (digits-ones 64 (64 * k) (getD s k 0) l)
 
 pub left-none : (b w : ℕ) (rest : List ℕ) → w ≡ 0 → digitsFrom 64 b w ++ rest ≡ rest
 left-none b w rest e = rw (e, digits-none)

@@ -18,7 +18,7 @@ use Rattle.sir_analyses.specs.inner.Stages.{LivenessStage, readsIn, writ
 use Rattle.sir_analyses.specs.inner.Tables.{Adds}
 use Rattle.sir_analyses.specs.inner.Scatter.{numberAt}
 use Rattle.sir_analyses.specs.inner.IntervalPieces.{closedPieces}
-use Rattle.sir_analyses.specs.inner.AllocationPieces.{ownReach, sweptTo, livesAt, sweptEnd, SweptEnds, sweptBy, sweptPieces, openPieces, ownRowsIn, ownerIn, OwnedTables, ownsOne, livesIn, side, LiveOwners, SplitOwners}
+use Rattle.sir_analyses.specs.inner.AllocationPieces.{ownReach, sweptTo, livesAt, sweptEnd, SweptEnds, sweptBy, sweptPieces, openPieces, ownRowsIn, ownerIn, OwnedTables, OwnedListed, ownsOne, livesIn, side, LiveOwners, SplitOwners}
 use Rattle.sir_analyses.proofs.Tables.{cleared-row, cleared-long}
 use Rattle.sir_analyses.proofs.claims.lifetimes.Scans.{liveIn}
 use Rattle.sir_analyses.proofs.merged_intervals.SweepSteps.{note-open}
@@ -85,7 +85,7 @@ module _ (owned set ids : List ℕ) {split : List ℕ} (t₀ : List ℕ) (e : t�
   split-told r a q h = adds .same r a (omega (arith, cleared-long t₀ 16 e)) h ∙ ap (λ (t : Bool). t || (ownsOne owned ids a && eqb r (side owned set a))) (cleared-row t₀ 16 r a e)
 
   -- of all locals of a set
-  pub live-listed : {w : List ℕ} → OwnedTables w owned → ids ≡ members set → {listed : List ℕ} → listed ≡ members (rowOf split 0) → LiveOwners owned set listed
+  pub live-listed : {w : List ℕ} → OwnedTables w owned → OwnedListed owned set ids → {listed : List ℕ} → listed ≡ members (rowOf split 0) → LiveOwners owned set listed
   unfolding meets
   live-listed tables f l = record {
     owners = rowOf split 0;
@@ -100,17 +100,17 @@ module _ (owned set ids : List ℕ) {split : List ℕ} (t₀ : List ℕ) (e : t�
           let x : contains (rowOf (ownRowsIn owned) a) v ≡ true = and-true-left (contains (rowOf (ownRowsIn owned) a) v) (contains set v) (r .3) in
           let y : contains set v ≡ true = and-true-right (contains (rowOf (ownRowsIn owned) a) v) (contains set v) (r .3) in
           let o : ownerIn owned v ≡ a + 1 = eqb-true (ownerIn owned v) (a + 1) (sym (tables .row-is a v h (r .2)) ∙ sym (contains-row (ownRowsIn owned) a v (r .2)) ∙ x) in
-          ap (λ (i : ℕ). mem i (map (ownerIn owned) ids)) (sym o) ∙ map-mem (ownerIn owned) v ids (ap (mem v) f ∙ mem-members set v (r .2) ∙ y)
+          ap (λ (i : ℕ). mem i (map (ownerIn owned) ids)) (sym o) ∙ map-mem (ownerIn owned) v ids (f .listed-is v (r .2) (λ z. omega arith) ∙ y)
 
       go : (a : ℕ) → a < 512 → (t : Bool) → livesIn owned set a ≡ t → (ownsOne owned ids a && eqb 0 (cond t 0 1)) ≡ t
       go a h true q = ap (λ (t : Bool). t && true) (owning a h q)
       go a h false q = and-false (ownsOne owned ids a)
 
   -- of the locals that operation o reads or writes
-  pub touched-split : (live : List ℕ) (o : ℕ) (touched : List ℕ) → ids ≡ members touched → ((v : ℕ) → v < 512 → contains touched v ≡ (contains (writesIn live) (512 * o + v) || contains (readsIn live) (512 * o + v))) → SplitOwners live o owned set split
+  pub touched-split : (live : List ℕ) (o : ℕ) (touched : List ℕ) → OwnedListed owned touched ids → ((v : ℕ) → v < 512 → contains touched v ≡ (contains (writesIn live) (512 * o + v) || contains (readsIn live) (512 * o + v))) → SplitOwners live o owned set split
   touched-split live o touched f g = record {
     touched = ids;
-    touched-is = λ v h. ap (mem v) f ∙ mem-members touched v h ∙ g v h;
+    touched-is = λ v h n. f .listed-is v h n ∙ g v h;
     long = adds .long ∙ cleared-long t₀ 16 e;
     split-is = split-told;
   }
@@ -163,7 +163,7 @@ module _ {w live : List ℕ} (stage : LivenessStage w live) {owned : List ℕ} (
           same v h q =
               let c : Bool = contains (writesIn live) (512 * o + v) in
               let d : Bool = contains (readsIn live) (512 * o + v) in
-              let z : (c || d) ≡ false = sym (x .touched-is v h) ∙ apart v q in
+              let z : (c || d) ≡ false = sym (x .touched-is v h (λ z. omega arith)) ∙ apart v q in
               f v h ∙ rw (or-false-left c d z, or-false-right c d z) (kept (contains set v))
             where
               kept : (t : Bool) → ((t && true) || false) ≡ t

@@ -1,7 +1,7 @@
 -- The tables of owners, as they are filled and read.
 use mathlib.Core.Path.{_≡_, refl, sym, ap, ap₂, _∙_}
 use mathlib.Core.Logic.{_⊎_, inl, inr, ⊎-elim}
-use mathlib.Core.Bool.{Bool, true, false, not, _&&_, _||_, cond, and-false, or-false}
+use mathlib.Core.Bool.{Bool, true, false, not, _&&_, _||_, cond, and-true, and-false, or-false}
 use mathlib.Core.List.{List, map}
 use Prim.Native.Nat.{ℕ, zero, suc, _+_, _-_, _*_, _≤_, _<_}
 use native.Mathlib.Numerals.{add-one}
@@ -11,8 +11,11 @@ use lib.Seq.{take-all, getD-take, getD-drop}
 use lib.Dec.{eqb, ltb}
 use borrow.Author.Tests.{eq-eqb, ne-eqb, eqb-true, eqb-false, lt-ltb, le-ltb, ltb-true, ltb-false}
 use Rattle.plank_core.specs.Lists.{mem, oneIf}
-use Rattle.plank_core.specs.laws.Lists.{split}
-use Rattle.plank_core.specs.inner.DenseIndexSet.{contains, added}
+use Rattle.plank_core.specs.laws.Lists.{split, any-some}
+use Rattle.plank_core.specs.laws.Distinct.{eqb-swap}
+use Rattle.plank_core.specs.inner.DenseIndexSet.{contains, added, members, meets, rowOf, rowUnion, rowDifference}
+use Rattle.plank_core.specs.laws.DenseIndexSet.{contains-row, contains-cleared, set-union, set-difference, length-union}
+use Rattle.plank_core.specs.laws.Members.{member-is}
 use Rattle.sir_data.specs.Records.{locals}
 use Rattle.sir_data.specs.inner.WellFormed.{WellFormed}
 use Rattle.sir_analyses.specs.Liveness.{Set, has}
@@ -20,19 +23,19 @@ use Rattle.sir_analyses.specs.Allocation.{allocs, allocAt, reach, marked
 use Rattle.sir_analyses.specs.inner.Tables.{Adds}
 use Rattle.sir_analyses.specs.inner.Stages.{part, ownersIn, marksIn, PointerStage}
 use Rattle.sir_analyses.specs.inner.Scatter.{numberAt}
-use Rattle.sir_analyses.specs.inner.AllocationPieces.{ownReach, ownRowsIn, ownerIn, unmarkedOwner, OwnedTables, ownsOne, livesIn, side}
+use Rattle.sir_analyses.specs.inner.AllocationPieces.{ownReach, unownedIn, ownRowsIn, ownerIn, unmarkedOwner, OwnedTables, OwnedListed, ownsOne, livesIn, side}
 use Rattle.sir_analyses.proofs.SetLaws.{none-in}
 use Rattle.sir_analyses.proofs.claims.liveness.GenKill.{beyond}
 use Rattle.sir_analyses.proofs.claims.marks.Marks.{reach-length}
 use Rattle.sir_analyses.proofs.Tables.{adds-as, adds-then, adds-none, adds-one, cleared-row, cleared-long}
 use Rattle.plank_core.specs.laws.Prefixes.{mapped-next}
-use Rattle.sir_analyses.proofs.stages.Parts.{length-part, putBack, put-part, put-low, put-high, put-long}
+use Rattle.sir_analyses.proofs.stages.Parts.{length-part, putBack, put-part, put-low, put-high, put-long, contains-part}
 use Rattle.sir_analyses.proofs.local_liveness.LivenessTables.{cleared-part}
 use Rattle.sir_analyses.proofs.allocation_liveness.PointerTables.{allocations-few}
 use Rattle.sir_analyses.proofs.scatter.AllAnswers.{zero-at}
 use Rattle.sir_analyses.proofs.allocation_answers.AllocationWords.{below-next}
 use Rattle.sir_analyses.proofs.all_allocations.AllocationPieces.{own-unmarked, own-marked, own-unknown}
-use Rattle.sir_analyses.proofs.all_intervals.OpenEnds.{at-set}
+use Rattle.sir_analyses.proofs.all_intervals.OpenEnds.{at-set, mem-members}
 
 -- ---- the owner of a local, where it is not marked
 
@@ -75,41 +78,19 @@ owner-cases pointers v = go (eqb (ownerOf pointers v) 0) (eqb (getD (marksIn poi
 module _ (own : ℕ → ℕ) (t₀ t : List ℕ) where
   -- which locals below v stand where
   abbrev pub ownedTo : ℕ → ℕ → ℕ → Bool
-  ownedTo v a u = ltb u v && eqb (own u) (a + 1)
+  ownedTo v r u = ltb u v && eqb (own u) r
 
   pub rows-none : Adds t₀ (ownedTo 0) t₀
-  rows-none = adds-none (λ a u h. ap (λ (x : Bool). x && eqb (own u) (a + 1)) (le-ltb u 0 (omega arith)))
+  rows-none = adds-none (λ r u h. ap (λ (x : Bool). x && eqb (own u) r) (le-ltb u 0 (omega arith)))
 
-  pub rows-more : {t′ : List ℕ} (v o : ℕ) → v < 512 → o ≡ own v → ¬ (o ≡ 0) → t′ ≡ added t (512 * (o - 1) + v) → Adds t₀ (ownedTo v) t → Adds t₀ (ownedTo (v + 1)) t′
-  rows-more v o h e n p k = rw p (adds-as (λ a u q. go a u (eqb u v) refl) (adds-then k (adds-one t (o - 1) v h)))
+  pub rows-more : {t′ : List ℕ} (v o : ℕ) → v < 512 → o ≡ own v → t′ ≡ added t (512 * o + v) → Adds t₀ (ownedTo v) t → Adds t₀ (ownedTo (v + 1)) t′
+  rows-more v o h e p k = rw p (adds-as (λ r u q. go r u (eqb u v) refl) (adds-then k (adds-one t o v h)))
     where
-      same : (a : ℕ) → eqb a (o - 1) ≡ eqb (own v) (a + 1)
-      same a = ⊎-elim
-          (λ (q : a < o). ⊎-elim
-          (λ (r : a < o - 1). ne-eqb a (o - 1) (λ z. omega arith) ∙ sym (ne-eqb (own v) (a + 1) (λ z. omega arith)))
-          (λ (r : o - 1 ≤ a). eq-eqb a (o - 1) (omega arith) ∙ sym (eq-eqb (own v) (a + 1) (omega arith)))
-          (split a (o - 1)))
-          (λ (q : o ≤ a). ne-eqb a (o - 1) (λ z. omega (arith, n)) ∙ sym (ne-eqb (own v) (a + 1) (λ z. omega arith)))
-          (split a o)
-
-      go : (a u : ℕ) (x : Bool) → eqb u v ≡ x → ((ltb u v && eqb (own u) (a + 1)) || (eqb a (o - 1) && eqb u v)) ≡ (ltb u (v + 1) && eqb (own u) (a + 1))
-      go a u true q =
+      go : (r u : ℕ) (x : Bool) → eqb u v ≡ x → ((ltb u v && eqb (own u) r) || (eqb r o && eqb u v)) ≡ (ltb u (v + 1) && eqb (own u) r)
+      go r u true q =
           let i : u ≡ v = eqb-true u v q in
-          rw (i, le-ltb v v (omega arith), lt-ltb v (v + 1) (omega arith), eq-eqb v v refl, same a) (go₂ (eqb (own v) (a + 1)))
-        where
-          go₂ : (y : Bool) → (y && true) ≡ y
-          go₂ true = refl
-          go₂ false = refl
-      go a u false q = rw (q, and-false, or-false, below-next u v (eqb-false u v q))
-
-  pub rows-skip : (v : ℕ) → own v ≡ 0 → Adds t₀ (ownedTo v) t → Adds t₀ (ownedTo (v + 1)) t
-  rows-skip v e k = adds-as (λ a u q. go a u (eqb u v) refl) k
-    where
-      go : (a u : ℕ) (x : Bool) → eqb u v ≡ x → (ltb u v && eqb (own u) (a + 1)) ≡ (ltb u (v + 1) && eqb (own u) (a + 1))
-      go a u true q =
-          let i : u ≡ v = eqb-true u v q in
-          rw (i, e, ne-eqb 0 (a + 1) (λ z. omega arith), and-false, and-false)
-      go a u false q = rw (below-next u v (eqb-false u v q))
+          rw (i, le-ltb v v (omega arith), lt-ltb v (v + 1) (omega arith), eq-eqb v v refl, ← e) (and-true (eqb r o) ∙ eqb-swap r o)
+      go r u false q = rw (q, and-false, or-false, below-next u v (eqb-false u v q))
 
 -- ---- the owners of the locals below v are stored
 
@@ -183,45 +164,61 @@ module _ {w pointers : List ℕ} (stage : PointerStage w pointers) where
   unmarked-most : (v : ℕ) → unmarkedOwner pointers v ≤ length (allocs w)
   unmarked-most v = ⊎-elim (λ (q : unmarkedOwner pointers v ≡ 0). omega arith) (λ (q : unmarkedOwner pointers v ≡ owner v). omega (arith, stage .discovered .owner-known v)) (owner-cases pointers v)
 
-  module _ {owned₀ rows : List ℕ} (words : List ℕ) (e : owned₀ ≡ replicate 4608 0)
-      (adds : Adds (part 0 4096 owned₀) (λ a v. ltb v (locals w) && eqb (unmarkedOwner pointers v) (a + 1)) rows)
+  module _ {owned₀ rows : List ℕ} (words : List ℕ) (e : owned₀ ≡ replicate 4616 0)
+      (adds : Adds (part 0 4104 owned₀) (λ r v. ltb v (locals w) && eqb (unmarkedOwner pointers v) r) rows)
       (long : length words ≡ 512)
-      (stored : (v : ℕ) → numberAt words v ≡ cond (ltb v (locals w)) (unmarkedOwner pointers v) (numberAt (part 4096 512 (putBack 0 4096 owned₀ rows)) v)) where
-    long₀ : length owned₀ ≡ 4608
-    long₀ = cleared-long owned₀ 4608 e
+      (stored : (v : ℕ) → numberAt words v ≡ cond (ltb v (locals w)) (unmarkedOwner pointers v) (numberAt (part 4104 512 (putBack 0 4104 owned₀ rows)) v)) where
+    long₀ : length owned₀ ≡ 4616
+    long₀ = cleared-long owned₀ 4616 e
 
-    rows-long : length rows ≡ 4096
-    rows-long = adds .long ∙ length-part 0 4096 owned₀ (omega (arith, long₀))
+    rows-long : length rows ≡ 4104
+    rows-long = adds .long ∙ length-part 0 4104 owned₀ (omega (arith, long₀))
 
     abbrev owned₁ : List ℕ
-    owned₁ = putBack 0 4096 owned₀ rows
+    owned₁ = putBack 0 4104 owned₀ rows
 
-    long₁ : length owned₁ ≡ 4608
-    long₁ = put-long 0 4096 owned₀ rows rows-long (omega (arith, long₀)) ∙ long₀
+    long₁ : length owned₁ ≡ 4616
+    long₁ = put-long 0 4104 owned₀ rows rows-long (omega (arith, long₀)) ∙ long₀
 
     abbrev owned₂ : List ℕ
-    owned₂ = putBack 4096 512 owned₁ words
+    owned₂ = putBack 4104 512 owned₁ words
 
-    rows-in : ownRowsIn owned₂ ≡ rows
-    rows-in = put-low 4096 512 owned₁ words long (omega (arith, long₁)) 0 4096 (omega arith) ∙ put-part 0 4096 owned₀ rows rows-long (omega (arith, long₀))
+    long₂ : length owned₂ ≡ 4616
+    long₂ = put-long 4104 512 owned₁ words long (omega (arith, long₁)) ∙ long₁
+
+    rows-in : part 0 4104 owned₂ ≡ rows
+    rows-in = put-low 4104 512 owned₁ words long (omega (arith, long₁)) 0 4104 (omega arith) ∙ put-part 0 4104 owned₀ rows rows-long (omega (arith, long₀))
 
     owner-in : (v : ℕ) → ownerIn owned₂ v ≡ cond (ltb v (locals w)) (unmarkedOwner pointers v) 0
     owner-in v =
-        ap (λ (l : List ℕ). numberAt l v) (put-part 4096 512 owned₁ words long (omega (arith, long₁)))
+        ap (λ (l : List ℕ). numberAt l v) (put-part 4104 512 owned₁ words long (omega (arith, long₁)))
         ∙ stored v
         ∙ ap (cond (ltb v (locals w)) (unmarkedOwner pointers v))
-        (ap (λ (l : List ℕ). numberAt l v) (put-high 0 4096 owned₀ rows rows-long (omega (arith, long₀)) 4096 512 (omega arith) ∙ cleared-part 4096 512 4608 owned₀ (omega arith) e) ∙ zero-at 512 v)
+        (ap (λ (l : List ℕ). numberAt l v) (put-high 0 4104 owned₀ rows rows-long (omega (arith, long₀)) 4104 512 (omega arith) ∙ cleared-part 4104 512 4616 owned₀ (omega arith) e) ∙ zero-at 512 v)
+
+    -- row 0 for the locals without an owner, row a + 1 for those of allocation a
+    row-at : (r v : ℕ) → r < 513 → v < 512 → contains owned₂ (512 * r + v) ≡ (ltb v (locals w) && eqb (unmarkedOwner pointers v) r)
+    row-at r v h q =
+        let at : 512 * r + v ≡ 512 * 0 + (512 * r + v) = omega arith in
+        ap (contains owned₂) at ∙ sym (contains-part 0 4104 owned₂ (512 * r + v) (omega arith))
+        ∙ ap (λ (l : List ℕ). contains l (512 * r + v)) rows-in
+        ∙ adds .same r v (omega (arith, length-part 0 4104 owned₀ (omega (arith, long₀)))) q
+        ∙ ap (λ (t : Bool). t || (ltb v (locals w) && eqb (unmarkedOwner pointers v) r)) (cleared-row (part 0 4104 owned₀) 4104 r v (cleared-part 0 4104 4616 owned₀ (omega arith) e))
 
     row-in : (a v : ℕ) → a < 512 → v < 512 → contains (ownRowsIn owned₂) (512 * a + v) ≡ (ltb v (locals w) && eqb (unmarkedOwner pointers v) (a + 1))
     row-in a v h q =
-        ap (λ (l : List ℕ). contains l (512 * a + v)) rows-in
-        ∙ adds .same a v (omega (arith, length-part 0 4096 owned₀ (omega (arith, long₀)))) q
-        ∙ ap (λ (t : Bool). t || (ltb v (locals w) && eqb (unmarkedOwner pointers v) (a + 1))) (cleared-row (part 0 4096 owned₀) 4096 a v (cleared-part 0 4096 4608 owned₀ (omega arith) e))
+        let at : 512 * 1 + (512 * a + v) ≡ 512 * (a + 1) + v = omega arith in
+        contains-part 1 4096 owned₂ (512 * a + v) (omega arith) ∙ ap (contains owned₂) at ∙ row-at (a + 1) v (omega arith) q
+
+    unowned-in : (v : ℕ) → v < 512 → (t : Bool) → ownerIn owned₂ v ≡ cond t (unmarkedOwner pointers v) 0 → ¬ (ownerIn owned₂ v ≡ 0) → (t && eqb (unmarkedOwner pointers v) 0) ≡ false
+    unowned-in v h true q n = ne-eqb (unmarkedOwner pointers v) 0 (λ z. n (q ∙ z))
+    unowned-in v h false q n = refl
 
     pub tables-owned : OwnedTables w owned₂
     tables-owned = record {
-      long = put-long 4096 512 owned₁ words long (omega (arith, long₁)) ∙ long₁;
+      long = long₂;
       owner-most = λ v h. few v (ltb v (locals w)) (owner-in v);
+      unowned-is = λ v h n. contains-part 0 8 owned₂ v (omega arith) ∙ row-at 0 v (omega arith) h ∙ unowned-in v h (ltb v (locals w)) (owner-in v) n;
       row-is = λ a v h q. row-in a v h q ∙ by a v (ltb v (locals w)) ∙ ap (λ (k : ℕ). eqb k (a + 1)) (sym (owner-in v));
       reach-is = λ a v h q. row-in a v h q ∙ sym (own-rows-are a v);
     }
@@ -233,6 +230,24 @@ module _ {w pointers : List ℕ} (stage : PointerStage w pointers) where
         by : (a v : ℕ) (t : Bool) → (t && eqb (unmarkedOwner pointers v) (a + 1)) ≡ eqb (cond t (unmarkedOwner pointers v) 0) (a + 1)
         by a v true = refl
         by a v false = sym (ne-eqb 0 (a + 1) (λ q. omega arith))
+
+-- ---- the members of a set that have an owner
+
+pub owned-listed : {w owned set some ids : List ℕ} → OwnedTables w owned → some ≡ rowDifference (rowUnion (replicate 8 0) 0 set) 0 (unownedIn owned) → ids ≡ members some → OwnedListed owned set ids
+owned-listed {w} {owned} {set} {some} {ids} tables e f = record {
+  small = λ v m. member-is some v (rw f at m) .0;
+  listed-is = λ v h n.
+      ap (mem v) f ∙ mem-members some v h ∙ ap (λ (t : List ℕ). contains t v) e
+      ∙ set-difference (rowUnion (replicate 8 0) 0 set) (unownedIn owned) v h (omega (arith, length-union (replicate 8 0) 0 set))
+      ∙ rw (set-union (replicate 8 0) set v h (omega arith), contains-cleared 8 v, tables .unowned-is v h n) (and-true (contains set v));
+}
+
+-- a local in a set brings its owner to row 0
+pub side-zero : (owned set : List ℕ) (a v : ℕ) → v < 512 → contains (ownRowsIn owned) (512 * a + v) ≡ true → contains set v ≡ true → side owned set a ≡ 0
+unfolding meets
+side-zero owned set a v h x y =
+    ap (λ (t : Bool). cond {A = ℕ} t 0 1)
+    (any-some (λ n. contains (rowOf (ownRowsIn owned) a) n && contains set n) 0 512 v (omega arith) h (ap₂ (λ (s t : Bool). s && t) (contains-row (ownRowsIn owned) a v h ∙ x) y))
 
 -- ---- the owners of the first of some locals are in their rows
 
@@ -271,9 +286,9 @@ module _ (owned set ids t₀ t : List ℕ) where
 
 -- ---- reading
 
-pub owner-read : (owned : List ℕ) (v : ℕ) → v < 512 → getD owned (4096 + v) 0 ≡ ownerIn owned v
+pub owner-read : (owned : List ℕ) (v : ℕ) → v < 512 → getD owned (4104 + v) 0 ≡ ownerIn owned v
 unfolding part
-owner-read owned v h = sym (getD-take 512 (drop 4096 owned) v 0 h ∙ getD-drop 4096 owned v 0)
+owner-read owned v h = sym (getD-take 512 (drop 4104 owned) v 0 h ∙ getD-drop 4104 owned v 0)
 
 pub side-most : (owned set : List ℕ) (a : ℕ) → side owned set a ≤ 1
 side-most owned set a = go (livesIn owned set a)

@@ -1,11 +1,12 @@
 -- Parts of a flat array: what is read of them, and what becomes of them where another part, or one place, is written.
-use mathlib.Core.Path.{_≡_, refl, sym, ap, _∙_}
+use mathlib.Core.Path.{_≡_, refl, sym, ap, ap₂, _∙_}
 use mathlib.Core.List.{List, [], _∷_, _++_}
-use Prim.Native.Nat.{ℕ, _+_, _-_, _≤_, _<_}
+use Prim.Native.Nat.{ℕ, _+_, _-_, _*_, _/_, _%_, _≤_, _<_}
 use native.Mathlib.Omega.{arith}
 use native.Mathlib.Numerals.{add-one}
 use lib.ListN.{length, getD, take, drop, set, length-append, length-take, length-drop, take-append-drop}
 use lib.Seq.{length-take-le, take-append-le, drop-append-le, take-at, drop-at, drop-drop, drop-set-add, drop-set-lt, take-set-lt, take-set-le, take-suc-set, take-take, getD-take, getD-drop}
+use Rattle.plank_core.specs.inner.DenseIndexSet.{bit, contains}
 use Rattle.sir_analyses.specs.inner.Stages.{part}
 
 pub length-part : (from n : ℕ) (t : List ℕ) → from + n ≤ length t → length (part from n t) ≡ n
@@ -33,6 +34,14 @@ part-back from n m t h =
 
 pub same-back : (from n m : ℕ) (t u : List ℕ) → m ≤ from → drop m t ≡ drop m u → part from n t ≡ part from n u
 same-back from n m t u h e = part-back from n m t h ∙ ap (part (from - m) n) e ∙ sym (part-back from n m u h)
+
+-- the numbers that a part of whole rows holds
+pub contains-part : (k n : ℕ) (t : List ℕ) (i : ℕ) → i < 64 * n → contains (part (8 * k) n t) i ≡ contains t (512 * k + i)
+unfolding part contains
+contains-part k n t i h =
+    let word : 8 * k + i / 64 ≡ (512 * k + i) / 64 = omega arith in
+    let digit : i % 64 ≡ (512 * k + i) % 64 = omega arith in
+    ap₂ (λ (x j : ℕ). bit x j) (getD-take n (drop (8 * k) t) (i / 64) 0 (omega arith) ∙ getD-drop (8 * k) t (i / 64) 0 ∙ ap (λ (j : ℕ). getD t j 0) word) digit
 
 -- ---- a part was lent, and is put back as ys
 

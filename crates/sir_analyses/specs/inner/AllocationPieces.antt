@@ -76,14 +76,18 @@ headPieces w = bind (upto (length (allocs w))) (λ a. (a, headOf w a) ∷ [])
 abbrev pub recordPieces : List ℕ → Pieces
 recordPieces w = visitedPieces w ++ headPieces w
 
--- ---- the tables of owners: a row of locals for each allocation, and the owner of each local; a marked allocation owns none
+-- ---- the tables of owners: a row of locals without one, a row for each allocation, and the owner of each local; a marked allocation
+-- owns none
+
+abbrev pub unownedIn : List ℕ → List ℕ
+unownedIn owned = part 0 8 owned
 
 abbrev pub ownRowsIn : List ℕ → List ℕ
-ownRowsIn owned = part 0 4096 owned
+ownRowsIn owned = part 8 4096 owned
 
 -- the owner of local v: allocation + 1, or 0
 abbrev pub ownerIn : List ℕ → ℕ → ℕ
-ownerIn owned v = numberAt (part 4096 512 owned) v
+ownerIn owned v = numberAt (part 4104 512 owned) v
 
 -- the owner of local v by the tables of pointers, or 0 where that is marked
 unfoldable pub unmarkedOwner : List ℕ → ℕ → ℕ
@@ -92,12 +96,18 @@ unmarkedOwner pointers v =
     cond (eqb owner 0) 0 (cond (eqb (getD (marksIn pointers) (owner - 1) 0) 0) owner 0)
 
 pub record OwnedTables (w owned : List ℕ) : Type 0 where
-  pub long : length owned ≡ 4608
+  pub long : length owned ≡ 4616
   pub owner-most : (v : ℕ) → v < 512 → ownerIn owned v ≤ 512
+  pub unowned-is : (v : ℕ) → v < 512 → ¬ (ownerIn owned v ≡ 0) → contains (unownedIn owned) v ≡ false
   pub row-is : (a v : ℕ) → a < 512 → v < 512 → contains (ownRowsIn owned) (512 * a + v) ≡ eqb (ownerIn owned v) (a + 1)
   pub reach-is : (a v : ℕ) → a < 512 → v < 512 → contains (ownRowsIn owned) (512 * a + v) ≡ has (ownReach w a) v
 
 -- ---- the owners of some locals
+
+-- the members of a set that have an owner are listed
+pub record OwnedListed (owned set ids : List ℕ) : Type 0 where
+  pub small : (v : ℕ) → v ∈ ids → v < 512
+  pub listed-is : (v : ℕ) → v < 512 → ¬ (ownerIn owned v ≡ 0) → mem v ids ≡ contains set v
 
 -- is allocation a one of them?
 abbrev pub ownsOne : List ℕ → List ℕ → ℕ → Bool
@@ -120,6 +130,6 @@ pub record LiveOwners (owned set ids : List ℕ) : Type 0 where
 -- the owners of the locals that operation o reads or writes are put in their rows
 pub record SplitOwners (live : List ℕ) (o : ℕ) (owned set split : List ℕ) : Type 0 where
   pub touched : List ℕ
-  pub touched-is : (v : ℕ) → v < 512 → mem v touched ≡ (contains (writesIn live) (512 * o + v) || contains (readsIn live) (512 * o + v))
+  pub touched-is : (v : ℕ) → v < 512 → ¬ (ownerIn owned v ≡ 0) → mem v touched ≡ (contains (writesIn live) (512 * o + v) || contains (readsIn live) (512 * o + v))
   pub long : length split ≡ 16
   pub split-is : (r a : ℕ) → r < 2 → a < 512 → contains split (512 * r + a) ≡ (ownsOne owned touched a && eqb r (side owned set a))

@@ -1,19 +1,15 @@
 -- The entries of the tables of `codes`, as functions of the code.
 use mathlib.Core.Path.{_≡_}
-use mathlib.Core.Bool.{cond}
 use mathlib.Core.List.{map}
 use Prim.Native.Nat.{ℕ, _*_, _^_, _≤_}
 use native.Mathlib.Omega.{arith}
 use borrow.Author.Tests.{ne-eqb}
 use Rattle.plank_core.specs.Lists.{upto, sum, oneIf}
-use Rattle.sir_data.specs.Codes.{isStaticAlloc, isDynamicAlloc, escaping}
+use Rattle.sir_data.specs.Codes.{escaping}
 
 -- bit k of the mask for position k
 abbrev pub mask : ℕ → ℕ
 mask c = sum (map (λ k. oneIf (escaping c k) * 2 ^ k) (upto 8))
-
-abbrev pub allocates : ℕ → ℕ
-allocates c = cond (isStaticAlloc c) 1 (cond (isDynamicAlloc c) 2 0)
 
 -- bit 7 stands for every position from 7 up: past it a code's positions are all alike
 pub escaping-far : (c k : ℕ) → 7 ≤ k → escaping c k ≡ escaping c 7

@@ -4,13 +4,11 @@ use Prim.Native.Nat.{ℕ, _+_, _-_, _*_, _≤_, _<_}
 use native.Mathlib.Omega.{arith}
 use borrow.Author.Needs.{needs}
 use lib.ListN.{length, take, replicate}
-use Rattle.plank_core.specs.inner.DenseIndexSet.{contains, members, rowOf, rowUnion}
+use Rattle.plank_core.specs.inner.DenseIndexSet.{contains, rowOf, rowUnion}
 use Rattle.plank_core.specs.laws.DenseIndexSet.{length-row}
-use Rattle.plank_core.specs.laws.Members.{members-most, member-is}
 use Rattle.sir_analyses.specs.inner.Stages.{readsIn, writesIn}
 use Rattle.sir_analyses.proofs.stages.Parts.{length-part}
 use Rattle.sir_analyses.proofs.loading.Loads.{front-length}
-use Rattle.sir_analyses.proofs.live_answers.SetAnswers.{front-members}
 use Rattle.sir_analyses.proofs.merged_intervals.MergedIntervals.{joined}
 use Rattle.sir_analyses.proofs.all_allocations.SweptEnds.{touched-split}
 use Rattle.sir_analyses.proofs.all_allocations.split_touched.Statement.{statement}
@@ -65,78 +63,75 @@ row-union-with-requires-2 c κs =
     let start = at-struct-known .before .before .before .before .before in
     (omega (arith, at-row-union-with .row-union-with .kept), ap length (at-row-of2 .row-of2 .ensures) ∙ length-row _ _ (omega (arith, ap length (at-reads .reads .ensures) ∙ length-part 0 8192 (start .args .live .now) (omega (arith, start .pre .0 .0)), start .pre .0 .1)))
 
-slice-aggregate-list : tie.Need-slice-aggregate-list
-slice-aggregate-list c =
+slice-aggregate-list-owned : tie.Need-slice-aggregate-list-owned
+slice-aggregate-list-owned c =
     let at-row-union-with2 = c .before .before in
     let at-row-union-with = at-row-union-with2 .before .before .before .before .before in
     omega (arith, at-row-union-with2 .row-union-with2 .kept, at-row-union-with .row-union-with .kept)
 
-list-requires : tie.Need-list-requires
-list-requires c κs =
+list-owned-requires : tie.Need-list-owned-requires
+list-owned-requires c κs =
     let at-row-union-with2 = c .before .before .before in
     let at-row-union-with = at-row-union-with2 .before .before .before .before .before in
-    let at-struct-known = at-row-union-with .before .before .before .before in
-    let start = at-struct-known .before .before .before .before .before in
-    (omega (arith, at-row-union-with2 .row-union-with2 .kept, at-row-union-with .row-union-with .kept), omega (arith, start .pre .1 .1 .1))
+    let at-slice-known = at-row-union-with .before .before .before .before .before in
+    let start = at-slice-known .before .before .before .before in
+    (start .pre .1 .0, (omega (arith, at-row-union-with2 .row-union-with2 .kept, at-row-union-with .row-union-with .kept), start .pre .1 .1 .1))
 
 slice-reshare-prefix-split-owners : tie.Need-slice-reshare-prefix-split-owners
 slice-reshare-prefix-split-owners c =
-    let at-list = c .before .before in
-    let at-row-union-with2 = at-list .before .before .before .before in
-    let at-row-union-with = at-row-union-with2 .before .before .before .before .before in
-    let at-struct-known = at-row-union-with .before .before .before .before in
-    let start = at-struct-known .before .before .before .before .before in
-    omega (arith, at-list .list .ensures .0, members-most (at-row-union-with2 .row-union-with2 .last .0), at-list .list .kept, start .pre .1 .1 .1)
+    let at-list-owned = c .before .before in
+    let at-row-of2 = at-list-owned .before .before .before .before .before in
+    let at-row-of = at-row-of2 .before .before .before .before .before in
+    let at-shared-slice-known3 = at-row-of .before .before .before .before .before in
+    let start = at-shared-slice-known3 .before .before .before in
+    omega (arith, at-list-owned .list-owned .ensures .0, at-list-owned .list-owned .kept, start .pre .1 .1 .1)
 
 slice-aggregate-split-owners : tie.Need-slice-aggregate-split-owners
 slice-aggregate-split-owners c =
-    let at-list = c .before .before .before in
-    let at-row-union-with2 = at-list .before .before .before .before in
-    let at-row-union-with = at-row-union-with2 .before .before .before .before .before in
-    let at-struct-known = at-row-union-with .before .before .before .before in
-    let start = at-struct-known .before .before .before .before .before in
-    front-length _ _ (omega (arith, at-list .list .ensures .0, members-most (at-row-union-with2 .row-union-with2 .last .0), at-list .list .kept, start .pre .1 .1 .1))
+    let at-list-owned = c .before .before .before in
+    let at-row-of2 = at-list-owned .before .before .before .before .before in
+    let at-row-of = at-row-of2 .before .before .before .before .before in
+    let at-shared-slice-known3 = at-row-of .before .before .before .before .before in
+    let start = at-shared-slice-known3 .before .before .before in
+    front-length _ _ (omega (arith, at-list-owned .list-owned .ensures .0, at-list-owned .list-owned .kept, start .pre .1 .1 .1))
 
 slice-aggregate-split-owners-2 : tie.Need-slice-aggregate-split-owners-2
 slice-aggregate-split-owners-2 c = search needs
 
 split-owners-requires : tie.Need-split-owners-requires
 split-owners-requires c κs =
-    let at-list = c .before .before .before .before in
-    let at-row-union-with2 = at-list .before .before .before .before in
-    let at-row-union-with = at-row-union-with2 .before .before .before .before .before in
-    let at-struct-known = at-row-union-with .before .before .before .before in
-    let start = at-struct-known .before .before .before .before .before in
-    let touched = at-row-union-with2 .row-union-with2 .last .0 in
-    let listed = front-members touched (start .args .ids .now) (at-list .list .ensures .0) (at-list .list .ensures .1) in
-    (λ v m. member-is touched v (rw listed at m) .0, (start .pre .1 .0, (start .pre .1 .1 .0, refl)))
+    let at-list-owned = c .before .before .before .before in
+    let at-row-of2 = at-list-owned .before .before .before .before .before in
+    let at-row-of = at-row-of2 .before .before .before .before .before in
+    let at-shared-slice-known3 = at-row-of .before .before .before .before .before in
+    let start = at-shared-slice-known3 .before .before .before in
+    (at-list-owned .list-owned .ensures .1 .small, (start .pre .1 .0, (start .pre .1 .1 .0, refl)))
 
 same-length : tie.Need-same-length
 same-length c =
     let at-ids = c .before .before .before .before .before in
-    let at-list = at-ids .before in
-    omega (arith, at-list .list .kept)
+    let at-list-owned = at-ids .before in
+    omega (arith, at-list-owned .list-owned .kept)
 
 returns : tie.Need-returns
 returns c =
     let at-split-owners = c .before in
-    let at-list = at-split-owners .before .before .before .before .before in
-    let at-row-union-with2 = at-list .before .before .before .before in
+    let at-list-owned = at-split-owners .before .before .before .before .before in
+    let at-row-union-with2 = at-list-owned .before .before .before .before in
     let at-row-of2 = at-row-union-with2 .before in
     let at-reads = at-row-of2 .before in
     let at-row-union-with = at-reads .before .before .before in
     let at-row-of = at-row-union-with .before in
     let at-writes = at-row-of .before in
-    let at-struct-known = at-writes .before .before in
-    let start = at-struct-known .before .before .before .before .before in
+    let at-shared-slice-known2 = at-writes .before .before .before .before .before in
+    let start = at-shared-slice-known2 .before .before in
     let a = start .args in
     let live = a .live .now in
     let o = a .o .0 in
     let touched = at-row-union-with2 .row-union-with2 .last .0 in
-    let listed = front-members touched (a .ids .now) (at-list .list .ensures .0) (at-list .list .ensures .1) in
     let one = rw (at-row-of .row-of .ensures, at-writes .writes .ensures) at (at-row-union-with .row-union-with .ensures .1) in
     let two = rw (at-row-of2 .row-of2 .ensures, at-reads .reads .ensures) at (at-row-union-with2 .row-union-with2 .ensures .1) in
-    touched-split (a .owned .now) (a .set .now) (take (at-list .list .result) (at-list .list .last .1 .0)) _ refl (at-split-owners .split-owners .ensures) live o touched listed (λ v h. ap (λ t. contains t v) (rw one at two) ∙ joined (writesIn live) (readsIn live) o v h)
+    touched-split (a .owned .now) (a .set .now) (take (at-list-owned .list-owned .result) (at-list-owned .list-owned .last .1 .1 .0)) _ refl (at-split-owners .split-owners .ensures) live o touched (at-list-owned .list-owned .ensures .1) (λ v h. ap (λ t. contains t v) (rw one at two) ∙ joined (writesIn live) (readsIn live) o v h)
 
 pub split-touched-spec : {M : Type 1} → statement M
 split-touched-spec =
@@ -151,8 +146,8 @@ split-touched-spec =
     reads-requires
     row-of-requires-2
     row-union-with-requires-2
-    slice-aggregate-list
-    list-requires
+    slice-aggregate-list-owned
+    list-owned-requires
     slice-reshare-prefix-split-owners
     slice-aggregate-split-owners
     slice-aggregate-split-owners-2

@@ -142,7 +142,7 @@ split-touched-requires c κs =
     let at-set = at-set2 .before .before in
     let at-shared-slice-known = at-set .before .before .before .before .before in
     let start = at-shared-slice-known .before in
-    ((start .pre .0 .long, omega (arith, at-loop-test .loop-test .taken, at-loop .loop .inv .1, start .pre .0 .well-formed .sized .operations-most)), ((start .pre .1 .0 .long, start .pre .1 .0 .owner-most), (omega (arith, at-live-before .live-before .kept, at-loop .loop .inv .4 .long), at-loop .loop .inv .3)))
+    ((start .pre .0 .long, omega (arith, at-loop-test .loop-test .taken, at-loop .loop .inv .1, start .pre .0 .well-formed .sized .operations-most)), ((start .args .words .now, start .pre .1 .0), (omega (arith, at-live-before .live-before .kept, at-loop .loop .inv .4 .long), at-loop .loop .inv .3)))
 
 slice-aggregate-list-row : tie.Need-slice-aggregate-list-row Inv-loop μ-loop
 slice-aggregate-list-row c =

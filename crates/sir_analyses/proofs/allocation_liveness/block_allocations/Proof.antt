@@ -4,6 +4,7 @@ use mathlib.Core.Bool.{true, false}
 use Prim.Native.Nat.{_+_, _-_, _*_, _≤_, _<_}
 use native.Mathlib.Omega.{arith}
 use lib.ListN.{length, length-set}
+use borrow.Author.Needs.{needs}
 use Rattle.plank_core.specs.Lists.{range}
 use Rattle.sir_data.specs.Records.{operations, code}
 use Rattle.sir_data.specs.Codes.{isAlloc}
@@ -37,13 +38,7 @@ op-word-requires c κs = let S = c .before .before .before .before .before in
     (S .pre .0 .sized, (h, omega arith))
 
 is-alloc-requires : tie.Need-is-alloc-requires Inv-loop μ-loop
-is-alloc-requires c κs =
-    let at-block-operations = c .before .before .before in
-    let start = at-block-operations .before .before .before in
-    let L = c .before .before .loop in
-    let w = start .args .words .now in
-    let h : L .o < operations w = omega (arith, start .pre .0 .in-range .ops-range (start .args .b .0) (start .pre .1 .0), at-block-operations .block-operations .ensures, c .before .loop-test .taken) in
-    omega (arith, start .pre .0 .in-range .code-most (L .o) h, c .op-word .ensures)
+is-alloc-requires c κs = search needs
 
 add-result : tie.Need-add-result Inv-loop μ-loop
 add-result c = omega (arith, c .before .before .before .before .before .loop .inv .0)

@@ -14,7 +14,7 @@ op-word-requires : tie.Need-op-word-requires
 op-word-requires c κs = search needs
 
 is-dynamic-alloc-requires : tie.Need-is-dynamic-alloc-requires
-is-dynamic-alloc-requires c κs = rw (c .op-word .ensures) (c .before .before .pre .0 .in-range .code-most (c .before .before .args .o .0) (c .before .before .pre .1 .0))
+is-dynamic-alloc-requires c κs = search needs
 
 op-inputs-requires : tie.Need-op-inputs-requires
 op-inputs-requires c κs = search needs

@@ -10,7 +10,7 @@ use Rattle.sir_data.specs.Records.{locals}
 use Rattle.sir_analyses.specs.inner.Tables.{Adds}
 use Rattle.sir_analyses.specs.inner.AllocationPieces.{unmarkedOwner}
 use Rattle.sir_analyses.proofs.allocation_liveness.PointerTables.{allocations-few}
-use Rattle.sir_analyses.proofs.owned_tables.OwnedTables.{ownedTo, rows-none, rows-more, rows-skip}
+use Rattle.sir_analyses.proofs.owned_tables.OwnedTables.{ownedTo, rows-none, rows-more}
 use Rattle.sir_analyses.proofs.owned_tables.own_rows.Statement.{statement}
 use Rattle.sir_analyses.proofs.owned_tables.own_rows.Tie as tie
 
@@ -32,50 +32,41 @@ loop-holds c =
 
 unmarked-owner-requires : tie.Need-unmarked-owner-requires Inv-loop μ-loop
 unmarked-owner-requires c κs =
-    let at-loop-test = c in
     let at-loop = c .before in
     let at-local-count = at-loop .before in
     let start = at-local-count .before .before .before .before in
-    (start .pre .0 .long, omega (arith, at-loop-test .loop-test .taken, at-local-count .local-count .ensures, start .pre .0 .well-formed .sized .locals-most), omega (arith, start .pre .0 .discovered .owner-known (at-loop .loop .v), allocations-few (start .pre .0)))
-
-add-v : tie.Need-add-v Inv-loop μ-loop
-add-v c =
-    let at-loop-test = c .before in
-    let at-local-count = at-loop-test .before .before in
-    let start = at-local-count .before .before .before .before in
-    omega (arith, at-loop-test .loop-test .taken, at-local-count .local-count .ensures, start .pre .0 .well-formed .sized .locals-most)
-
-sub-row-add : tie.Need-sub-row-add Inv-loop μ-loop
-sub-row-add c =
-    let at-if1 = c .before in
-    omega (arith, at-if1 .if1 .taken)
+    (start .pre .0 .long, omega (arith, c .loop-test .taken, at-local-count .local-count .ensures, start .pre .0 .well-formed .sized .locals-most), omega (arith, start .pre .0 .discovered .owner-known (at-loop .loop .v), allocations-few (start .pre .0)))
 
 cast-row-add : tie.Need-cast-row-add Inv-loop μ-loop
 cast-row-add c =
-    let at-unmarked-owner = c .before .before in
+    let at-unmarked-owner = c .before in
     omega (arith, at-unmarked-owner .unmarked-owner .ensures .1)
 
 row-add-requires : tie.Need-row-add-requires Inv-loop μ-loop
 row-add-requires c κs =
-    let at-if1 = c .before in
-    let at-unmarked-owner = at-if1 .before in
+    let at-unmarked-owner = c .before in
     let at-loop-test = at-unmarked-owner .before in
     let at-loop = at-loop-test .before in
     let at-local-count = at-loop .before in
     let start = at-local-count .before .before .before .before in
-    (omega (arith, at-unmarked-owner .unmarked-owner .ensures .1, at-if1 .if1 .taken, at-loop .loop .inv .1, start .pre .1), omega (arith, at-loop-test .loop-test .taken, at-local-count .local-count .ensures, start .pre .0 .well-formed .sized .locals-most))
+    (omega (arith, at-unmarked-owner .unmarked-owner .ensures .1, at-loop .loop .inv .1, start .pre .1), omega (arith, at-loop-test .loop-test .taken, at-local-count .local-count .ensures, start .pre .0 .well-formed .sized .locals-most))
+
+add-v : tie.Need-add-v Inv-loop μ-loop
+add-v c =
+    let at-loop-test = c .before .before .before .before .before in
+    let at-local-count = at-loop-test .before .before in
+    let start = at-local-count .before .before .before .before in
+    omega (arith, at-loop-test .loop-test .taken, at-local-count .local-count .ensures, start .pre .0 .well-formed .sized .locals-most)
 
 loop-less : tie.Need-loop-less Inv-loop μ-loop
 loop-less c =
-    let at-unmarked-owner = c .before .before .before .before .before in
-    let at-loop-test = at-unmarked-owner .before in
+    let at-loop-test = c .before .before .before .before .before in
     omega (arith, at-loop-test .loop-test .taken)
 
 loop-again : tie.Need-loop-again Inv-loop μ-loop
 loop-again c =
     let at-row-add = c .before .before in
-    let at-if1 = at-row-add .before .before in
-    let at-unmarked-owner = at-if1 .before in
+    let at-unmarked-owner = at-row-add .before .before in
     let at-loop-test = at-unmarked-owner .before in
     let at-loop = at-loop-test .before in
     let at-local-count = at-loop .before in
@@ -84,22 +75,7 @@ loop-again c =
     let L = at-loop .loop in
     let r = at-unmarked-owner .unmarked-owner in
     let h : L .v < 512 = omega (arith, at-loop-test .loop-test .taken, at-local-count .local-count .ensures, start .pre .0 .well-formed .sized .locals-most) in
-    (omega (arith, at-loop-test .loop-test .taken), omega (arith, at-row-add .row-add .kept, L .inv .1), rows-more own (start .args .rows .now) (L .rows) (L .v) (r .result) h (r .ensures .0) (at-if1 .if1 .taken) (at-row-add .row-add .ensures .1) (L .inv .2))
-
-loop-less-2 : tie.Need-loop-less-2 Inv-loop μ-loop
-loop-less-2 c =
-    let at-loop-test = c .before .before in
-    omega (arith, at-loop-test .loop-test .taken)
-
-loop-again-2 : tie.Need-loop-again-2 Inv-loop μ-loop
-loop-again-2 c =
-    let at-unmarked-owner = c .before in
-    let at-loop-test = at-unmarked-owner .before in
-    let at-loop = at-loop-test .before in
-    let start = at-loop .before .before .before .before .before in
-    let own = unmarkedOwner (start .args .pointers .now) in
-    let L = at-loop .loop in
-    (omega (arith, at-loop-test .loop-test .taken), L .inv .1, rows-skip own (start .args .rows .now) (L .rows) (L .v) (sym (at-unmarked-owner .unmarked-owner .ensures .0) ∙ c .if1 .left) (L .inv .2))
+    (omega (arith, at-loop-test .loop-test .taken), omega (arith, at-row-add .row-add .kept, L .inv .1), rows-more own (start .args .rows .now) (L .rows) (L .v) (r .result) h (r .ensures .0) (at-row-add .row-add .ensures .1) (L .inv .2))
 
 same-length : tie.Need-same-length Inv-loop μ-loop
 same-length c =
@@ -124,13 +100,10 @@ own-rows-spec =
     local-count-requires
     loop-holds
     unmarked-owner-requires
-    add-v
-    sub-row-add
     cast-row-add
     row-add-requires
+    add-v
     loop-less
     loop-again
-    loop-less-2
-    loop-again-2
     same-length
     returns)

@@ -20,13 +20,13 @@ part-own-rows-start c = search needs
 part-own-rows-end : tie.Need-part-own-rows-end
 part-own-rows-end c =
     let start = c .before .before .before in
-    omega (arith, cleared-long (start .args .owned .now) 4608 (start .pre .1))
+    omega (arith, cleared-long (start .args .owned .now) 4616 (start .pre .1))
 
 own-rows-requires : tie.Need-own-rows-requires
 unfolding part
 own-rows-requires c κs =
     let start = c .before .before .before .before in
-    (start .pre .0, length-part 0 4096 (start .args .owned .now) (omega (arith, cleared-long (start .args .owned .now) 4608 (start .pre .1))))
+    (start .pre .0, length-part 0 4104 (start .args .owned .now) (omega (arith, cleared-long (start .args .owned .now) 4616 (start .pre .1))))
 
 sub-own-words : tie.Need-sub-own-words
 sub-own-words c = search needs
@@ -40,10 +40,10 @@ part-own-words-end c =
     let at-own-rows = c .before .before in
     let start = at-own-rows .before .before .before .before .before in
     let owned = start .args .owned .now in
-    let long = cleared-long owned 4608 (start .pre .1) in
+    let long = cleared-long owned 4616 (start .pre .1) in
     let rows = at-own-rows .own-rows .last .1 .1 .0 in
     let adds = at-own-rows .own-rows .ensures in
-    let put = put-long 0 4096 owned rows (adds .long ∙ length-part 0 4096 owned (omega (arith, long))) (omega (arith, long)) ∙ long in
+    let put = put-long 0 4104 owned rows (adds .long ∙ length-part 0 4104 owned (omega (arith, long))) (omega (arith, long)) ∙ long in
     omega (arith, put)
 
 own-words-requires : tie.Need-own-words-requires
@@ -52,11 +52,11 @@ own-words-requires c κs =
     let at-own-rows = c .before .before .before in
     let start = at-own-rows .before .before .before .before .before in
     let owned = start .args .owned .now in
-    let long = cleared-long owned 4608 (start .pre .1) in
+    let long = cleared-long owned 4616 (start .pre .1) in
     let rows = at-own-rows .own-rows .last .1 .1 .0 in
     let adds = at-own-rows .own-rows .ensures in
-    let put = put-long 0 4096 owned rows (adds .long ∙ length-part 0 4096 owned (omega (arith, long))) (omega (arith, long)) ∙ long in
-    (start .pre .0, length-part 4096 512 (putBack 0 4096 owned rows) (omega (arith, put)))
+    let put = put-long 0 4104 owned rows (adds .long ∙ length-part 0 4104 owned (omega (arith, long))) (omega (arith, long)) ∙ long in
+    (start .pre .0, length-part 4104 512 (putBack 0 4104 owned rows) (omega (arith, put)))
 
 same-length : tie.Need-same-length
 unfolding part
@@ -65,12 +65,12 @@ same-length c =
     let at-own-rows = at-own-words .before .before .before .before in
     let start = at-own-rows .before .before .before .before .before in
     let owned = start .args .owned .now in
-    let long = cleared-long owned 4608 (start .pre .1) in
+    let long = cleared-long owned 4616 (start .pre .1) in
     let rows = at-own-rows .own-rows .last .1 .1 .0 in
     let adds = at-own-rows .own-rows .ensures in
-    let put = put-long 0 4096 owned rows (adds .long ∙ length-part 0 4096 owned (omega (arith, long))) (omega (arith, long)) ∙ long in
+    let put = put-long 0 4104 owned rows (adds .long ∙ length-part 0 4104 owned (omega (arith, long))) (omega (arith, long)) ∙ long in
     let words = at-own-words .own-words .last .1 .1 .0 in
-    put-long 4096 512 (putBack 0 4096 owned rows) words (at-own-words .own-words .kept .1 .1 .0 ∙ length-part 4096 512 (putBack 0 4096 owned rows) (omega (arith, put))) (omega (arith, put)) ∙ put ∙ sym long
+    put-long 4104 512 (putBack 0 4104 owned rows) words (at-own-words .own-words .kept .1 .1 .0 ∙ length-part 4104 512 (putBack 0 4104 owned rows) (omega (arith, put))) (omega (arith, put)) ∙ put ∙ sym long
 
 returns : tie.Need-returns
 unfolding part
@@ -79,12 +79,12 @@ returns c =
     let at-own-rows = at-own-words .before .before .before .before in
     let start = at-own-rows .before .before .before .before .before in
     let owned = start .args .owned .now in
-    let long = cleared-long owned 4608 (start .pre .1) in
+    let long = cleared-long owned 4616 (start .pre .1) in
     let rows = at-own-rows .own-rows .last .1 .1 .0 in
     let adds = at-own-rows .own-rows .ensures in
-    let put = put-long 0 4096 owned rows (adds .long ∙ length-part 0 4096 owned (omega (arith, long))) (omega (arith, long)) ∙ long in
+    let put = put-long 0 4104 owned rows (adds .long ∙ length-part 0 4104 owned (omega (arith, long))) (omega (arith, long)) ∙ long in
     let words = at-own-words .own-words .last .1 .1 .0 in
-    tables-owned (start .pre .0) words (start .pre .1) adds (at-own-words .own-words .kept .1 .1 .0 ∙ length-part 4096 512 (putBack 0 4096 owned rows) (omega (arith, put))) (at-own-words .own-words .ensures)
+    tables-owned (start .pre .0) words (start .pre .1) adds (at-own-words .own-words .kept .1 .1 .0 ∙ length-part 4104 512 (putBack 0 4104 owned rows) (omega (arith, put))) (at-own-words .own-words .ensures)
 
 pub owned-tables-spec : {M : Type 1} → statement M
 owned-tables-spec =

@@ -4,6 +4,7 @@ use Prim.Native.Nat.{ℕ, _+_, _-_, _*_, _≤_, _<_}
 use native.Mathlib.Omega.{arith}
 use borrow.Author.Needs.{needs}
 use lib.ListN.{length, getD}
+use borrow.Author.Tests.{eq-eqb}
 use Rattle.plank_core.specs.laws.Lists.{getD-mem}
 use Rattle.sir_analyses.specs.inner.Tables.{Adds}
 use Rattle.sir_analyses.specs.inner.AllocationPieces.{ownerIn, side}
@@ -22,11 +23,11 @@ loop-holds c =
     let start = c .before .before .before .before in
     (omega arith, refl, split-none (start .args .owned .now) (start .args .set .now) (start .args .ids .now) (start .args .split .now) (start .args .split .now))
 
-mul-owner : tie.Need-mul-owner Inv-loop μ-loop
-mul-owner c = omega arith
+mul-v : tie.Need-mul-v Inv-loop μ-loop
+mul-v c = omega arith
 
-shared-slice-read-owner : tie.Need-shared-slice-read-owner Inv-loop μ-loop
-shared-slice-read-owner c =
+shared-slice-read-v : tie.Need-shared-slice-read-v Inv-loop μ-loop
+shared-slice-read-v c =
     let at-loop-test = c .before in
     at-loop-test .loop-test .taken
 
@@ -54,8 +55,8 @@ add-owner c =
     let small : v < 512 = start .pre .0 v (getD-mem (a .ids .now) (L .i) 0 h) in
     omega (arith, small)
 
-mul-owner-2 : tie.Need-mul-owner-2 Inv-loop μ-loop
-mul-owner-2 c =
+mul-owner : tie.Need-mul-owner Inv-loop μ-loop
+mul-owner c =
     let at-loop-test = c .before in
     let at-loop = at-loop-test .before in
     let start = at-loop .before .before .before .before .before in
@@ -66,8 +67,8 @@ mul-owner-2 c =
     let small : v < 512 = start .pre .0 v (getD-mem (a .ids .now) (L .i) 0 h) in
     omega (arith, small)
 
-shared-slice-read-owner-2 : tie.Need-shared-slice-read-owner-2 Inv-loop μ-loop
-shared-slice-read-owner-2 c =
+shared-slice-read-owner : tie.Need-shared-slice-read-owner Inv-loop μ-loop
+shared-slice-read-owner c =
     let at-loop-test = c .before .before in
     let at-loop = at-loop-test .before in
     let start = at-loop .before .before .before .before .before in
@@ -76,7 +77,7 @@ shared-slice-read-owner-2 c =
     let v = getD (a .ids .now) (L .i) 0 in
     let h = at-loop-test .loop-test .taken in
     let small : v < 512 = start .pre .0 v (getD-mem (a .ids .now) (L .i) 0 h) in
-    omega (arith, small, start .pre .1 .0 .0)
+    omega (arith, small, start .pre .1 .0 .1 .long)
 
 add-i : tie.Need-add-i Inv-loop μ-loop
 add-i c = omega arith
@@ -95,10 +96,14 @@ side-of-requires c κs =
     let v = getD (a .ids .now) (L .i) 0 in
     let h = at-loop-test .loop-test .taken in
     let small : v < 512 = start .pre .0 v (getD-mem (a .ids .now) (L .i) 0 h) in
+    let tables = start .pre .1 .0 .1 in
     let o = ownerIn (a .owned .now) v in
     let read = owner-read (a .owned .now) v small in
-    let most : o ≤ 512 = start .pre .1 .0 .1 v small in
-    (start .pre .1 .0 .0, start .pre .1 .1 .0, omega (arith, read, most, at-if1 .if1 .taken))
+    let most : o ≤ 512 = tables .owner-most v small in
+    let n = rw read at (at-if1 .if1 .taken) in
+    let under : o - 1 < 512 = omega (arith, most, n) in
+    let owns : o ≡ (o - 1) + 1 = omega (arith, n) in
+    ((tables .long, start .pre .1 .1 .0, omega (arith, read, under), small), rw read (tables .row-is (o - 1) v under small ∙ eq-eqb o ((o - 1) + 1) owns))
 
 cast-row-add : tie.Need-cast-row-add Inv-loop μ-loop
 cast-row-add c =
@@ -110,14 +115,14 @@ cast-row-add c =
     let v = getD (a .ids .now) (L .i) 0 in
     let h = at-loop-test .loop-test .taken in
     let small : v < 512 = start .pre .0 v (getD-mem (a .ids .now) (L .i) 0 h) in
+    let tables = start .pre .1 .0 .1 in
     let o = ownerIn (a .owned .now) v in
     let read = owner-read (a .owned .now) v small in
-    let most : o ≤ 512 = start .pre .1 .0 .1 v small in
+    let most : o ≤ 512 = tables .owner-most v small in
     omega (arith, read, most)
 
 row-add-requires : tie.Need-row-add-requires Inv-loop μ-loop
 row-add-requires c κs =
-    let at-side-of = c in
     let at-if1 = c .before .before in
     let at-loop-test = at-if1 .before .before .before in
     let at-loop = at-loop-test .before in
@@ -127,10 +132,11 @@ row-add-requires c κs =
     let v = getD (a .ids .now) (L .i) 0 in
     let h = at-loop-test .loop-test .taken in
     let small : v < 512 = start .pre .0 v (getD-mem (a .ids .now) (L .i) 0 h) in
+    let tables = start .pre .1 .0 .1 in
     let o = ownerIn (a .owned .now) v in
     let read = owner-read (a .owned .now) v small in
-    let most : o ≤ 512 = start .pre .1 .0 .1 v small in
-    (omega (arith, at-side-of .side-of .ensures, side-most (a .owned .now) (a .set .now) (getD (a .owned .now) (4096 + v) 0 - 1), L .inv .1, start .pre .1 .1 .1), omega (arith, read, most, at-if1 .if1 .taken))
+    let most : o ≤ 512 = tables .owner-most v small in
+    (omega (arith, c .side-of .ensures, side-most (a .owned .now) (a .set .now) (getD (a .owned .now) (4104 + v) 0 - 1), L .inv .1, start .pre .1 .1 .1), omega (arith, read, most, at-if1 .if1 .taken))
 
 loop-less : tie.Need-loop-less Inv-loop μ-loop
 loop-less c =
@@ -151,9 +157,10 @@ loop-again c =
     let v = getD (a .ids .now) (L .i) 0 in
     let h = at-loop-test .loop-test .taken in
     let small : v < 512 = start .pre .0 v (getD-mem (a .ids .now) (L .i) 0 h) in
+    let tables = start .pre .1 .0 .1 in
     let o = ownerIn (a .owned .now) v in
     let read = owner-read (a .owned .now) v small in
-    let most : o ≤ 512 = start .pre .1 .0 .1 v small in
+    let most : o ≤ 512 = tables .owner-most v small in
     let n = rw read at (at-if1 .if1 .taken) in
     let p = rw (at-side-of .side-of .ensures, read) at (at-row-add .row-add .ensures .1) in
     (omega (arith, h), omega (arith, at-row-add .row-add .kept, L .inv .1), split-more (a .owned .now) (a .set .now) (a .ids .now) (a .split .now) (L .split) (L .i) o h refl n most p (L .inv .2))
@@ -173,10 +180,7 @@ loop-again-2 c =
     let v = getD (a .ids .now) (L .i) 0 in
     let h = at-loop-test .loop-test .taken in
     let small : v < 512 = start .pre .0 v (getD-mem (a .ids .now) (L .i) 0 h) in
-    let o = ownerIn (a .owned .now) v in
-    let read = owner-read (a .owned .now) v small in
-    let most : o ≤ 512 = start .pre .1 .0 .1 v small in
-    (omega (arith, h), L .inv .1, split-skip (a .owned .now) (a .set .now) (a .ids .now) (a .split .now) (L .split) (L .i) h (sym read ∙ c .if1 .left) (L .inv .2))
+    (omega (arith, h), L .inv .1, split-skip (a .owned .now) (a .set .now) (a .ids .now) (a .split .now) (L .split) (L .i) h (sym (owner-read (a .owned .now) v small) ∙ c .if1 .left) (L .inv .2))
 
 same-length : tie.Need-same-length Inv-loop μ-loop
 same-length c =
@@ -197,12 +201,12 @@ split-owners-spec =
     Inv-loop
     μ-loop
     loop-holds
-    mul-owner
-    shared-slice-read-owner
+    mul-v
+    shared-slice-read-v
     cast-owner
     add-owner
-    mul-owner-2
-    shared-slice-read-owner-2
+    mul-owner
+    shared-slice-read-owner
     add-i
     sub-a
     side-of-requires

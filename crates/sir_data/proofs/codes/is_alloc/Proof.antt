@@ -1,19 +1,20 @@
--- `is_alloc`: the table ALLOCATES against `isAlloc`.
-use mathlib.Core.Path.{refl}
-use mathlib.Core.Bool.{not}
-use lib.Dec.{eqb}
-use Rattle.plank_core.specs.laws.Table.{table-rule}
-use Rattle.sir_data.specs.Codes.{isAlloc}
-use Rattle.sir_data.specs.laws.Codes.{allocates}
+-- `is_alloc` is the test of both kinds.
+use mathlib.Core.Path.{sym, _∙_}
 use borrow.Author.Needs.{needs}
 use Rattle.sir_data.proofs.codes.is_alloc.Statement.{statement}
 use Rattle.sir_data.proofs.codes.is_alloc.Tie as tie
 
-array-read-result : tie.Need-array-read-result
-array-read-result c = search needs
+is-static-alloc-requires : tie.Need-is-static-alloc-requires
+is-static-alloc-requires c κs = search needs
+
+is-dynamic-alloc-requires : tie.Need-is-dynamic-alloc-requires
+is-dynamic-alloc-requires c κs = search needs
 
 returns : tie.Need-returns
-returns c = table-rule allocates (λ x. not (eqb x 0)) isAlloc 93 refl (c .args .code) (search needs)
+returns c = simp (sym (c .before .is-static-alloc .ensures) ∙ c .if1 .taken) (c .if1 .taken)
+
+returns-2 : tie.Need-returns-2
+returns-2 c = simp (sym (c .before .before .is-static-alloc .ensures) ∙ c .before .if1 .left) (c .is-dynamic-alloc .ensures)
 
 pub is-alloc-spec : {M : Type 1} → statement M
-is-alloc-spec = tie.close (tie.spec array-read-result returns)
+is-alloc-spec = tie.close (tie.spec is-static-alloc-requires is-dynamic-alloc-requires returns returns-2)

@@ -1,18 +1,13 @@
--- `is_static_alloc`: the table ALLOCATES against `isStaticAlloc`.
-use mathlib.Core.Path.{refl}
-use lib.Dec.{eqb}
-use Rattle.plank_core.specs.laws.Table.{table-rule}
-use Rattle.sir_data.specs.Codes.{isStaticAlloc}
-use Rattle.sir_data.specs.laws.Codes.{allocates}
-use borrow.Author.Needs.{needs}
+-- `is_static_alloc` is the test of both static allocation codes.
+use borrow.Author.Tests.{eq-eqb, ne-eqb}
 use Rattle.sir_data.proofs.codes.is_static_alloc.Statement.{statement}
 use Rattle.sir_data.proofs.codes.is_static_alloc.Tie as tie
 
-array-read-result : tie.Need-array-read-result
-array-read-result c = search needs
-
 returns : tie.Need-returns
-returns c = table-rule allocates (λ x. eqb x 1) isStaticAlloc 93 refl (c .args .code) (search needs)
+returns c = rw (eq-eqb _ 82 (c .if1 .taken))
+
+returns-2 : tie.Need-returns-2
+returns-2 c = rw (ne-eqb _ 82 (c .if1 .left))
 
 pub is-static-alloc-spec : {M : Type 1} → statement M
-is-static-alloc-spec = tie.close (tie.spec array-read-result returns)
+is-static-alloc-spec = tie.close (tie.spec returns returns-2)

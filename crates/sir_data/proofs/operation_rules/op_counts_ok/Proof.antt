@@ -15,8 +15,9 @@ op-word-requires c κs = search needs
 
 operand-counts-right-requires : tie.Need-operand-counts-right-requires
 operand-counts-right-requires c κs =
-    let start = c .before .before .before .before in
-    rw (c .op-word .ensures) (start .pre .1 .0 .code-most (start .args .o .0) (start .pre .1 .1))
+    let at-op-inputs = c .before .before in
+    let start = at-op-inputs .before .before .before .before in
+    (start .pre .1 .1 .1, rw (c .op-word .ensures) (start .pre .1 .0 .code-most (start .args .o .0) (start .pre .1 .1 .0)))
 
 returns : tie.Need-returns
 returns c = c .operand-counts-right .ensures ∙ rw (c .before .op-word .ensures, c .before .before .op-outputs .ensures, c .before .before .before .op-inputs .ensures)
