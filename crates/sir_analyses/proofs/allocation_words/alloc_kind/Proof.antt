@@ -20,8 +20,12 @@ op-inputs-requires : tie.Need-op-inputs-requires
 op-inputs-requires c κs = search needs
 
 shared-slice-read-t8 : tie.Need-shared-slice-read-t8
-shared-slice-read-t8 c = let d : isDynamicAlloc (code (c .before .before .before .before .before .before .args .words .now) (c .before .before .before .before .before .before .args .o .0)) ≡ true = sym (ap isDynamicAlloc (c .before .before .before .before .op-word .ensures)) ∙ sym (c .before .before .before .is-dynamic-alloc .ensures) ∙ c .before .before .if1 .taken in
-    omega (arith, ap length (c .before .op-inputs .ensures), one-in (c .before .before .before .before .before .before .args .words .now) (c .before .before .before .before .before .before .pre .0) (c .before .before .before .before .before .before .pre .1 .0) d)
+shared-slice-read-t8 c =
+    let at-is-dynamic-alloc = c .before .before .before in
+    let at-op-word = at-is-dynamic-alloc .before in
+    let start = at-op-word .before .before in
+    let d : isDynamicAlloc (code (start .args .words .now) (start .args .o .0)) ≡ true = sym (ap isDynamicAlloc (at-op-word .op-word .ensures)) ∙ sym (at-is-dynamic-alloc .is-dynamic-alloc .ensures) ∙ c .before .before .if1 .taken in
+    omega (arith, ap length (c .before .op-inputs .ensures), one-in (start .args .words .now) (start .pre .0) (start .pre .1 .0) d)
 
 op-word-requires-2 : tie.Need-op-word-requires-2
 op-word-requires-2 c κs = search needs
@@ -30,11 +34,19 @@ op-word-requires-3 : tie.Need-op-word-requires-3
 op-word-requires-3 c κs = search needs
 
 returns : tie.Need-returns
-returns c = let d : isDynamicAlloc (code (c .before .before .before .before .before .before .args .words .now) (c .before .before .before .before .before .before .args .o .0)) ≡ true = sym (ap isDynamicAlloc (c .before .before .before .before .op-word .ensures)) ∙ sym (c .before .before .before .is-dynamic-alloc .ensures) ∙ c .before .before .if1 .taken in
+returns c =
+    let at-is-dynamic-alloc = c .before .before .before in
+    let at-op-word = at-is-dynamic-alloc .before in
+    let start = at-op-word .before .before in
+    let d : isDynamicAlloc (code (start .args .words .now) (start .args .o .0)) ≡ true = sym (ap isDynamicAlloc (at-op-word .op-word .ensures)) ∙ sym (at-is-dynamic-alloc .is-dynamic-alloc .ensures) ∙ c .before .before .if1 .taken in
     rw (d, c .before .op-inputs .ensures)
 
 returns-2 : tie.Need-returns-2
-returns-2 c = let d : isDynamicAlloc (code (c .before .before .before .before .before .before .args .words .now) (c .before .before .before .before .before .before .args .o .0)) ≡ false = sym (ap isDynamicAlloc (c .before .before .before .before .op-word .ensures)) ∙ sym (c .before .before .before .is-dynamic-alloc .ensures) ∙ c .before .before .if1 .left in
+returns-2 c =
+    let at-is-dynamic-alloc = c .before .before .before in
+    let at-op-word = at-is-dynamic-alloc .before in
+    let start = at-op-word .before .before in
+    let d : isDynamicAlloc (code (start .args .words .now) (start .args .o .0)) ≡ false = sym (ap isDynamicAlloc (at-op-word .op-word .ensures)) ∙ sym (at-is-dynamic-alloc .is-dynamic-alloc .ensures) ∙ c .before .before .if1 .left in
     rw (d, c .before .op-word2 .ensures, c .op-word3 .ensures)
 
 pub alloc-kind-spec : {M : Type 1} → statement M

@@ -17,7 +17,11 @@ same-length : tie.Need-same-length
 same-length c = search needs
 
 returns : tie.Need-returns
-returns c = puts-then (puts-then (c .before .before .before .before .before .before .before .before .before .before .put-word .ensures) (c .before .before .before .before .before .before .put-word2 .ensures)) (c .before .before .put-word3 .ensures)
+returns c =
+    let at-put-word3 = c .before .before in
+    let at-put-word2 = at-put-word3 .before .before .before .before in
+    let at-put-word = at-put-word2 .before .before .before .before in
+    puts-then (puts-then (at-put-word .put-word .ensures) (at-put-word2 .put-word2 .ensures)) (at-put-word3 .put-word3 .ensures)
 
 pub put-triple-spec : {M : Type 1} → statement M
 put-triple-spec =

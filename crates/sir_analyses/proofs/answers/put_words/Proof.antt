@@ -35,10 +35,13 @@ loop-less : tie.Need-loop-less Inv-loop μ-loop
 loop-less c = omega arith
 
 loop-again : tie.Need-loop-again Inv-loop μ-loop
-loop-again c = let S = c .before .before .before .before .before .before .before .before .before in
-    let L = c .before .before .before .before .before .before .loop in
-    let ws = S .args .words .now in
-    let e : drop (L .i) ws ≡ (getD ws (L .i) 0 ∷ []) ++ drop (L .i + 1) ws = rw (add-one, drop-cons ws (L .i) 0 (c .before .before .before .before .before .loop-test .taken)) in
+loop-again c =
+    let at-loop-test = c .before .before .before .before .before in
+    let at-loop = at-loop-test .before in
+    let start = at-loop .before .before .before in
+    let L = at-loop .loop in
+    let ws = start .args .words .now in
+    let e : drop (L .i) ws ≡ (getD ws (L .i) 0 ∷ []) ++ drop (L .i + 1) ws = rw (add-one, drop-cons ws (L .i) 0 (at-loop-test .loop-test .taken)) in
     (omega arith, putting-more (putting-as e (L .inv .1)) (c .before .before .put-word .ensures))
 
 same-length : tie.Need-same-length Inv-loop μ-loop

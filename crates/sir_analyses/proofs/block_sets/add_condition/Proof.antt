@@ -27,19 +27,26 @@ cast-row-add : tie.Need-cast-row-add
 cast-row-add c = search needs
 
 row-add-requires : tie.Need-row-add-requires
-row-add-requires c κs = let s = c .before .before .before .before .before .before .before .before in
-    let v = c .before .before .before .v .given in
-    let e : condition (s .args .words .now) (s .args .b .0) ≡ v .0 .0 .0 ∷ [] = sym (c .before .before .before .before .before .tested-local .ensures) ∙ ap testedLocals (v .1) in
-    (omega (arith, s .pre .0 .sized .blocks-most), tested-small (s .pre .0) (s .args .b .0) (v .0 .0 .0) (s .pre .1 .0) e)
+row-add-requires c κs =
+    let at-v = c .before .before .before in
+    let at-tested-local = at-v .before .before in
+    let start = at-tested-local .before .before .before in
+    let v = at-v .v .given in
+    let e : condition (start .args .words .now) (start .args .b .0) ≡ v .0 .0 .0 ∷ [] = sym (at-tested-local .tested-local .ensures) ∙ ap testedLocals (v .1) in
+    (omega (arith, start .pre .0 .sized .blocks-most), tested-small (start .pre .0) (start .args .b .0) (v .0 .0 .0) (start .pre .1 .0) e)
 
 same-length : tie.Need-same-length
 same-length c = search needs
 
 returns-2 : tie.Need-returns-2
-returns-2 c = let s = c .before .before .before .before .before .before .before .before .before .before .before in
-    let v = c .before .before .before .before .before .before .v .given in
-    let e : condition (s .args .words .now) (s .args .b .0) ≡ v .0 .0 .0 ∷ [] = sym (c .before .before .before .before .before .before .before .before .tested-local .ensures) ∙ ap testedLocals (v .1) in
-    rw (c .before .before .row-add .ensures .1) (adds-single (s .args .uses .now) (s .args .b .0) (v .0 .0 .0) (condition (s .args .words .now) (s .args .b .0)) e (tested-small (s .pre .0) (s .args .b .0) (v .0 .0 .0) (s .pre .1 .0) e))
+returns-2 c =
+    let at-row-add = c .before .before in
+    let at-v = at-row-add .before .before .before .before in
+    let at-tested-local = at-v .before .before in
+    let start = at-tested-local .before .before .before in
+    let v = at-v .v .given in
+    let e : condition (start .args .words .now) (start .args .b .0) ≡ v .0 .0 .0 ∷ [] = sym (at-tested-local .tested-local .ensures) ∙ ap testedLocals (v .1) in
+    rw (at-row-add .row-add .ensures .1) (adds-single (start .args .uses .now) (start .args .b .0) (v .0 .0 .0) (condition (start .args .words .now) (start .args .b .0)) e (tested-small (start .pre .0) (start .args .b .0) (v .0 .0 .0) (start .pre .1 .0) e))
 
 pub add-condition-spec : {M : Type 1} → statement M
 add-condition-spec =

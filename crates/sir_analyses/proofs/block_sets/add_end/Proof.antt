@@ -16,18 +16,23 @@ returned-outputs-requires : tie.Need-returned-outputs-requires
 returned-outputs-requires c κs = search needs
 
 add-run-requires : tie.Need-add-run-requires
-add-run-requires c κs = let s = c .before .before .before .before .before .before .before .before .before in
-    let b = s .args .b .0 in (
-      omega (arith, c .before .before .before .before .before .add-condition .ensures .long, s .pre .1, s .pre .0 .sized .blocks-most),
-      λ v m. small (s .pre .0) (returned-below (s .args .words .now) (s .pre .0) b v (s .pre .1 .0) (rw (c .returned-outputs .ensures) at m)),
+add-run-requires c κs =
+    let at-add-condition = c .before .before .before .before .before in
+    let start = at-add-condition .before .before .before .before in
+    let b = start .args .b .0 in (
+      omega (arith, at-add-condition .add-condition .ensures .long, start .pre .1, start .pre .0 .sized .blocks-most),
+      λ v m. small (start .pre .0) (returned-below (start .args .words .now) (start .pre .0) b v (start .pre .1 .0) (rw (c .returned-outputs .ensures) at m)),
     )
 
 same-length : tie.Need-same-length
 same-length c = search needs
 
 returns : tie.Need-returns
-returns c = let s = c .before .before .before .before .before .before .before .before .before .before .before .before in
-    ends-both (s .args .words .now) (s .args .b .0) (c .before .before .before .before .before .before .before .before .add-condition .ensures) (rw (c .before .before .before .returned-outputs .ensures) at (c .before .before .add-run .ensures))
+returns c =
+    let at-returned-outputs = c .before .before .before in
+    let at-add-condition = at-returned-outputs .before .before .before .before .before in
+    let start = at-add-condition .before .before .before .before in
+    ends-both (start .args .words .now) (start .args .b .0) (at-add-condition .add-condition .ensures) (rw (at-returned-outputs .returned-outputs .ensures) at (c .before .before .add-run .ensures))
 
 pub add-end-spec : {M : Type 1} → statement M
 add-end-spec =

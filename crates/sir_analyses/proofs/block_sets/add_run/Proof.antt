@@ -28,10 +28,12 @@ shared-slice-read-row-add : tie.Need-shared-slice-read-row-add Inv-loop μ-loop
 shared-slice-read-row-add c = omega arith
 
 row-add-requires : tie.Need-row-add-requires Inv-loop μ-loop
-row-add-requires c κs = let s = c .before .before .before .before .before .before in
-    let l = c .before .before .before .loop in
-    let i : l .k < length (s .args .run .now) = omega arith in
-    (omega (arith, l .inv .1 .long), s .pre .1 _ (getD-mem (s .args .run .now) (l .k) 0 i))
+row-add-requires c κs =
+    let at-loop = c .before .before .before in
+    let start = at-loop .before .before .before in
+    let l = at-loop .loop in
+    let i : l .k < length (start .args .run .now) = omega arith in
+    (omega (arith, l .inv .1 .long), start .pre .1 _ (getD-mem (start .args .run .now) (l .k) 0 i))
 
 add-k : tie.Need-add-k Inv-loop μ-loop
 add-k c = omega arith
@@ -40,22 +42,26 @@ loop-less : tie.Need-loop-less Inv-loop μ-loop
 loop-less c = omega arith
 
 loop-again : tie.Need-loop-again Inv-loop μ-loop
-loop-again c = let s = c .before .before .before .before .before .before .before .before .before in
-    let l = c .before .before .before .before .before .before .loop in
-    let i : l .k < length (s .args .run .now) = omega arith in
-    let v = getD (s .args .run .now) (l .k) 0 in
-    let a : Adds (l .table) (λ r n. eqb r (s .args .row) && eqb n v) (c .before .before .row-add .last .0) =
-    rw (c .before .before .row-add .ensures .1) (adds-one (l .table) (s .args .row) v (s .pre .1 v (getD-mem (s .args .run .now) (l .k) 0 i))) in
-    (omega arith, adds-as (λ r n h. and-next (eqb r (s .args .row)) (s .args .run .now) (l .k) i n) (adds-then (l .inv .1) a))
+loop-again c =
+    let at-row-add = c .before .before in
+    let at-loop = at-row-add .before .before .before .before in
+    let start = at-loop .before .before .before in
+    let l = at-loop .loop in
+    let i : l .k < length (start .args .run .now) = omega arith in
+    let v = getD (start .args .run .now) (l .k) 0 in
+    let a : Adds (l .table) (λ r n. eqb r (start .args .row) && eqb n v) (at-row-add .row-add .last .0) =
+    rw (at-row-add .row-add .ensures .1) (adds-one (l .table) (start .args .row) v (start .pre .1 v (getD-mem (start .args .run .now) (l .k) 0 i))) in
+    (omega arith, adds-as (λ r n h. and-next (eqb r (start .args .row)) (start .args .run .now) (l .k) i n) (adds-then (l .inv .1) a))
 
 same-length : tie.Need-same-length Inv-loop μ-loop
 same-length c = c .before .loop .inv .1 .long
 
 returns : tie.Need-returns Inv-loop μ-loop
-returns c = let s = c .before .before .before .before in
+returns c =
+    let start = c .before .before .before .before in
     let l = c .before .loop in
-    let e : length (s .args .run .now) ≤ l .k = omega arith in
-    adds-as (λ r n h. and-all (eqb r (s .args .row)) (s .args .run .now) (l .k) e n) (l .inv .1)
+    let e : length (start .args .run .now) ≤ l .k = omega arith in
+    adds-as (λ r n h. and-all (eqb r (start .args .row)) (start .args .run .now) (l .k) e n) (l .inv .1)
 
 pub add-run-spec : {M : Type 1} → statement M
 add-run-spec =

@@ -26,65 +26,84 @@ loop-holds : tie.Need-loop-holds Inv-loop μ-loop
 loop-holds c = (omega arith, c .before .before .before .pre .1, λ p h. absurd (omega arith))
 
 op-inputs-requires : tie.Need-op-inputs-requires Inv-loop μ-loop
-op-inputs-requires c κs = let S = c .before .before .before .before .before in
+op-inputs-requires c κs =
+    let start = c .before .before .before .before .before in
     let L = c .before .loop in
-    let h : L .o < operations (S .args .words .now) = omega (arith, c .before .before .operation-count .ensures, c .loop-test .taken) in
-    (S .pre .0 .sized, (S .pre .0 .in-range, h))
+    let h : L .o < operations (start .args .words .now) = omega (arith, c .before .before .operation-count .ensures, c .loop-test .taken) in
+    (start .pre .0 .sized, (start .pre .0 .in-range, h))
 
 count-local-requires : tie.Need-count-local-requires Inv-loop μ-loop
-count-local-requires c κs = let S = c .before .before .before .before .before .before in
+count-local-requires c κs =
+    let at-operation-count = c .before .before .before in
+    let start = at-operation-count .before .before .before in
     let L = c .before .before .loop in
-    let h : L .o < operations (S .args .words .now) = omega (arith, c .before .before .before .operation-count .ensures, c .before .loop-test .taken) in
-    omega (arith, ap length (c .op-inputs .ensures), inputs-most (S .args .words .now) (S .pre .0) (L .o) h)
+    let h : L .o < operations (start .args .words .now) = omega (arith, at-operation-count .operation-count .ensures, c .before .loop-test .taken) in
+    omega (arith, ap length (c .op-inputs .ensures), inputs-most (start .args .words .now) (start .pre .0) (L .o) h)
 
 cast-counts : tie.Need-cast-counts Inv-loop μ-loop
-cast-counts c = let S = c .before .before .before .before .before .before .before in
-    let L = c .before .before .before .loop in
-    let h : L .o < operations (S .args .words .now) = omega (arith, c .before .before .before .before .operation-count .ensures, c .before .before .loop-test .taken) in
-    let m = S .pre .0 .sized .operations-most in
+cast-counts c =
+    let at-loop = c .before .before .before in
+    let at-operation-count = at-loop .before in
+    let start = at-operation-count .before .before .before in
+    let L = at-loop .loop in
+    let h : L .o < operations (start .args .words .now) = omega (arith, at-operation-count .operation-count .ensures, c .before .before .loop-test .taken) in
+    let m = start .pre .0 .sized .operations-most in
     omega (arith, L .inv .1)
 
 mul-counts : tie.Need-mul-counts Inv-loop μ-loop
-mul-counts c = let S = c .before .before .before .before .before .before .before in
-    let L = c .before .before .before .loop in
-    let h : L .o < operations (S .args .words .now) = omega (arith, c .before .before .before .before .operation-count .ensures, c .before .before .loop-test .taken) in
-    let m = S .pre .0 .sized .operations-most in
+mul-counts c =
+    let at-loop = c .before .before .before in
+    let at-operation-count = at-loop .before in
+    let start = at-operation-count .before .before .before in
+    let L = at-loop .loop in
+    let h : L .o < operations (start .args .words .now) = omega (arith, at-operation-count .operation-count .ensures, c .before .before .loop-test .taken) in
+    let m = start .pre .0 .sized .operations-most in
     omega (arith, L .inv .1)
 
 slice-write-counts : tie.Need-slice-write-counts Inv-loop μ-loop
-slice-write-counts c = let S = c .before .before .before .before .before .before .before in
-    let L = c .before .before .before .loop in
-    let h : L .o < operations (S .args .words .now) = omega (arith, c .before .before .before .before .operation-count .ensures, c .before .before .loop-test .taken) in
-    let m = S .pre .0 .sized .operations-most in
+slice-write-counts c =
+    let at-loop = c .before .before .before in
+    let at-operation-count = at-loop .before in
+    let start = at-operation-count .before .before .before in
+    let L = at-loop .loop in
+    let h : L .o < operations (start .args .words .now) = omega (arith, at-operation-count .operation-count .ensures, c .before .before .loop-test .taken) in
+    let m = start .pre .0 .sized .operations-most in
     omega (arith, L .inv .1)
 
 add-o : tie.Need-add-o Inv-loop μ-loop
-add-o c = let S = c .before .before .before .before .before .before .before in
-    let L = c .before .before .before .loop in
-    let h : L .o < operations (S .args .words .now) = omega (arith, c .before .before .before .before .operation-count .ensures, c .before .before .loop-test .taken) in
-    let m = S .pre .0 .sized .operations-most in
+add-o c =
+    let at-loop = c .before .before .before in
+    let at-operation-count = at-loop .before in
+    let start = at-operation-count .before .before .before in
+    let L = at-loop .loop in
+    let h : L .o < operations (start .args .words .now) = omega (arith, at-operation-count .operation-count .ensures, c .before .before .loop-test .taken) in
+    let m = start .pre .0 .sized .operations-most in
     omega (arith, L .inv .1)
 
 loop-less : tie.Need-loop-less Inv-loop μ-loop
 loop-less c = omega arith
 
 loop-again : tie.Need-loop-again Inv-loop μ-loop
-loop-again c = let S = c .before .before .before .before .before .before .before in
-    let L = c .before .before .before .loop in
-    let h : L .o < operations (S .args .words .now) = omega (arith, c .before .before .before .before .operation-count .ensures, c .before .before .loop-test .taken) in
-    let m = S .pre .0 .sized .operations-most in
-    let e = c .count-local .ensures ∙ ap (λ (l : List ℕ). length (positions (S .args .local .0) l 0)) (c .before .op-inputs .ensures) in (
+loop-again c =
+    let at-loop = c .before .before .before in
+    let at-operation-count = at-loop .before in
+    let start = at-operation-count .before .before .before in
+    let L = at-loop .loop in
+    let h : L .o < operations (start .args .words .now) = omega (arith, at-operation-count .operation-count .ensures, c .before .before .loop-test .taken) in
+    let m = start .pre .0 .sized .operations-most in
+    let e = c .count-local .ensures ∙ ap (λ (l : List ℕ). length (positions (start .args .local .0) l 0)) (c .before .op-inputs .ensures) in (
       omega arith,
       length-set (L .counts) (L .o) _ ∙ L .inv .1,
-      below-next (λ p. getD (set (L .counts) (L .o) (c .count-local .result)) p 0 ≡ length (positions (S .args .local .0) (ins (S .args .words .now) p) 0)) (L .o)
+      below-next (λ p. getD (set (L .counts) (L .o) (c .count-local .result)) p 0 ≡ length (positions (start .args .local .0) (ins (start .args .words .now) p) 0)) (L .o)
           (λ p q. getD-set-other (L .counts) (L .o) p _ 0 (λ (y : p ≡ L .o). omega arith) ∙ L .inv .2 p q)
           (getD-set-same (L .counts) (L .o) _ 0 (omega (arith, L .inv .1)) ∙ e),
     )
 
 same-length : tie.Need-same-length Inv-loop μ-loop
-same-length c = let S = c .before .before .before .before .before in
+same-length c =
+    let start = c .before .before .before .before .before in
     let L = c .before .loop in
-    L .inv .1 ∙ sym (S .pre .1)
+    L .inv .1 ∙ sym (start .pre .1)
 
 returns : tie.Need-returns Inv-loop μ-loop
 returns c = let S = c .before .before .before .before .before in

@@ -24,16 +24,26 @@ array-share-prefix-ids : tie.Need-array-share-prefix-ids
 array-share-prefix-ids c = omega (arith, c .before .list .ensures .0, members-most (c .before .before .before .before .before .args .set .now), c .before .list .kept)
 
 slice-aggregate-words-answer : tie.Need-slice-aggregate-words-answer
-slice-aggregate-words-answer c = front-length _ _ (omega (arith, c .before .before .list .ensures .0, members-most (c .before .before .before .before .before .before .args .set .now), c .before .before .list .kept))
+slice-aggregate-words-answer c =
+    let at-list = c .before .before in
+    let start = at-list .before .before .before .before in
+    front-length _ _ (omega (arith, at-list .list .ensures .0, members-most (start .args .set .now), at-list .list .kept))
 
 words-answer-requires : tie.Need-words-answer-requires
-words-answer-requires c κs = omega (arith, ap length (front-members (c .before .before .before .before .before .before .before .args .set .now) (replicate 512 0) (c .before .before .before .list .ensures .0) (c .before .before .before .list .ensures .1)), members-most (c .before .before .before .before .before .before .before .args .set .now))
+words-answer-requires c κs =
+    let at-list = c .before .before .before in
+    let start = at-list .before .before .before .before in
+    omega (arith, ap length (front-members (start .args .set .now) (replicate 512 0) (at-list .list .ensures .0) (at-list .list .ensures .1)), members-most (start .args .set .now))
 
 same-length : tie.Need-same-length
 same-length c = search needs
 
 returns : tie.Need-returns
-returns c = c .before .before .words-answer .ensures ∙ ap (λ (l : List ℕ). answered (bind l bytesOf) (c .before .before .before .before .before .before .before .before .before .before .args .out .now)) (front-members (c .before .before .before .before .before .before .before .before .before .before .args .set .now) (replicate 512 0) (c .before .before .before .before .before .before .list .ensures .0) (c .before .before .before .before .before .before .list .ensures .1))
+returns c =
+    let at-words-answer = c .before .before in
+    let at-list = at-words-answer .before .before .before .before in
+    let start = at-list .before .before .before .before in
+    at-words-answer .words-answer .ensures ∙ ap (λ (l : List ℕ). answered (bind l bytesOf) (start .args .out .now)) (front-members (start .args .set .now) (replicate 512 0) (at-list .list .ensures .0) (at-list .list .ensures .1))
 
 pub set-answer-spec : {M : Type 1} → statement M
 set-answer-spec =

@@ -26,13 +26,17 @@ abbrev μ-loop : tie.MeasureT-loop
 μ-loop words moved exits₀ outputs row grew₀ k₀ exits grew k = length moved - k
 
 block-outputs-requires : tie.Need-block-outputs-requires Inv-loop μ-loop
-block-outputs-requires c κs = (c .before .before .before .pre .0 .sized, (c .before .before .before .pre .0 .in-range, c .before .before .before .pre .1 .0 .0))
+block-outputs-requires c κs =
+    let start = c .before .before .before in
+    (start .pre .0 .sized, (start .pre .0 .in-range, start .pre .1 .0 .0))
 
 cast-row : tie.Need-cast-row Inv-loop μ-loop
 cast-row c = search needs
 
 loop-holds : tie.Need-loop-holds Inv-loop μ-loop
-loop-holds c = (omega arith, sends-none (blocks (c .before .before .before .before .before .args .words .now)) (c .before .before .before .before .before .args .exits .now) (λ r i h. and-false (eqb r (c .before .before .before .before .before .args .p .0))))
+loop-holds c =
+    let start = c .before .before .before .before .before in
+    (omega arith, sends-none (blocks (start .args .words .now)) (start .args .exits .now) (λ r i h. and-false (eqb r (start .args .p .0))))
 
 mul-at : tie.Need-mul-at Inv-loop μ-loop
 mul-at c = omega arith
@@ -47,19 +51,25 @@ mul-row-add : tie.Need-mul-row-add Inv-loop μ-loop
 mul-row-add c = omega (arith, c .before .shared-slice-known3 .given (c .before .before .before .loop .k))
 
 shared-slice-read-row-add : tie.Need-shared-slice-read-row-add Inv-loop μ-loop
-shared-slice-read-row-add c = let s = c .before .before .before .before .before .before .before .before .before .before in
-    let k = c .before .before .before .before .loop .k in
-    let i : k < length (s .args .moved .now) = omega arith in
-    omega (arith, s .pre .1 .1 (getD (s .args .moved .now) k 0) (getD-mem (s .args .moved .now) k 0 i), ap length (c .before .before .before .before .before .before .block-outputs .ensures))
+shared-slice-read-row-add c =
+    let at-loop = c .before .before .before .before in
+    let at-block-outputs = at-loop .before .before in
+    let start = at-block-outputs .before .before .before .before in
+    let k = at-loop .loop .k in
+    let i : k < length (start .args .moved .now) = omega arith in
+    omega (arith, start .pre .1 .1 (getD (start .args .moved .now) k 0) (getD-mem (start .args .moved .now) k 0 i), ap length (at-block-outputs .block-outputs .ensures))
 
 row-add-requires : tie.Need-row-add-requires Inv-loop μ-loop
-row-add-requires c κs = let s = c .before .before .before .before .before .before .before .before .before .before in
-    let l = c .before .before .before .before .loop in
-    let i : l .k < length (s .args .moved .now) = omega arith in
-    let at : ℕ = getD (s .args .moved .now) (l .k) 0 in (
-      omega (arith, l .inv .1 .adds .long, s .pre .1 .0, s .pre .0 .sized .blocks-most),
-      output-small (s .pre .0) (s .args .p .0) (s .pre .1 .0 .0) (c .before .before .before .before .before .before .block-outputs .ensures) at
-          (omega (arith, s .pre .1 .1 at (getD-mem (s .args .moved .now) (l .k) 0 i), ap length (c .before .before .before .before .before .before .block-outputs .ensures))),
+row-add-requires c κs =
+    let at-loop = c .before .before .before .before in
+    let at-block-outputs = at-loop .before .before in
+    let start = at-block-outputs .before .before .before .before in
+    let l = at-loop .loop in
+    let i : l .k < length (start .args .moved .now) = omega arith in
+    let at : ℕ = getD (start .args .moved .now) (l .k) 0 in (
+      omega (arith, l .inv .1 .adds .long, start .pre .1 .0, start .pre .0 .sized .blocks-most),
+      output-small (start .pre .0) (start .args .p .0) (start .pre .1 .0 .0) (at-block-outputs .block-outputs .ensures) at
+          (omega (arith, start .pre .1 .1 at (getD-mem (start .args .moved .now) (l .k) 0 i), ap length (at-block-outputs .block-outputs .ensures))),
     )
 
 add-k : tie.Need-add-k Inv-loop μ-loop
@@ -69,19 +79,24 @@ loop-less : tie.Need-loop-less Inv-loop μ-loop
 loop-less c = omega arith
 
 loop-again : tie.Need-loop-again Inv-loop μ-loop
-loop-again c = let s = c .before .before .before .before .before .before .before .before .before .before .before .before .before .before in
-    let l = c .before .before .before .before .before .before .before .before .loop in
-    let p : ℕ = s .args .p .0 in
-    let xs = c .before .before .before .before .before .before .before .before .before .before .block-outputs .result .now in
-    let moved = s .args .moved .now in
+loop-again c =
+    let at-row-add = c .before .before .before in
+    let at-loop = at-row-add .before .before .before .before .before in
+    let at-block-outputs = at-loop .before .before in
+    let start = at-block-outputs .before .before .before .before in
+    let in-range = start .pre .1 .0 .0 in
+    let l = at-loop .loop in
+    let p : ℕ = start .args .p .0 in
+    let xs = at-block-outputs .block-outputs .result .now in
+    let moved = start .args .moved .now in
     let i : l .k < length moved = omega arith in
     let at : ℕ = getD moved (l .k) 0 in
     let small : getD xs at 0 < 512 =
-    output-small (s .pre .0) p (s .pre .1 .0 .0) (c .before .before .before .before .before .before .before .before .before .before .block-outputs .ensures) at (omega (arith, s .pre .1 .1 at (getD-mem moved (l .k) 0 i), ap length (c .before .before .before .before .before .before .before .before .before .before .block-outputs .ensures))) in
-    let long : 8 * blocks (s .args .words .now) ≤ length (s .args .exits .now) = omega (arith, s .pre .1 .0, s .pre .0 .sized .blocks-most) in
-    let r = c .before .before .before .row-add in
-    let one : Sends (blocks (s .args .words .now)) (l .exits) (λ q v. eqb q p && eqb v (getD xs at 0)) (r .last .0) (r .result) =
-    sends-one (blocks (s .args .words .now)) (l .exits) p (s .pre .1 .0 .0) (omega (arith, l .inv .1 .adds .long)) (getD xs at 0) small (r .ensures .0) (r .ensures .1) in
+    output-small (start .pre .0) p in-range (at-block-outputs .block-outputs .ensures) at (omega (arith, start .pre .1 .1 at (getD-mem moved (l .k) 0 i), ap length (at-block-outputs .block-outputs .ensures))) in
+    let long : 8 * blocks (start .args .words .now) ≤ length (start .args .exits .now) = omega (arith, start .pre .1 .0, start .pre .0 .sized .blocks-most) in
+    let r = at-row-add .row-add in
+    let one : Sends (blocks (start .args .words .now)) (l .exits) (λ q v. eqb q p && eqb v (getD xs at 0)) (r .last .0) (r .result) =
+    sends-one (blocks (start .args .words .now)) (l .exits) p in-range (omega (arith, l .inv .1 .adds .long)) (getD xs at 0) small (r .ensures .0) (r .ensures .1) in
     let told : c .if1 .grew ≡ (l .grew || r .result) = ⊎-elim (λ x. told-set (l .grew) (x .0 .taken) (x .1)) (λ x. told-kept (l .grew) (x .0 .left) (x .1)) (c .if1 .came) in (
       omega arith,
       sends-as
@@ -93,13 +108,15 @@ same-length : tie.Need-same-length Inv-loop μ-loop
 same-length c = c .before .loop .inv .1 .adds .long
 
 returns : tie.Need-returns Inv-loop μ-loop
-returns c = let s = c .before .before .before .before .before .before .before in
+returns c =
+    let at-block-outputs = c .before .before .before in
+    let start = at-block-outputs .before .before .before .before in
     let l = c .before .loop in
-    let p : ℕ = s .args .p .0 in
-    let xs = c .before .before .before .block-outputs .result .now in
-    let moved = s .args .moved .now in
+    let p : ℕ = start .args .p .0 in
+    let xs = at-block-outputs .block-outputs .result .now in
+    let moved = start .args .moved .now in
     let e : take (l .k) moved ≡ moved = take-all (l .k) moved (omega arith) in
-    sends-as (λ q v h. ap (λ (ms : List ℕ). eqb q p && mem v (map (λ j. getD xs j 0) ms)) e ∙ ap (λ (ys : List ℕ). eqb q p && mem v (map (λ j. getD ys j 0) moved)) (c .before .before .before .block-outputs .ensures)) (l .inv .1)
+    sends-as (λ q v h. ap (λ (ms : List ℕ). eqb q p && mem v (map (λ j. getD xs j 0) ms)) e ∙ ap (λ (ys : List ℕ). eqb q p && mem v (map (λ j. getD ys j 0) moved)) (at-block-outputs .block-outputs .ensures)) (l .inv .1)
 
 pub send-moved-spec : {M : Type 1} → statement M
 send-moved-spec =

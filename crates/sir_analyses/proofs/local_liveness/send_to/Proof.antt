@@ -18,34 +18,55 @@ cast-row-union-with : tie.Need-cast-row-union-with
 cast-row-union-with c = search needs
 
 row-union-with-requires : tie.Need-row-union-with-requires
-row-union-with-requires c κs = (omega (arith, c .before .before .before .before .before .before .pre .1 .0, c .before .before .before .before .before .before .pre .0 .sized .blocks-most), c .before .before .before .before .before .before .pre .1 .0 .1)
+row-union-with-requires c κs =
+    let at-shared-slice-known = c .before .before .before .before .before in
+    let start = at-shared-slice-known .before in
+    (omega (arith, start .pre .1 .0, start .pre .0 .sized .blocks-most), start .pre .1 .0 .1)
 
 send-moved-requires : tie.Need-send-moved-requires
-send-moved-requires c κs = (c .before .before .before .before .before .before .before .before .before .before .pre .0, ((c .before .before .before .before .before .before .before .before .before .before .pre .1 .0 .0, omega (arith, c .before .before .before .row-union-with .kept, c .before .before .before .before .before .before .before .before .before .before .pre .1 .0)), c .before .before .before .before .before .before .before .before .before .before .pre .1 .1))
+send-moved-requires c κs =
+    let at-row-union-with = c .before .before .before in
+    let at-shared-slice-known2 = at-row-union-with .before .before .before .before .before in
+    let start = at-shared-slice-known2 .before .before in
+    (start .pre .0, ((start .pre .1 .0 .0, omega (arith, at-row-union-with .row-union-with .kept, start .pre .1 .0)), start .pre .1 .1))
 
 same-length : tie.Need-same-length
-same-length c = omega (arith, c .before .before .before .before .before .before .before .row-union-with .kept, c .before .before .before .send-moved .kept)
+same-length c =
+    let at-send-moved = c .before .before .before in
+    let at-row-union-with = at-send-moved .before .before .before .before in
+    omega (arith, at-row-union-with .row-union-with .kept, at-send-moved .send-moved .kept)
 
 returns : tie.Need-returns
-returns c = let s = c .before .before .before .before .before .before .before .before .before .before .before .before .before .before in
-    let w = s .args .words .now in
-    let p : ℕ = s .args .p .0 in
-    let long : 8 * blocks w ≤ length (s .args .exits .now) = omega (arith, s .pre .1 .0, s .pre .0 .sized .blocks-most) in
-    let u = c .before .before .before .before .before .before .before .row-union-with in
-    sends-as (λ q v h. sym (and-or-distrib-left (eqb q p) (contains (s .args .set .now) v) (mem v (outputsAt w p (s .args .moved .now)))))
-    (sends-then long (sends-union (blocks w) (s .args .exits .now) p (s .pre .1 .0 .0) long (s .args .set .now) (u .ensures .0) (u .ensures .1)) (c .before .before .before .send-moved .ensures) (told-set (u .result) (c .if1 .taken) refl))
+returns c =
+    let at-send-moved = c .before .before .before in
+    let at-row-union-with = at-send-moved .before .before .before .before in
+    let at-shared-slice-known2 = at-row-union-with .before .before .before .before .before in
+    let start = at-shared-slice-known2 .before .before in
+    let w = start .args .words .now in
+    let p : ℕ = start .args .p .0 in
+    let long : 8 * blocks w ≤ length (start .args .exits .now) = omega (arith, start .pre .1 .0, start .pre .0 .sized .blocks-most) in
+    let u = at-row-union-with .row-union-with in
+    sends-as (λ q v h. sym (and-or-distrib-left (eqb q p) (contains (start .args .set .now) v) (mem v (outputsAt w p (start .args .moved .now)))))
+    (sends-then long (sends-union (blocks w) (start .args .exits .now) p (start .pre .1 .0 .0) long (start .args .set .now) (u .ensures .0) (u .ensures .1)) (at-send-moved .send-moved .ensures) (told-set (u .result) (c .if1 .taken) refl))
 
 same-length-2 : tie.Need-same-length-2
-same-length-2 c = omega (arith, c .before .before .before .before .before .before .before .row-union-with .kept, c .before .before .before .send-moved .kept)
+same-length-2 c =
+    let at-send-moved = c .before .before .before in
+    let at-row-union-with = at-send-moved .before .before .before .before in
+    omega (arith, at-row-union-with .row-union-with .kept, at-send-moved .send-moved .kept)
 
 returns-2 : tie.Need-returns-2
-returns-2 c = let s = c .before .before .before .before .before .before .before .before .before .before .before .before .before .before in
-    let w = s .args .words .now in
-    let p : ℕ = s .args .p .0 in
-    let long : 8 * blocks w ≤ length (s .args .exits .now) = omega (arith, s .pre .1 .0, s .pre .0 .sized .blocks-most) in
-    let u = c .before .before .before .before .before .before .before .row-union-with in
-    sends-as (λ q v h. sym (and-or-distrib-left (eqb q p) (contains (s .args .set .now) v) (mem v (outputsAt w p (s .args .moved .now)))))
-    (sends-then long (sends-union (blocks w) (s .args .exits .now) p (s .pre .1 .0 .0) long (s .args .set .now) (u .ensures .0) (u .ensures .1)) (c .before .before .before .send-moved .ensures) (told-kept (u .result) (c .if1 .left) refl))
+returns-2 c =
+    let at-send-moved = c .before .before .before in
+    let at-row-union-with = at-send-moved .before .before .before .before in
+    let at-shared-slice-known2 = at-row-union-with .before .before .before .before .before in
+    let start = at-shared-slice-known2 .before .before in
+    let w = start .args .words .now in
+    let p : ℕ = start .args .p .0 in
+    let long : 8 * blocks w ≤ length (start .args .exits .now) = omega (arith, start .pre .1 .0, start .pre .0 .sized .blocks-most) in
+    let u = at-row-union-with .row-union-with in
+    sends-as (λ q v h. sym (and-or-distrib-left (eqb q p) (contains (start .args .set .now) v) (mem v (outputsAt w p (start .args .moved .now)))))
+    (sends-then long (sends-union (blocks w) (start .args .exits .now) p (start .pre .1 .0 .0) long (start .args .set .now) (u .ensures .0) (u .ensures .1)) (at-send-moved .send-moved .ensures) (told-kept (u .result) (c .if1 .left) refl))
 
 pub send-to-spec : {M : Type 1} → statement M
 send-to-spec =

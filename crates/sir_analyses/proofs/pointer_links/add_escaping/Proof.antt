@@ -21,17 +21,23 @@ abbrev μ-loop : tie.MeasureT-loop
 μ-loop words escaping₀ code inputs k₀ escaping k = length inputs - k
 
 op-word-requires : tie.Need-op-word-requires Inv-loop μ-loop
-op-word-requires c κs = let s = c .before .before in (s .pre .0 .sized, (s .pre .1 .0, omega arith))
+op-word-requires c κs =
+    let start = c .before .before in
+    (start .pre .0 .sized, (start .pre .1 .0, omega arith))
 
 op-inputs-requires : tie.Need-op-inputs-requires Inv-loop μ-loop
-op-inputs-requires c κs = let s = c .before .before .before in (s .pre .0 .sized, (s .pre .0 .in-range, s .pre .1 .0))
+op-inputs-requires c κs =
+    let start = c .before .before .before in
+    (start .pre .0 .sized, (start .pre .0 .in-range, start .pre .1 .0))
 
 loop-holds : tie.Need-loop-holds Inv-loop μ-loop
 loop-holds c = (omega arith, adds-none (λ r v h. refl))
 
 operation-causes-ptr-escape-requires : tie.Need-operation-causes-ptr-escape-requires Inv-loop μ-loop
-operation-causes-ptr-escape-requires c κs = let s = c .before .before .before .before .before .before in
-    omega (arith, s .pre .0 .in-range .code-most (s .args .o .0) (s .pre .1 .0), c .before .before .before .op-word .ensures)
+operation-causes-ptr-escape-requires c κs =
+    let at-op-word = c .before .before .before in
+    let start = at-op-word .before .before .before in
+    omega (arith, start .pre .0 .in-range .code-most (start .args .o .0) (start .pre .1 .0), at-op-word .op-word .ensures)
 
 mul-row-add : tie.Need-mul-row-add Inv-loop μ-loop
 mul-row-add c = omega arith
@@ -40,9 +46,13 @@ shared-slice-read-row-add : tie.Need-shared-slice-read-row-add Inv-loop μ-loop
 shared-slice-read-row-add c = omega arith
 
 row-add-requires : tie.Need-row-add-requires Inv-loop μ-loop
-row-add-requires c κs = let s = c .before .before .before .before .before .before .before .before .before .before in
-    let l = c .before .before .before .before .before .loop in
-    (omega (arith, l .inv .1 .long), read-places (s .pre .0) (s .args .o .0) (l .k) (c .before .before .before .before .before .before .op-inputs .ensures) (s .pre .1 .0) (c .before .before .before .before .loop-test .taken))
+row-add-requires c κs =
+    let at-loop-test = c .before .before .before .before in
+    let at-loop = at-loop-test .before in
+    let at-op-inputs = at-loop .before in
+    let start = at-op-inputs .before .before .before .before in
+    let l = at-loop .loop in
+    (omega (arith, l .inv .1 .long), read-places (start .pre .0) (start .args .o .0) (l .k) (at-op-inputs .op-inputs .ensures) (start .pre .1 .0) (at-loop-test .loop-test .taken))
 
 add-k : tie.Need-add-k Inv-loop μ-loop
 add-k c = omega arith
@@ -51,12 +61,16 @@ loop-less : tie.Need-loop-less Inv-loop μ-loop
 loop-less c = omega arith
 
 loop-again : tie.Need-loop-again Inv-loop μ-loop
-loop-again c = let s = c .before .before .before .before .before .before .before .before in
-    let l = c .before .before .before .loop in
-    let code = c .before .before .before .before .before .op-word .result in
-    let xs = c .before .before .before .before .op-inputs .result .now in
+loop-again c =
+    let at-loop = c .before .before .before in
+    let at-op-inputs = at-loop .before in
+    let at-op-word = at-op-inputs .before in
+    let start = at-op-word .before .before .before in
+    let l = at-loop .loop in
+    let code = at-op-word .op-word .result in
+    let xs = at-op-inputs .op-inputs .result .now in
     let e = c .before .operation-causes-ptr-escape .ensures in
-    let h = read-places (s .pre .0) (s .args .o .0) (l .k) (c .before .before .before .before .op-inputs .ensures) (s .pre .1 .0) (c .before .before .loop-test .taken) in
+    let h = read-places (start .pre .0) (start .args .o .0) (l .k) (at-op-inputs .op-inputs .ensures) (start .pre .1 .0) (c .before .before .loop-test .taken) in
     let a : Adds (l .escaping) (escapingAt code xs (l .k)) (c .if1 .escaping) =
     ⊎-elim
     (λ x. let t : escaping code (l .k) ≡ true = sym e ∙ x .0 .taken in rw (x .6, x .3 .ensures .1) (adds-as (λ r v i. rw t) (adds-one (l .escaping) 0 (getD xs (l .k) 0) h)))
@@ -68,12 +82,15 @@ same-length : tie.Need-same-length Inv-loop μ-loop
 same-length c = c .before .loop .inv .1 .long
 
 returns : tie.Need-returns Inv-loop μ-loop
-returns c = let s = c .before .before .before .before .before .before in
+returns c =
+    let at-op-inputs = c .before .before in
+    let at-op-word = at-op-inputs .before in
+    let start = at-op-word .before .before .before in
     let l = c .before .loop in
-    let w = s .args .words .now in
-    let o = s .args .o .0 in
-    let e : l .k ≡ length (c .before .before .op-inputs .result .now) = omega arith in
-    adds-as (λ r v h. escapingAt-all (code w o) (ins w o) r v) (rw (e, c .before .before .before .op-word .ensures, c .before .before .op-inputs .ensures) at (l .inv .1))
+    let w = start .args .words .now in
+    let o = start .args .o .0 in
+    let e : l .k ≡ length (at-op-inputs .op-inputs .result .now) = omega arith in
+    adds-as (λ r v h. escapingAt-all (code w o) (ins w o) r v) (rw (e, at-op-word .op-word .ensures, at-op-inputs .op-inputs .ensures) at (l .inv .1))
 
 pub add-escaping-spec : {M : Type 1} → statement M
 add-escaping-spec =

@@ -27,15 +27,19 @@ loop-holds : tie.Need-loop-holds Inv-loop μ-loop
 loop-holds c = (omega arith, adds-none (λ v u h. refl))
 
 successor-requires : tie.Need-successor-requires Inv-loop μ-loop
-successor-requires c κs = let s = c .before .before .before .before .before in
-    (s .pre .0 .sized, (s .pre .0 .in-range, (s .pre .1 .0, omega (arith, c .before .before .successor-count .ensures))))
+successor-requires c κs =
+    let start = c .before .before .before .before .before in
+    (start .pre .0 .sized, (start .pre .0 .in-range, (start .pre .1 .0, omega (arith, c .before .before .successor-count .ensures))))
 
 link-edge-requires : tie.Need-link-edge-requires Inv-loop μ-loop
-link-edge-requires c κs = let s = c .before .before .before .before .before .before .before in
-    let l = c .before .before .before .loop in
-    let ss = successors (s .args .words .now) (s .args .b .0) in
-    let i : l .i < length ss = omega (arith, c .before .before .before .before .successor-count .ensures) in
-    (s .pre .0, (s .pre .1 .0, rw (c .before .successor .ensures) (getD-mem ss (l .i) 0 i), l .inv .1 .long ∙ s .pre .1 .1))
+link-edge-requires c κs =
+    let at-loop = c .before .before .before in
+    let at-successor-count = at-loop .before in
+    let start = at-successor-count .before .before .before in
+    let l = at-loop .loop in
+    let ss = successors (start .args .words .now) (start .args .b .0) in
+    let i : l .i < length ss = omega (arith, at-successor-count .successor-count .ensures) in
+    (start .pre .0, (start .pre .1 .0, rw (c .before .successor .ensures) (getD-mem ss (l .i) 0 i), l .inv .1 .long ∙ start .pre .1 .1))
 
 add-i : tie.Need-add-i Inv-loop μ-loop
 add-i c = omega arith
@@ -44,21 +48,26 @@ loop-less : tie.Need-loop-less Inv-loop μ-loop
 loop-less c = omega arith
 
 loop-again : tie.Need-loop-again Inv-loop μ-loop
-loop-again c = let s = c .before .before .before .before .before .before .before .before .before .before in
-    let l = c .before .before .before .before .before .before .loop in
-    let w = s .args .words .now in
-    let b = s .args .b .0 in
-    let i : l .i < length (successors w b) = omega (arith, c .before .before .before .before .before .before .before .successor-count .ensures) in
-    (omega arith, adds-listed (λ t v u. passesBy w b t v u) (successors w b) (l .i) i (l .inv .1) (rw (c .before .before .before .before .successor .ensures) at (c .before .before .link-edge .ensures)))
+loop-again c =
+    let at-successor = c .before .before .before .before in
+    let at-loop = at-successor .before .before in
+    let at-successor-count = at-loop .before in
+    let start = at-successor-count .before .before .before in
+    let l = at-loop .loop in
+    let w = start .args .words .now in
+    let b = start .args .b .0 in
+    let i : l .i < length (successors w b) = omega (arith, at-successor-count .successor-count .ensures) in
+    (omega arith, adds-listed (λ t v u. passesBy w b t v u) (successors w b) (l .i) i (l .inv .1) (rw (at-successor .successor .ensures) at (c .before .before .link-edge .ensures)))
 
 same-length : tie.Need-same-length Inv-loop μ-loop
 same-length c = c .before .loop .inv .1 .long
 
 returns : tie.Need-returns Inv-loop μ-loop
-returns c = let s = c .before .before .before .before .before in
+returns c =
+    let start = c .before .before .before .before .before in
     let l = c .before .loop in
-    let w = s .args .words .now in
-    let b = s .args .b .0 in
+    let w = start .args .words .now in
+    let b = start .args .b .0 in
     let e : length (successors w b) ≤ l .i = omega (arith, c .before .before .successor-count .ensures) in
     adds-all (λ t v u. passesBy w b t v u) (successors w b) (l .i) e (l .inv .1)
 

@@ -24,22 +24,31 @@ abbrev μ-loop : tie.MeasureT-loop
 μ-loop words links₀ inputs outputs k₀ links k = length inputs - k
 
 op-word-requires : tie.Need-op-word-requires Inv-loop μ-loop
-op-word-requires c κs = let s = c .before .before in (s .pre .0 .sized, (s .pre .1 .0, omega arith))
+op-word-requires c κs =
+    let start = c .before .before in
+    (start .pre .0 .sized, (start .pre .1 .0, omega arith))
 
 can-derive-pointer-requires : tie.Need-can-derive-pointer-requires Inv-loop μ-loop
-can-derive-pointer-requires c κs = let s = c .before .before .before in
-    omega (arith, s .pre .0 .in-range .code-most (s .args .o .0) (s .pre .1 .0), c .op-word .ensures)
+can-derive-pointer-requires c κs =
+    let start = c .before .before .before in
+    omega (arith, start .pre .0 .in-range .code-most (start .args .o .0) (start .pre .1 .0), c .op-word .ensures)
 
 returns : tie.Need-returns Inv-loop μ-loop
-returns c = let s = c .before .before .before .before .before in
-    let t : derives (code (s .args .words .now) (s .args .o .0)) ≡ false = ap derives (sym (c .before .before .op-word .ensures)) ∙ sym (c .before .can-derive-pointer .ensures) ∙ not-true _ (c .if1 .taken) in
+returns c =
+    let start = c .before .before .before .before .before in
+    let t : derives (code (start .args .words .now) (start .args .o .0)) ≡ false = ap derives (sym (c .before .before .op-word .ensures)) ∙ sym (c .before .can-derive-pointer .ensures) ∙ not-true _ (c .if1 .taken) in
     adds-none (λ v u h. rw t)
 
 op-inputs-requires : tie.Need-op-inputs-requires Inv-loop μ-loop
-op-inputs-requires c κs = let s = c .before .before .before .before .before in (s .pre .0 .sized, (s .pre .0 .in-range, s .pre .1 .0))
+op-inputs-requires c κs =
+    let start = c .before .before .before .before .before in
+    (start .pre .0 .sized, (start .pre .0 .in-range, start .pre .1 .0))
 
 op-outputs-requires : tie.Need-op-outputs-requires Inv-loop μ-loop
-op-outputs-requires c κs = let s = c .before .before .before .before .before .before in (s .pre .0 .sized, (s .pre .0 .in-range, s .pre .1 .0))
+op-outputs-requires c κs =
+    let at-shared-slice-known = c .before .before .before .before .before in
+    let start = at-shared-slice-known .before in
+    (start .pre .0 .sized, (start .pre .0 .in-range, start .pre .1 .0))
 
 loop-holds : tie.Need-loop-holds Inv-loop μ-loop
 loop-holds c = (omega arith, adds-none (λ v u h. and-false (mem u (c .op-outputs .result .now))))
@@ -54,10 +63,16 @@ cast-add-run : tie.Need-cast-add-run Inv-loop μ-loop
 cast-add-run c = omega (arith, c .shared-slice-known2 .given (c .before .before .before .loop .k))
 
 add-run-requires : tie.Need-add-run-requires Inv-loop μ-loop
-add-run-requires c κs = let s = c .before .before .before .before .before .before .before .before .before .before .before in
-    let l = c .before .before .before .loop in
-    let h = read-places (s .pre .0) (s .args .o .0) (l .k) (c .before .before .before .before .before .op-inputs .ensures) (s .pre .1 .0) (c .before .before .loop-test .taken) in
-    (omega (arith, l .inv .1 .long, h), λ v m. small (s .pre .0) (s .pre .0 .in-range .written (s .args .o .0) v (s .pre .1 .0) (rw (c .before .before .before .before .op-outputs .ensures) at m)))
+add-run-requires c κs =
+    let at-loop = c .before .before .before in
+    let at-op-outputs = at-loop .before in
+    let at-op-inputs = at-op-outputs .before in
+    let at-shared-slice-known = at-op-inputs .before .before .before .before .before in
+    let start = at-shared-slice-known .before in
+    let in-range = start .pre .1 .0 in
+    let l = at-loop .loop in
+    let h = read-places (start .pre .0) (start .args .o .0) (l .k) (at-op-inputs .op-inputs .ensures) in-range (c .before .before .loop-test .taken) in
+    (omega (arith, l .inv .1 .long, h), λ v m. small (start .pre .0) (start .pre .0 .in-range .written (start .args .o .0) v in-range (rw (at-op-outputs .op-outputs .ensures) at m)))
 
 add-k : tie.Need-add-k Inv-loop μ-loop
 add-k c = omega arith
@@ -66,25 +81,37 @@ loop-less : tie.Need-loop-less Inv-loop μ-loop
 loop-less c = omega arith
 
 loop-again : tie.Need-loop-again Inv-loop μ-loop
-loop-again c = let l = c .before .before .before .before .before .before .loop in
-    let xs = c .before .before .before .before .before .before .before .before .op-inputs .result .now in
-    let ys = c .before .before .before .before .before .before .before .op-outputs .result .now in
-    let a : Adds (l .links) (λ v u. mem u ys && eqb v (getD xs (l .k) 0)) (c .before .before .add-run .last .0) =
-    adds-as (λ v u h. and-comm (eqb v (getD xs (l .k) 0)) (mem u ys)) (c .before .before .add-run .ensures) in
-    (omega arith, adds-as (λ v u h. and-next (mem u ys) xs (l .k) (c .before .before .before .before .before .loop-test .taken) v) (adds-then (l .inv .1) a))
+loop-again c =
+    let at-add-run = c .before .before in
+    let at-loop-test = at-add-run .before .before .before in
+    let at-loop = at-loop-test .before in
+    let at-op-outputs = at-loop .before in
+    let at-op-inputs = at-op-outputs .before in
+    let l = at-loop .loop in
+    let xs = at-op-inputs .op-inputs .result .now in
+    let ys = at-op-outputs .op-outputs .result .now in
+    let a : Adds (l .links) (λ v u. mem u ys && eqb v (getD xs (l .k) 0)) (at-add-run .add-run .last .0) =
+    adds-as (λ v u h. and-comm (eqb v (getD xs (l .k) 0)) (mem u ys)) (at-add-run .add-run .ensures) in
+    (omega arith, adds-as (λ v u h. and-next (mem u ys) xs (l .k) (at-loop-test .loop-test .taken) v) (adds-then (l .inv .1) a))
 
 same-length : tie.Need-same-length Inv-loop μ-loop
 same-length c = c .before .loop .inv .1 .long
 
 returns-2 : tie.Need-returns-2 Inv-loop μ-loop
-returns-2 c = let s = c .before .before .before .before .before .before .before .before .before in
+returns-2 c =
+    let at-op-outputs = c .before .before in
+    let at-op-inputs = at-op-outputs .before in
+    let at-if1 = at-op-inputs .before in
+    let at-can-derive-pointer = at-if1 .before in
+    let at-op-word = at-can-derive-pointer .before in
+    let start = at-op-word .before .before .before in
     let l = c .before .loop in
-    let xs = c .before .before .before .op-inputs .result .now in
-    let ys = c .before .before .op-outputs .result .now in
-    let t : derives (code (s .args .words .now) (s .args .o .0)) ≡ true = ap derives (sym (c .before .before .before .before .before .before .op-word .ensures)) ∙ sym (c .before .before .before .before .before .can-derive-pointer .ensures) ∙ not-false _ (c .before .before .before .before .if1 .left) in
-    let a : Adds (s .args .links .now) (λ v u. mem v xs && mem u ys) (l .links) =
+    let xs = at-op-inputs .op-inputs .result .now in
+    let ys = at-op-outputs .op-outputs .result .now in
+    let t : derives (code (start .args .words .now) (start .args .o .0)) ≡ true = ap derives (sym (at-op-word .op-word .ensures)) ∙ sym (at-can-derive-pointer .can-derive-pointer .ensures) ∙ not-false _ (at-if1 .if1 .left) in
+    let a : Adds (start .args .links .now) (λ v u. mem v xs && mem u ys) (l .links) =
     adds-as (λ v u h. and-all (mem u ys) xs (l .k) (c .loop-test .left) v ∙ and-comm (mem u ys) (mem v xs)) (l .inv .1) in
-    adds-as (λ v u h. rw t) (rw (c .before .before .before .op-inputs .ensures, c .before .before .op-outputs .ensures) at a)
+    adds-as (λ v u h. rw t) (rw (at-op-inputs .op-inputs .ensures, at-op-outputs .op-outputs .ensures) at a)
 
 pub link-operation-spec : {M : Type 1} → statement M
 link-operation-spec =

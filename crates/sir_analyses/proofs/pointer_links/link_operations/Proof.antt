@@ -33,17 +33,22 @@ cast-row-contains : tie.Need-cast-row-contains Inv-loop μ-loop
 cast-row-contains c = omega arith
 
 row-contains-requires : tie.Need-row-contains-requires Inv-loop μ-loop
-row-contains-requires c κs = let s = c .before .before .before .before .before .before .before in
-    (omega (arith, s .pre .1 .0 .0, s .pre .0 .sized .operations-most, c .before .before .operation-count .ensures), omega arith)
+row-contains-requires c κs =
+    let at-operation-count = c .before .before in
+    let start = at-operation-count .before .before .before .before .before in
+    (omega (arith, start .pre .1 .0 .0, start .pre .0 .sized .operations-most, at-operation-count .operation-count .ensures), omega arith)
 
 link-operation-requires : tie.Need-link-operation-requires Inv-loop μ-loop
-link-operation-requires c κs = let s = c .before .before .before .before .before .before .before .before .before .before in
-    (s .pre .0, (omega (arith, c .before .before .before .before .before .operation-count .ensures), c .before .before .before .before .loop .inv .1 .long ∙ s .pre .1 .1 .0))
+link-operation-requires c κs =
+    let at-loop = c .before .before .before .before in
+    let at-operation-count = at-loop .before in
+    let start = at-operation-count .before .before .before .before .before in
+    (start .pre .0, (omega (arith, at-operation-count .operation-count .ensures), at-loop .loop .inv .1 .long ∙ start .pre .1 .1 .0))
 
 add-escaping-requires : tie.Need-add-escaping-requires Inv-loop μ-loop
 add-escaping-requires c κs =
-    let at-link-operation = c .before .before .before .before in
-    let at-loop = at-link-operation .before .before .before .before in
+    let at-link-operation-arg = c .before .before .before .before in
+    let at-loop = at-link-operation-arg .before .before .before .before in
     let at-operation-count = at-loop .before in
     let start = at-operation-count .before .before .before .before .before in
     (start .pre .0, (omega (arith, at-operation-count .operation-count .ensures), at-loop .loop .inv .2 .long ∙ start .pre .1 .1 .1))
@@ -55,12 +60,16 @@ loop-less : tie.Need-loop-less Inv-loop μ-loop
 loop-less c = omega arith
 
 loop-again : tie.Need-loop-again Inv-loop μ-loop
-loop-again c = let s = c .before .before .before .before .before .before .before .before .before in
-    let l = c .before .before .before .loop in
-    let w = s .args .words .now in
+loop-again c =
+    let at-row-contains = c .before in
+    let at-loop = at-row-contains .before .before in
+    let at-operation-count = at-loop .before in
+    let start = at-operation-count .before .before .before .before .before in
+    let l = at-loop .loop in
+    let w = start .args .words .now in
     let n : 512 * (l .o / 512) + l .o % 512 ≡ l .o = omega arith in
-    let h : l .o < 1024 = omega (arith, s .pre .0 .sized .operations-most, c .before .before .before .before .operation-count .ensures) in
-    let seen : c .before .row-contains .result ≡ isVisitedOp w (l .o) = c .before .row-contains .ensures ∙ ap (contains (s .args .visited .now)) n ∙ s .pre .1 .0 .1 (l .o) h in
+    let h : l .o < 1024 = omega (arith, start .pre .0 .sized .operations-most, at-operation-count .operation-count .ensures) in
+    let seen : at-row-contains .row-contains .result ≡ isVisitedOp w (l .o) = at-row-contains .row-contains .ensures ∙ ap (contains (start .args .visited .now)) n ∙ start .pre .1 .0 .1 (l .o) h in
     let a : Adds (l .links) (λ v u. isVisitedOp w (l .o) && derivesBy w (l .o) v u) (c .if1 .links) =
     ⊎-elim
     (λ x. rw (x .9) (adds-as (λ v u i. rw (sym seen ∙ x .0 .taken)) (x .2 .ensures)))
@@ -80,9 +89,11 @@ same-length-2 : tie.Need-same-length-2 Inv-loop μ-loop
 same-length-2 c = c .before .loop .inv .2 .long
 
 returns : tie.Need-returns Inv-loop μ-loop
-returns c = let s = c .before .before .before .before .before .before .before in
+returns c =
+    let at-operation-count = c .before .before in
+    let start = at-operation-count .before .before .before .before .before in
     let l = c .before .loop in
-    let e : l .o ≡ operations (s .args .words .now) = omega (arith, c .before .before .operation-count .ensures) in
+    let e : l .o ≡ operations (start .args .words .now) = omega (arith, at-operation-count .operation-count .ensures) in
     (rw e at (l .inv .1), rw e at (l .inv .2))
 
 pub link-operations-spec : {M : Type 1} → statement M

@@ -35,13 +35,22 @@ mul-out-2 : tie.Need-mul-out-2
 mul-out-2 c = search needs
 
 slice-write-out-2 : tie.Need-slice-write-out-2
-slice-write-out-2 c = omega (arith, c .before .before .function-blocks .ensures .long, length-set (c .before .before .before .before .before .before .args .out .now) (c .before .before .before .before .before .before .args .at) (c .before .before .before .before .before .before .args .f .0), c .before .before .before .before .before .before .pre .1)
+slice-write-out-2 c =
+    let at-function-blocks = c .before .before in
+    let start = at-function-blocks .before .before .before .before in
+    omega (arith, at-function-blocks .function-blocks .ensures .long, length-set (start .args .out .now) (start .args .at) (start .args .f .0), start .pre .1)
 
 same-length : tie.Need-same-length
-same-length c = simp length-set (c .before .before .function-blocks .ensures .long ∙ length-set (c .before .before .before .before .before .before .args .out .now) (c .before .before .before .before .before .before .args .at) (c .before .before .before .before .before .before .args .f .0))
+same-length c =
+    let at-function-blocks = c .before .before in
+    let start = at-function-blocks .before .before .before .before in
+    simp length-set (at-function-blocks .function-blocks .ensures .long ∙ length-set (start .args .out .now) (start .args .at) (start .args .f .0))
 
 returns : tie.Need-returns
-returns c = listed-headed (omega (arith, c .before .before .before .before .before .before .pre .1)) (c .before .before .function-blocks .ensures) (omega (arith, c .before .before .function-blocks .ensures .next)) refl
+returns c =
+    let at-function-blocks = c .before .before in
+    let start = at-function-blocks .before .before .before .before in
+    listed-headed (omega (arith, start .pre .1)) (at-function-blocks .function-blocks .ensures) (omega (arith, at-function-blocks .function-blocks .ensures .next)) refl
 
 pub function-entry-spec : {M : Type 1} → statement M
 function-entry-spec =

@@ -20,7 +20,9 @@ abbrev μ-loop : tie.MeasureT-loop
 
 loop-holds : tie.Need-loop-holds Inv-loop μ-loop
 unfolding orderIn
-loop-holds c = (omega arith, listing-as (back-start (functionOf (λ f. entryOf f (c .before .before .args .postorder .now))) (c .before .before .args .postorder .now)) listing-none)
+loop-holds c =
+    let start = c .before .before in
+    (omega arith, listing-as (back-start (functionOf (λ f. entryOf f (start .args .postorder .now))) (start .args .postorder .now)) listing-none)
 
 sub-i : tie.Need-sub-i Inv-loop μ-loop
 sub-i c = omega arith
@@ -32,33 +34,43 @@ shared-slice-read-key : tie.Need-shared-slice-read-key Inv-loop μ-loop
 shared-slice-read-key c = omega arith
 
 function-entry-requires : tie.Need-function-entry-requires Inv-loop μ-loop
-function-entry-requires c κs = let S = c .before .before .before .before .before .before .before in
-    let L = c .before .before .before .before .loop in
-    let ks = S .args .postorder .now in
+function-entry-requires c κs =
+    let at-if1 = c .before in
+    let at-loop-test = at-if1 .before .before in
+    let at-loop = at-loop-test .before in
+    let start = at-loop .before .before .before in
+    let L = at-loop .loop in
+    let ks = start .args .postorder .now in
     let g : ℕ → List ℕ = functionOf (λ f. entryOf f ks) in
     let e : bind (reverse (take (L .i) ks)) g ≡ entryOf (getD ks (L .i - 1) 0) ks ++ bind (reverse (take (L .i - 1) ks)) g =
-    back-next g ks (L .i) (c .before .before .before .loop-test .taken) (L .inv .0) ∙ rw (lt-ltb _ _ (c .before .if1 .taken)) in
-    (c .before .if1 .taken, omega (arith, listing-fits (entryOf (getD ks (L .i - 1) 0) ks) (bind (reverse (take (L .i - 1) ks)) g) (omega (arith, S .pre .0)) (listing-as e (L .inv .1))), omega (arith, S .pre .1, L .inv .1 .long))
+    back-next g ks (L .i) (at-loop-test .loop-test .taken) (L .inv .0) ∙ rw (lt-ltb _ _ (at-if1 .if1 .taken)) in
+    (at-if1 .if1 .taken, omega (arith, listing-fits (entryOf (getD ks (L .i - 1) 0) ks) (bind (reverse (take (L .i - 1) ks)) g) (omega (arith, start .pre .0)) (listing-as e (L .inv .1))), omega (arith, start .pre .1, L .inv .1 .long))
 
 loop-less : tie.Need-loop-less Inv-loop μ-loop
 loop-less c = omega arith
 
 loop-again : tie.Need-loop-again Inv-loop μ-loop
-loop-again c = let S = c .before .before .before .before .before .before .before .before .before .before in
-    let L = c .before .before .before .before .before .before .before .loop in
-    let ks = S .args .postorder .now in
+loop-again c =
+    let at-if1 = c .before .before .before .before in
+    let at-loop-test = at-if1 .before .before in
+    let at-loop = at-loop-test .before in
+    let start = at-loop .before .before .before in
+    let L = at-loop .loop in
+    let ks = start .args .postorder .now in
     let g : ℕ → List ℕ = functionOf (λ f. entryOf f ks) in
     let e : bind (reverse (take (L .i) ks)) g ≡ entryOf (getD ks (L .i - 1) 0) ks ++ bind (reverse (take (L .i - 1) ks)) g =
-    back-next g ks (L .i) (c .before .before .before .before .before .before .loop-test .taken) (L .inv .0) ∙ rw (lt-ltb _ _ (c .before .before .before .before .if1 .taken)) in
+    back-next g ks (L .i) (at-loop-test .loop-test .taken) (L .inv .0) ∙ rw (lt-ltb _ _ (at-if1 .if1 .taken)) in
     (omega arith, listing-more (listing-as e (L .inv .1)) (c .before .before .function-entry .ensures))
 
 loop-less-2 : tie.Need-loop-less-2 Inv-loop μ-loop
 loop-less-2 c = omega arith
 
 loop-again-2 : tie.Need-loop-again-2 Inv-loop μ-loop
-loop-again-2 c = let S = c .before .before .before .before .before .before in
-    let L = c .before .before .before .loop in
-    let ks = S .args .postorder .now in
+loop-again-2 c =
+    let at-loop = c .before .before .before in
+    let start = at-loop .before .before .before in
+    let L = at-loop .loop in
+    let ks = start .args .postorder .now in
     let g : ℕ → List ℕ = functionOf (λ f. entryOf f ks) in
     let e : bind (reverse (take (L .i) ks)) g ≡ bind (reverse (take (L .i - 1) ks)) g =
     back-next g ks (L .i) (c .before .before .loop-test .taken) (L .inv .0) ∙ rw (le-ltb _ _ (c .if1 .left)) in
@@ -68,7 +80,10 @@ same-length : tie.Need-same-length Inv-loop μ-loop
 same-length c = c .before .loop .inv .1 .long
 
 returns : tie.Need-returns Inv-loop μ-loop
-returns c = listing-all (back-end (functionOf (λ f. entryOf f (c .before .before .before .before .args .postorder .now))) (c .before .before .before .before .args .postorder .now) (c .before .loop .i) (c .loop-test .left)) (c .before .loop .inv .1)
+returns c =
+    let at-loop = c .before in
+    let start = at-loop .before .before .before in
+    listing-all (back-end (functionOf (λ f. entryOf f (start .args .postorder .now))) (start .args .postorder .now) (at-loop .loop .i) (c .loop-test .left)) (at-loop .loop .inv .1)
 
 pub order-words-spec : {M : Type 1} → statement M
 order-words-spec =
