@@ -51,8 +51,11 @@ array-borrow-prefix-out : tie.Need-array-borrow-prefix-out
 array-borrow-prefix-out c = search needs
 
 slice-aggregate-is-as-recorded-2 : tie.Need-slice-aggregate-is-as-recorded-2
-slice-aggregate-is-as-recorded-2 c = let got = c .before .before .before .before .before .before .read-part in
-    let out = c .before .before .before .untouched in
+slice-aggregate-is-as-recorded-2 c =
+    let at-untouched = c .before .before .before in
+    let at-read-part = at-untouched .before .before .before in
+    let got = at-read-part .read-part in
+    let out = at-untouched .untouched in
     let fits : got .result ≤ length (out .result) = omega (arith, got .ensures .0, got .kept, out .ensures) in
     sym (length-take-le (got .result) (out .result) fits)
 

@@ -17,32 +17,33 @@ put-named-requires c κs = (omega arith, omega (arith, c .before .before .before
 
 put-intervals-at-requires : tie.Need-put-intervals-at-requires
 put-intervals-at-requires c κs =
-    let b3 = c .before .before .before in
-    let b8 = b3 .before .before .before .before .before in
-    let a = b3 .put-named .ensures in
-    (omega (arith, b8 .pre .0 .0, b8 .pre .0 .1, a .next, a .long, number-short (b8 .args .v) (omega (arith, b8 .fits))), omega arith, b8 .pre .1)
+    let at-put-named = c .before .before .before in
+    let start = at-put-named .before .before .before .before .before in
+    let a = at-put-named .put-named .ensures in
+    (omega (arith, start .pre .0 .0, start .pre .0 .1, a .next, a .long, number-short (start .args .v) (omega (arith, start .fits))), omega arith, start .pre .1)
 
 slice-aggregate-put-text : tie.Need-slice-aggregate-put-text
 slice-aggregate-put-text c = search needs
 
 put-text-requires : tie.Need-put-text-requires
 put-text-requires c κs =
-    let b4 = c .before .before .before .before in
-    let b8 = b4 .before .before .before .before in
-    let b12 = b8 .before .before .before .before in
-    let b13 = b12 .before in
-    let a = b8 .put-named .ensures in
-    let b = b4 .put-intervals-at .ensures in
-    omega (arith, b13 .pre .0 .0, b13 .pre .0 .1, a .next, a .long, b .next, b .long, number-short (b13 .args .v) (omega (arith, b13 .fits)), intervals-short (b13 .args .answer .now) 0 (length (b13 .args .answer .now) / 12) (λ i. omega (arith, b12 .shared-slice-known .given i)))
+    let at-put-intervals-at = c .before .before .before .before in
+    let at-put-named = at-put-intervals-at .before .before .before .before in
+    let at-shared-slice-known = at-put-named .before .before .before .before in
+    let start = at-shared-slice-known .before in
+    let a = at-put-named .put-named .ensures in
+    let b = at-put-intervals-at .put-intervals-at .ensures in
+    omega (arith, start .pre .0 .0, start .pre .0 .1, a .next, a .long, b .next, b .long, number-short (start .args .v) (omega (arith, start .fits)), intervals-short (start .args .answer .now) 0 (length (start .args .answer .now) / 12) (λ i. omega (arith, at-shared-slice-known .shared-slice-known .given i)))
 
 same-length : tie.Need-same-length
 same-length c = search needs
 
 returns : tie.Need-returns
 returns c =
-    let b7 = c .before .before .before .before .before .before .before in
-    let b11 = b7 .before .before .before .before in
-    put-then (put-then (b11 .put-named .ensures) (b7 .put-intervals-at .ensures)) (c .before .before .put-text .ensures)
+    let at-put-text = c .before .before in
+    let at-put-intervals-at = at-put-text .before .before .before .before .before in
+    let at-put-named = at-put-intervals-at .before .before .before .before in
+    put-then (put-then (at-put-named .put-named .ensures) (at-put-intervals-at .put-intervals-at .ensures)) (at-put-text .put-text .ensures)
 
 pub local-line-spec : {M : Type 1} → statement M
 local-line-spec =

@@ -14,31 +14,32 @@ put-text-requires c κs = omega (arith, c .before .before .before .before .pre .
 
 put-blocks-requires : tie.Need-put-blocks-requires
 put-blocks-requires c κs =
-    let b3 = c .before .before .before in
-    let b8 = b3 .before .before .before .before .before in
-    let t = b3 .put-text .ensures in omega (arith, b8 .pre .0, b8 .pre .1, t .next, t .long)
+    let at-put-text = c .before .before .before in
+    let start = at-put-text .before .before .before .before .before in
+    let t = at-put-text .put-text .ensures in omega (arith, start .pre .0, start .pre .1, t .next, t .long)
 
 slice-aggregate-put-text-2 : tie.Need-slice-aggregate-put-text-2
 slice-aggregate-put-text-2 c = search needs
 
 put-text-requires-2 : tie.Need-put-text-requires-2
 put-text-requires-2 c κs =
-    let b4 = c .before .before .before .before in
-    let b8 = b4 .before .before .before .before in
-    let b12 = b8 .before .before .before .before in
-    let b13 = b12 .before in
-    let t = b8 .put-text .ensures in
-    let n = b4 .put-blocks .ensures in
-    omega (arith, b13 .pre .0, b13 .pre .1, t .next, t .long, n .next, n .long, blocks-short (b13 .args .rpo .now) (λ i. omega (arith, b12 .shared-slice-known .given i)))
+    let at-put-blocks = c .before .before .before .before in
+    let at-put-text = at-put-blocks .before .before .before .before in
+    let at-shared-slice-known = at-put-text .before .before .before .before in
+    let start = at-shared-slice-known .before in
+    let t = at-put-text .put-text .ensures in
+    let n = at-put-blocks .put-blocks .ensures in
+    omega (arith, start .pre .0, start .pre .1, t .next, t .long, n .next, n .long, blocks-short (start .args .rpo .now) (λ i. omega (arith, at-shared-slice-known .shared-slice-known .given i)))
 
 same-length : tie.Need-same-length
 same-length c = search needs
 
 returns : tie.Need-returns
 returns c =
-    let b7 = c .before .before .before .before .before .before .before in
-    let b11 = b7 .before .before .before .before in
-    put-then (b11 .put-text .ensures) (put-then (b7 .put-blocks .ensures) (c .before .before .put-text2 .ensures))
+    let at-put-text2 = c .before .before in
+    let at-put-blocks = at-put-text2 .before .before .before .before .before in
+    let at-put-text = at-put-blocks .before .before .before .before in
+    put-then (at-put-text .put-text .ensures) (put-then (at-put-blocks .put-blocks .ensures) (at-put-text2 .put-text2 .ensures))
 
 pub order-line-spec : {M : Type 1} → statement M
 order-line-spec =

@@ -14,28 +14,32 @@ put-text-requires : tie.Need-put-text-requires
 put-text-requires c κs = omega (arith, c .before .before .before .pre)
 
 put-number-requires : tie.Need-put-number-requires
-put-number-requires c κs = let t = c .before .before .before .put-text .ensures in omega (arith, c .before .before .before .before .before .before .before .pre, t .next, t .long)
+put-number-requires c κs =
+    let at-put-text = c .before .before .before in
+    let start = at-put-text .before .before .before .before in
+    let t = at-put-text .put-text .ensures in omega (arith, start .pre, t .next, t .long)
 
 slice-aggregate-put-text-2 : tie.Need-slice-aggregate-put-text-2
 slice-aggregate-put-text-2 c = search needs
 
 put-text-requires-2 : tie.Need-put-text-requires-2
 put-text-requires-2 c κs =
-    let b4 = c .before .before .before .before in
-    let b8 = b4 .before .before .before .before in
-    let b12 = b8 .before .before .before .before in
-    let t = b8 .put-text .ensures in
-    let n = b4 .put-number .ensures in
-    omega (arith, b12 .pre, t .next, t .long, n .next, n .long, number-short (b12 .args .number) (omega (arith, b12 .fits)))
+    let at-put-number = c .before .before .before .before in
+    let at-put-text = at-put-number .before .before .before .before in
+    let start = at-put-text .before .before .before .before in
+    let t = at-put-text .put-text .ensures in
+    let n = at-put-number .put-number .ensures in
+    omega (arith, start .pre, t .next, t .long, n .next, n .long, number-short (start .args .number) (omega (arith, start .fits)))
 
 same-length : tie.Need-same-length
 same-length c = search needs
 
 returns : tie.Need-returns
 returns c =
-    let b7 = c .before .before .before .before .before .before .before in
-    let b11 = b7 .before .before .before .before in
-    put-then (b11 .put-text .ensures) (put-then (b7 .put-number .ensures) (c .before .before .put-text2 .ensures))
+    let at-put-text2 = c .before .before in
+    let at-put-number = at-put-text2 .before .before .before .before .before in
+    let at-put-text = at-put-number .before .before .before .before in
+    put-then (at-put-text .put-text .ensures) (put-then (at-put-number .put-number .ensures) (at-put-text2 .put-text2 .ensures))
 
 pub refused-line-spec : {M : Type 1} → statement M
 refused-line-spec =

@@ -14,7 +14,10 @@ same-length c = search needs
 
 returns : tie.Need-returns
 unfolding roundsText
-returns c = put-as (ap roundsLine (c .before .before .before .before .before .before .pre .0)) (c .before .before .rounds-line .ensures)
+returns c =
+    let at-rounds-line = c .before .before in
+    let start = at-rounds-line .before .before .before .before in
+    put-as (ap roundsLine (start .pre .0)) (at-rounds-line .rounds-line .ensures)
 
 pub rounds-text-spec : {M : Type 1} → statement M
 rounds-text-spec = tie.close (tie.spec rounds-line-requires same-length returns)

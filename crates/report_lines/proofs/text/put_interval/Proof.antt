@@ -17,56 +17,57 @@ slice-aggregate-put-text c = search needs
 
 put-text-requires : tie.Need-put-text-requires
 put-text-requires c κs =
-    let b4 = c .before .before .before .before in
-    let b8 = b4 .before .before .before .before in
-    let n = b4 .put-named .ensures in omega (arith, b8 .pre .0, n .next, n .long, number-short (b8 .args .block) (omega (arith, b8 .fits)))
+    let at-put-named = c .before .before .before .before in
+    let start = at-put-named .before .before .before .before in
+    let n = at-put-named .put-named .ensures in omega (arith, start .pre .0, n .next, n .long, number-short (start .args .block) (omega (arith, start .fits)))
 
 put-start-requires : tie.Need-put-start-requires
 put-start-requires c κs =
-    let b3 = c .before .before .before in
-    let b8 = b3 .before .before .before .before .before in
-    let b12 = b8 .before .before .before .before in
-    let n = b8 .put-named .ensures in
-    let t = b3 .put-text .ensures in
-    omega (arith, b12 .pre .0, n .next, n .long, t .next, t .long, number-short (b12 .args .block) (omega (arith, b12 .fits)))
+    let at-put-text = c .before .before .before in
+    let at-put-named = at-put-text .before .before .before .before .before in
+    let start = at-put-named .before .before .before .before in
+    let n = at-put-named .put-named .ensures in
+    let t = at-put-text .put-text .ensures in
+    omega (arith, start .pre .0, n .next, n .long, t .next, t .long, number-short (start .args .block) (omega (arith, start .fits)))
 
 slice-aggregate-put-text-2 : tie.Need-slice-aggregate-put-text-2
 slice-aggregate-put-text-2 c = search needs
 
 put-text-requires-2 : tie.Need-put-text-requires-2
 put-text-requires-2 c κs =
-    let b4 = c .before .before .before .before in
-    let b8 = b4 .before .before .before .before in
-    let b13 = b8 .before .before .before .before .before in
-    let b17 = b13 .before .before .before .before in
-    let n = b13 .put-named .ensures in
-    let t = b8 .put-text .ensures in
-    let s = b4 .put-start .ensures in
-    omega (arith, b17 .pre .0, n .next, n .long, t .next, t .long, s .next, s .long, number-short (b17 .args .block) (omega (arith, b17 .fits)), start-short (b17 .args .start) (omega (arith, b17 .fits)))
+    let at-put-start = c .before .before .before .before in
+    let at-put-text = at-put-start .before .before .before .before in
+    let at-put-named = at-put-text .before .before .before .before .before in
+    let start = at-put-named .before .before .before .before in
+    let n = at-put-named .put-named .ensures in
+    let t = at-put-text .put-text .ensures in
+    let s = at-put-start .put-start .ensures in
+    omega (arith, start .pre .0, n .next, n .long, t .next, t .long, s .next, s .long, number-short (start .args .block) (omega (arith, start .fits)), start-short (start .args .start) (omega (arith, start .fits)))
 
 put-end-requires : tie.Need-put-end-requires
 put-end-requires c κs =
-    let b3 = c .before .before .before in
-    let b8 = b3 .before .before .before .before .before in
-    let b12 = b8 .before .before .before .before in
-    let b17 = b12 .before .before .before .before .before in
-    let b21 = b17 .before .before .before .before in
-    let n = b17 .put-named .ensures in
-    let t = b12 .put-text .ensures in
-    let s = b8 .put-start .ensures in
-    let d = b3 .put-text2 .ensures in
-    (omega (arith, b21 .pre .0, n .next, n .long, t .next, t .long, s .next, s .long, d .next, d .long, number-short (b21 .args .block) (omega (arith, b21 .fits)), start-short (b21 .args .start) (omega (arith, b21 .fits))), b21 .pre .1)
+    let at-put-text2 = c .before .before .before in
+    let at-put-start = at-put-text2 .before .before .before .before .before in
+    let at-put-text = at-put-start .before .before .before .before in
+    let at-put-named = at-put-text .before .before .before .before .before in
+    let start = at-put-named .before .before .before .before in
+    let n = at-put-named .put-named .ensures in
+    let t = at-put-text .put-text .ensures in
+    let s = at-put-start .put-start .ensures in
+    let d = at-put-text2 .put-text2 .ensures in
+    (omega (arith, start .pre .0, n .next, n .long, t .next, t .long, s .next, s .long, d .next, d .long, number-short (start .args .block) (omega (arith, start .fits)), start-short (start .args .start) (omega (arith, start .fits))), start .pre .1)
 
 same-length : tie.Need-same-length
 same-length c = search needs
 
 returns : tie.Need-returns
 returns c =
-    let b6 = c .before .before .before .before .before .before in
-    let b11 = b6 .before .before .before .before .before in
-    let b15 = b11 .before .before .before .before in
-    let b20 = b15 .before .before .before .before .before in
-    put-then (put-then (put-then (put-then (b20 .put-named .ensures) (b15 .put-text .ensures)) (b11 .put-start .ensures)) (b6 .put-text2 .ensures)) (c .before .before .put-end .ensures)
+    let at-put-end = c .before .before in
+    let at-put-text2 = at-put-end .before .before .before .before in
+    let at-put-start = at-put-text2 .before .before .before .before .before in
+    let at-put-text = at-put-start .before .before .before .before in
+    let at-put-named = at-put-text .before .before .before .before .before in
+    put-then (put-then (put-then (put-then (at-put-named .put-named .ensures) (at-put-text .put-text .ensures)) (at-put-start .put-start .ensures)) (at-put-text2 .put-text2 .ensures)) (at-put-end .put-end .ensures)
 
 pub put-interval-spec : {M : Type 1} → statement M
 put-interval-spec =

@@ -23,7 +23,10 @@ word-at-requires-3 : tie.Need-word-at-requires-3
 word-at-requires-3 c κs = omega (arith, c .before .before .before .before .pre .1)
 
 put-interval-requires : tie.Need-put-interval-requires
-put-interval-requires c κs = let s = c .before .before .before .before .before .before in (s .pre .0, omega (arith, c .before .word-at3 .ensures, s .pre .2))
+put-interval-requires c κs =
+    let at-word-at3 = c .before in
+    let start = at-word-at3 .before .before .before .before .before in
+    (start .pre .0, omega (arith, at-word-at3 .word-at3 .ensures, start .pre .2))
 
 same-length : tie.Need-same-length
 same-length c = search needs
@@ -31,10 +34,10 @@ same-length c = search needs
 returns : tie.Need-returns
 unfolding intervalAt
 returns c =
-    let b4 = c .before .before .before .before in
-    let b5 = b4 .before in
-    let b6 = b5 .before in
-    put-as (rw (b6 .word-at .ensures, b5 .word-at2 .ensures, b4 .word-at3 .ensures) refl) (c .before .before .put-interval .ensures)
+    let at-word-at3 = c .before .before .before .before in
+    let at-word-at2 = at-word-at3 .before in
+    let at-word-at = at-word-at2 .before in
+    put-as (rw (at-word-at .word-at .ensures, at-word-at2 .word-at2 .ensures, at-word-at3 .word-at3 .ensures) refl) (c .before .before .put-interval .ensures)
 
 pub put-interval-at-spec : {M : Type 1} → statement M
 put-interval-at-spec =

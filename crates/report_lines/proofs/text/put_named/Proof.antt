@@ -9,13 +9,19 @@ put-text-requires : tie.Need-put-text-requires
 put-text-requires c κs = omega (arith, c .before .before .before .pre)
 
 put-number-requires : tie.Need-put-number-requires
-put-number-requires c κs = omega (arith, c .before .before .before .before .before .before .before .pre, c .before .before .before .put-text .ensures .next, c .before .before .before .put-text .ensures .long)
+put-number-requires c κs =
+    let at-put-text = c .before .before .before in
+    let start = at-put-text .before .before .before .before in
+    omega (arith, start .pre, at-put-text .put-text .ensures .next, at-put-text .put-text .ensures .long)
 
 same-length : tie.Need-same-length
 same-length c = search needs
 
 returns : tie.Need-returns
-returns c = put-then (c .before .before .before .before .before .before .put-text .ensures) (c .before .before .put-number .ensures)
+returns c =
+    let at-put-number = c .before .before in
+    let at-put-text = at-put-number .before .before .before .before in
+    put-then (at-put-text .put-text .ensures) (at-put-number .put-number .ensures)
 
 pub put-named-spec : {M : Type 1} → statement M
 put-named-spec =
