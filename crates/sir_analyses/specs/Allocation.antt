@@ -99,7 +99,7 @@ marked w a = any (λ v. escapes w v || isReturned w v || reachedByOther w a v) (
 
 -- ---- owners: allocations in turn; each takes all that it links, but goes on only from its base and from locals that nobody had
 
--- what nobody has yet of what comes next
+-- the next locals that have no owner yet
 abbrev pub unowned : List ℕ → List ℕ → Set → List ℕ
 unowned w owner s = keep (λ v. eqb (getD owner v 0) 0) (nextOf w s)
 
@@ -112,7 +112,7 @@ give owner (v ∷ vs) a = give (set owner v (suc a)) vs a
 abbrev pub link : List ℕ → List ℕ → ℕ → List ℕ
 link w owner a = give owner (nextOf w (spread w (unowned w owner) (base w (allocAt w a)))) a
 
--- every base first for its own
+-- at first each base is owned by its own allocation
 abbrev pub bases : List ℕ → List ℕ
 bases w = foldl (λ owner a. set owner (base w (allocAt w a)) (suc a)) (replicate (locals w) 0) (upto (length (allocs w)))
 

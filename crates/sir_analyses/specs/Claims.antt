@@ -1,8 +1,8 @@
 -- What is claimed of the answers beyond their definitions: that the order visits exactly what can be reached, by the source's own
 -- recursion; that predecessors are exactly the edges; that the sets are the least solution of the equations; that an unvisited block has
 -- empty sets and no predecessors; that the round number counts passes and is bounded; that marks follow the reach rule; and that the
--- source's own steps come to the same answers. The claim on walks is in Walk. Definitions and statements only; each record is a claim on
--- the payload words of an accepted image.
+-- source's own steps come to the same answers. The claim on walks is in Walk. Definitions and statements only; the
+-- records whose names end in `Rule` are claims on the payload words of an accepted image.
 use mathlib.Core.Path.{_≡_}
 use mathlib.Core.Logic.{_↔_}
 use mathlib.Core.Bool.{Bool, true, false, not, _&&_, _||_, cond}

@@ -169,7 +169,7 @@ pub record Scan : Type 0 where
   pub open′ : ℕ
   pub closed : List Interval
 
--- the end that is open after a block's operations, by whether one is live there
+-- the end that is open after a block's operations, by whether the local is live there
 abbrev pub endOpen : Bool → ℕ
 endOpen live = cond live blockEnd 0
 

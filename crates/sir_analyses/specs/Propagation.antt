@@ -1,4 +1,4 @@
--- The machine that follows pointers from each allocation's base with a work list, a local at once: all that it carries, then one mark.
+-- The machine that follows pointers from each allocation's base with a work list, a whole local at a time: all that it carries, then one mark.
 -- Source, and so the exported promises, use `State`, `linkLocal` and `mark`, and follow use by use instead; the rest is
 -- used by inner contracts; no exported promise speaks of it.
 use mathlib.Core.Path.{_≡_}
@@ -29,11 +29,11 @@ linkLocal a s v =
 abbrev pub mark : ℕ → State → State
 mark a s = record { owner = s .owner; marks = addAll (s .marks) (a ∷ []); work = s .work }
 
--- a local is followed at once: xs, all that it carries, are linked, and where it escapes the allocation is marked
+-- a whole local is followed: xs, all that it carries, are linked, and where it escapes the allocation is marked
 abbrev pub follow : List ℕ → Bool → ℕ → State → State
 follow xs escaping a s = let t = foldl (linkLocal a) s xs in cond escaping (mark a t) t
 
--- the latest local of the work list is followed, some times over; `links` and `escaping` tell what of each local
+-- the latest local of the work list is followed, some times over; `links` and `escaping` give these for each local
 pub data Runs (links : ℕ → List ℕ) (escaping : ℕ → Bool) (a : ℕ) (s : State) : State → Type 0 where
   begun : Runs links escaping a s s
   more : {t : State} {v : ℕ} {vs : List ℕ} → Runs links escaping a s t → t .work ≡ v ∷ vs
@@ -44,7 +44,7 @@ pub record Propagates (links : ℕ → List ℕ) (escaping : ℕ → Bool) (a v 
   pub runs : Runs links escaping a (record { owner = s .owner; marks = s .marks; work = v ∷ [] }) s′
   pub ended : s′ .work ≡ []
 
--- every base first for its own, and no marks
+-- at first each base is owned by its own allocation, and there are no marks
 abbrev pub start : List ℕ → State
 start w = record { owner = bases w; marks = replicate (length (allocs w)) false; work = [] }
 

@@ -132,7 +132,7 @@ pub fn rule_12(words: &[u32], sites: &[u32]) -> bool
     false
 }
 
-// Every base first for its own.
+// At first each base is owned by its own allocation.
 fn own_bases(words: &[u32], sites: &[u32], owners: &mut [u32])
     requires { ⌜ WellFormed (now words) ⌝ }
     requires { ⌜ (now sites ≡ allocSites (now words)) × (length (now sites) ≤ 512) × (now owners ≡ replicate 512 0) ⌝ }
@@ -223,7 +223,7 @@ fn store_sites(sites: &[u32], pointers: &mut [u32])
     }
 }
 
-// Owners and marks: every base first for its own, then allocations in turn.
+// Owners and marks: at first each base is owned by its own allocation, then allocations are followed in turn.
 pub fn discover_allocations(
     words: &[u32],
     sites: &[u32],

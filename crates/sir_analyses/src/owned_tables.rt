@@ -35,7 +35,7 @@ pub const OWN_WORDS: usize = 4104;
 
 pub const OWNED: usize = 4616;
 
-// The owner of local v: its allocation + 1, or 0, also where that is marked.
+// The owner of local v: its allocation + 1; 0 where it has none, or where that allocation is marked.
 fn unmarked_owner(pointers: &[u32], v: LocalId) -> u32
     requires { ⌜ (length (now pointers) ≡ 2051) × (v .0 < 512) × (getD (ownersIn (now pointers)) (v .0) 0 ≤ 512) ⌝ }
     ensures { λ r. ⌜ (r ≡ unmarkedOwner (now (pointers .entry)) (v .0)) × (r ≤ 512) ⌝ }
@@ -65,7 +65,7 @@ fn own_rows(words: &[u32], pointers: &[u32], rows: &mut [u64])
     }
 }
 
-// Stores the owner of each local.
+// Stores the owner of each local, as `unmarked_owner` gives it.
 fn own_words(words: &[u32], pointers: &[u32], owners: &mut [u64])
     requires { ⌜ PointerStage (now words) (now pointers) ⌝ }
     requires { ⌜ length (now owners) ≡ 512 ⌝ }

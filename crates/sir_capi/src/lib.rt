@@ -4,8 +4,8 @@
 // always the same, `asked`: of the rules of the image and then those of the question the first that applies is the number, with
 // length 0 and every byte of the slice as it was; where none applies the number is 0 and the answer's bytes stand at the front of
 // the slice, whose other bytes are as they were; and where the slice is shorter than the answer, the number is 14. The second,
-// `Promise`, tells what holds of all answers about an image that is not refused. What is asked of one id can be asked of all in one
-// call: the answers in turn, each after its length in words.
+// `Promise`, is a theorem on the definitions that the first one names: what holds of all answers about an image that is not refused,
+// whichever call is made. What is asked of one id can be asked of all in one call: the answers in turn, each after its length in words.
 use plank_core::index::AllocId;
 use plank_core::index::BlockId;
 use plank_core::index::LocalId;

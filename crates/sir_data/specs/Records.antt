@@ -131,11 +131,11 @@ successors w b =
     (cond (eqb (control w b) 4) (map (target w) (count (field w b 1) (field w b 2)) ++ optional (field w b 3))
     []))
 
--- the condition of a branch or a switch, none of another kind
+-- the condition of a branch or a switch, none for any other kind
 abbrev pub condition : List ℕ → ℕ → List ℕ
 condition w b = cond (eqb (control w b) 3 || eqb (control w b) 4) (field w b 0 ∷ []) []
 
--- the outputs of an `InternalReturn` block, none of another kind
+-- the outputs of an `InternalReturn` block, none for any other kind
 abbrev pub returned : List ℕ → ℕ → List ℕ
 returned w b = cond (eqb (control w b) 1) (outputs w b) []
 
@@ -157,6 +157,6 @@ outs w o = run w (opWord w o 3) (opWord w o 4)
 abbrev pub extra : List ℕ → ℕ → ℕ → ℕ
 extra w o k = opWord w o (5 + k)
 
--- the callee of a call, none of another operation
+-- the callee of a call, none for any other operation
 abbrev pub callees : List ℕ → ℕ → List ℕ
 callees w o = cond (isCall (code w o)) (extra w o 0 ∷ []) []

@@ -124,9 +124,9 @@ fieldRules w = (7, rule7 w) ∷ (8, rule8 w) ∷ []
 abbrev pub operandRules : List ℕ → List (ℕ × Bool)
 operandRules w = (9, rule9 w) ∷ (10, rule10 w) ∷ (11, rule11 w) ∷ []
 
--- refusals 4 to 11 in their sequence: the front end that wrote the image. `fit` stands in the place of 6
+-- refusals 4 to 11 in their sequence: the front end that wrote the image. `unfit` tells whether 6 applies
 abbrev pub rulesOf : Bool → List ℕ → List (ℕ × Bool)
-rulesOf fit w = headRules w ++ ((6, fit) ∷ []) ++ fieldRules w ++ operandRules w
+rulesOf unfit w = headRules w ++ ((6, unfit) ∷ []) ++ fieldRules w ++ operandRules w
 
 -- those of words that are read from pages
 abbrev pub recordRules : List ℕ → List (ℕ × Bool)

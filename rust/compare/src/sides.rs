@@ -103,7 +103,7 @@ pub fn with_plank(image: &Image, tally: &mut Tally) -> Result<(), Disagreement> 
     Ok(())
 }
 
-/// The questions about all ids of an image, or about some of them, a step apart that may hang on their count.
+/// The questions about all ids of an image, or about some of them, a step apart that may depend on their count.
 fn questions(paper: &Reference, step: impl Fn(u32) -> u32) -> Vec<Question> {
     Question::KINDS.iter().flat_map(|kind| kind.about_all(|id| paper.count(id), &step)).collect()
 }

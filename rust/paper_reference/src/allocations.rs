@@ -30,7 +30,7 @@ pub fn allocations(records: &Records, order: &Order) -> Vec<Allocation> {
     allocations
 }
 
-/// "Two allocations met in visited blocks with one base local."
+/// Whether two allocations of visited blocks have the same base.
 pub fn breaks_12(allocations: &[Allocation]) -> bool {
     let bases: BTreeSet<usize> = allocations.iter().map(|allocation| allocation.base).collect();
     bases.len() < allocations.len()
@@ -95,8 +95,7 @@ pub fn reaches(allocations: &[Allocation], uses: &Uses) -> Vec<BTreeSet<usize>> 
     allocations.iter().map(|allocation| uses.reach(allocation.base)).collect()
 }
 
-/// "Marked exactly if some reached local is used in an escaping operand, or is an `InternalReturn` output, or is
-/// reached by another allocation too."
+/// Whether something that the allocation reaches escapes, is returned, or is reached by another one as well.
 pub fn marked(reaches: &[BTreeSet<usize>], uses: &Uses, allocation: usize) -> bool {
     let reached_by_another = |local: &usize| {
         let others = reaches.iter().enumerate().filter(|&(other, _)| other != allocation);
@@ -123,8 +122,7 @@ pub fn owners(records: &Records, allocations: &[Allocation], uses: &Uses) -> Vec
     owners
 }
 
-/// "Sorted by block, start, end; joined, up to the furthest end, where a start is at or before the furthest end so far
-/// in the same block."
+/// The intervals in ascending order, with each run of those that touch or overlap in a block made one.
 pub fn merged(mut intervals: Vec<Interval>) -> Vec<Interval> {
     intervals.sort_unstable();
     let mut merged: Vec<Interval> = Vec::new();

@@ -20,7 +20,7 @@ pub fn is_allocation(code: u32) -> bool {
     is_dynamic_allocation(code) || is_static_allocation(code)
 }
 
-/// "Deriving codes: 27–37, 44–51, 85."
+/// Whether an output of the code may point where its inputs do.
 pub fn derives(code: u32) -> bool {
     matches!(code, 27..=37 | 44..=51 | 85)
 }

@@ -11,7 +11,7 @@ pub struct Order {
 }
 
 impl Order {
-    /// "Init, then main. A block's calls are visited before its successors."
+    /// The visit: from init, then from main; a block goes into what it calls first, and then to its successors.
     pub fn of(records: &Records) -> Order {
         let mut walk = Walk {
             records,
@@ -84,7 +84,7 @@ impl Walk<'_> {
     }
 }
 
-/// The predecessors of every block: "visited blocks by id, each successor in turn".
+/// The predecessors of every block, from the successors of each visited block in ascending order.
 pub fn predecessors(records: &Records, order: &Order) -> Vec<Vec<usize>> {
     let mut visited: Vec<usize> = order.blocks().collect();
     visited.sort_unstable();
@@ -162,8 +162,8 @@ pub struct Liveness {
 }
 
 impl Liveness {
-    /// "A pass takes the blocks of the order backwards and adds each entry set to its predecessors' exits before the
-    /// next block; the first starts from empty sets."
+    /// Passes from empty sets on: each goes through the order from its end, and gives a block's entry set to the exits of its
+    /// predecessors at once.
     pub fn of(records: &Records, order: &Order, operands: &Operands) -> Liveness {
         let mut predecessors = predecessors(records, order);
         // Adding a set to an exit a second time adds nothing, whether for a repeated predecessor or in a later pass.
@@ -210,8 +210,8 @@ fn read_at_end(block: &Block) -> Vec<usize> {
     block.condition.into_iter().chain(returned).collect()
 }
 
-/// "The exit set, plus a branch or switch condition or an `InternalReturn` block's outputs, then operations backwards,
-/// outputs removed before inputs are added."
+/// What is live before a block: from its exit set, what its end reads, and its operations from the last to the first, each of
+/// which ends what it defines and then begins what it reads.
 fn entry_set(block: &Block, operands: &Operands, exit: &[bool]) -> Vec<bool> {
     let mut live = exit.to_vec();
     read_at_end(block).into_iter().for_each(|local| live[local] = true);
@@ -229,8 +229,8 @@ pub type Interval = (u32, u32, u32);
 /// The end of a block.
 pub const BLOCK_END: u32 = u32::MAX;
 
-/// The intervals of a local: "per block, in the sequence of the order, backwards through definitions, a block start
-/// last".
+/// The intervals of a local, block by block as the order has them; in a block the last definition comes first, and the
+/// block's start at the end.
 pub fn intervals(
     records: &Records,
     order: &Order,

@@ -26,7 +26,7 @@ fn words(page: &[u8]) -> Vec<u32> {
     page.chunks(4).map(|word| u32::from_le_bytes(word.try_into().expect("four bytes"))).collect()
 }
 
-/// The sum of word i times (253 − 2i), i from 0 to 126, wrapping at 2^32.
+/// The check of a page: its words weighed by the odd numbers from 253 down to 1, modulo 2^32.
 fn check(page: &[u32]) -> u32 {
     let sum: u64 = (0..127).map(|i| u64::from(page[i]) * (253 - 2 * i as u64)).sum();
     (sum % (1 << 32)) as u32

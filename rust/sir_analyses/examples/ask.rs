@@ -50,7 +50,8 @@ fn meet(a: &Interval, b: &Interval) -> bool {
     a.block == b.block && first(a.start) <= last(b.end) && first(b.start) <= last(a.end)
 }
 
-/// Whether one function of the order has both blocks.
+/// Whether one function of the order has both blocks. A block that two functions share is listed under one of them alone; a
+/// program with such blocks needs the functions' blocks by successors from each entry instead.
 fn in_one_function(order: &[FunctionBlocks], one: BlockId, other: BlockId) -> bool {
     order.iter().any(|function| function.blocks.contains(&one) && function.blocks.contains(&other))
 }

@@ -28,12 +28,10 @@
 //!
 //! Lifetimes hold within a function: a walk follows successor edges from a function's entry and takes a call as one step, so
 //! where the intervals of two unmarked allocations do not meet, no run of a function awaits reads of both at once, and the
-//! two may share a place in that function's frame. Nothing follows for a caller and its callee, whose buffers are never both
-//! in one walk: a buffer that lives across a call and a buffer of the callee must not share memory, whatever their
-//! intervals say.
-//!
-//! An allocation whose pointer is never read has no interval; where the operation that makes it clears its bytes, they must
-//! be its own there all the same. `examples/ask.rs` goes by both.
+//! two may share a place in that function's frame, provided that neither is made inside an interval of the other: the
+//! operation that makes a buffer may clear its bytes, also where the buffer's intervals begin later or are none.
+//! `examples/ask.rs` goes by both. Nothing follows for a caller and its callee, whose buffers are never both in one walk: a
+//! buffer that lives across a call and a buffer of the callee must not share memory, whatever their intervals say.
 //!
 //! # How long an answer may be
 //!

@@ -135,7 +135,7 @@ impl QuestionKind {
         self.about(&vec![0; self.ids.len()])
     }
 
-    /// The questions about all ids below their counts, in turn; of each sort of id only those a step apart that may hang on
+    /// The questions about all ids below their counts, in turn; of each sort of id only those a step apart that may depend on
     /// its count. One question where there are no ids.
     pub fn about_all(&self, count: impl Fn(IdKind) -> u32, step: impl Fn(u32) -> u32) -> Vec<Question> {
         self.id_lists(count, step).iter().map(|ids| self.about(ids)).collect()
@@ -164,7 +164,7 @@ impl QuestionKind {
     }
 }
 
-/// As a user types it: the name; after a colon the ids, parted by commas.
+/// As a user types it: the name; after a colon the ids, separated by commas.
 impl Display for Question {
     fn fmt(&self, f: &mut Formatter<'_>) -> fmt::Result {
         f.write_str(self.kind().name)?;

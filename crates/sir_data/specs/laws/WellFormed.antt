@@ -226,20 +226,20 @@ module _ (w : List ℕ) (fields : first (fieldRules w) ≡ 0) where
       }
 
 -- all the facts, wherever no rule applies and the words are there
-module _ (w : List ℕ) (fit : Bool) (there : wordCount w ≤ length w) (accepted : first (rulesOf fit w) ≡ 0) where
+module _ (w : List ℕ) (unfit : Bool) (there : wordCount w ≤ length w) (accepted : first (rulesOf unfit w) ≡ 0) where
   abbrev behind : List (ℕ × Bool)
-  behind = (6, fit) ∷ fieldRules w ++ operandRules w
+  behind = (6, unfit) ∷ fieldRules w ++ operandRules w
 
   pub formed : WellFormed w
   unfolding rule9 rule10 rule11
   formed =
       record {
         sized = sized w (first-left (headRules w) behind accepted) there;
-        in-range = in-range w (first-left (fieldRules w) (operandRules w) (first-right (headRules w ++ ((6, fit) ∷ [])) (fieldRules w ++ operandRules w) refl accepted));
-        arity-ok = λ o l. all-upto (λ p. arityOk (code w p) (length (ins w p)) (length (outs w p))) (operations w) (not-false _ (kept 9 (rulesOf fit w) refl accepted)) o l;
+        in-range = in-range w (first-left (fieldRules w) (operandRules w) (first-right (headRules w ++ ((6, unfit) ∷ [])) (fieldRules w ++ operandRules w) refl accepted));
+        arity-ok = λ o l. all-upto (λ p. arityOk (code w p) (length (ins w p)) (length (outs w p))) (operations w) (not-false _ (kept 9 (rulesOf unfit w) refl accepted)) o l;
         passed = λ b s l m. eqb-true _ _ (all-mem (λ t. eqb (length (outputs w b)) (length (inputs w t))) (successors w b)
-            (all-upto (λ c. all (λ t. eqb (length (outputs w c)) (length (inputs w t))) (successors w c)) (blocks w) (not-false _ (kept 10 (rulesOf fit w) refl accepted)) b l) s m);
-        inputs-once = λ b l. all-upto (λ c. distinct (inputs w c)) (blocks w) (not-false _ (kept 11 (rulesOf fit w) refl accepted)) b l;
+            (all-upto (λ c. all (λ t. eqb (length (outputs w c)) (length (inputs w t))) (successors w c)) (blocks w) (not-false _ (kept 10 (rulesOf unfit w) refl accepted)) b l) s m);
+        inputs-once = λ b l. all-upto (λ c. distinct (inputs w c)) (blocks w) (not-false _ (kept 11 (rulesOf unfit w) refl accepted)) b l;
       }
 
 pub well-formed : (w : List ℕ) → first (recordRules w) ≡ 0 → WellFormed w

@@ -10,7 +10,7 @@
 //! library has no part in this.
 //!
 //! The second writes one file, with the reference's answers to the questions about one image, and prints them. A question
-//! is its name, after a colon its ids parted by commas, and after a slash the length of the result slice where it is not
+//! is its name, after a colon its ids separated by commas, and after a slash the length of the result slice where it is not
 //! to be that of the answer: `order`, `exit_set:3`, `uses:4/0`, `all_uses`.
 
 mod one;
