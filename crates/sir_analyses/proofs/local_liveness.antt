@@ -4,3 +4,4 @@ pub mod Sending
 pub mod Stepping
 pub mod Passes
 pub mod LivenessTables
+pub mod SetAnswers

@@ -1,16 +1,11 @@
 -- Forms between our own functions: contracts of functions that are not exported. No exported promise speaks of them.
 pub mod Visiting
 pub mod Writing
-pub mod Scatter
-pub mod Pieces
 pub mod Uses
 pub mod Tables
 pub mod Pointers
 pub mod Discovery
 pub mod Stages
 pub mod Loading
-pub mod Questions
 pub mod Scanning
-pub mod IntervalPieces
 pub mod Sweep
-pub mod AllocationPieces

@@ -1,20 +1,13 @@
-// The answers that need pointers: the record of an allocation, and the owner of a local.
-use crate::all_allocations::all_allocations_answer;
-use crate::all_sets::all_owners_answer;
+// The tables of pointers, and the record of an allocation.
 use crate::allocation_liveness::AllocSite;
 use crate::allocation_liveness::discover_allocations;
 use crate::allocation_liveness::site_of;
 use crate::allocation_words::put_head;
 use crate::answers::Answer;
 use crate::answers::finish;
-use crate::answers::words_answer;
-use crate::local_liveness::compute_liveness;
 use crate::merged_intervals::populate_intervals_from_local_liveness;
 use crate::pointer_links::pointer_links;
-use crate::questions::PointerQuestion;
 use crate::stages::LINKS;
-use crate::stages::LIVE;
-use crate::stages::POINTERS;
 use crate::stages::alloc_sites;
 use crate::stages::is_marked;
 use crate::stages::owner_of;
@@ -33,14 +26,11 @@ ghost use Rattle.sir_data.specs.Pages.{bytesOf};
 ghost use Rattle.sir_data.specs.Records.{locals};
 ghost use Rattle.sir_data.specs.Rules.{first};
 ghost use Rattle.sir_data.specs.inner.WellFormed.{WellFormed};
-ghost use Rattle.sir_analyses.specs.All.{all};
 ghost use Rattle.sir_analyses.specs.Allocation.{allocs, marked};
 ghost use Rattle.sir_analyses.specs.Answers.{allocationAnswer};
-ghost use Rattle.sir_analyses.specs.Calls.{made, answered, inWords};
-ghost use Rattle.sir_analyses.specs.inner.Questions.{ownRules, answerWords};
+ghost use Rattle.sir_analyses.specs.Calls.{made, answered};
 ghost use Rattle.sir_analyses.specs.inner.Discovery.{Site, Unmarked};
 ghost use Rattle.sir_analyses.specs.inner.Stages.{VisitStage, AcceptedStage, LivenessStage, PointerStage, ownersIn};
-ghost use Rattle.sir_analyses.specs.declared.questions.Question.{Question};
 
 // Adds the locals that allocation a owns to an empty set.
 fn owned_locals(words: &[u32], pointers: &[u32], a: AllocId, set: &mut [u64])
@@ -59,7 +49,7 @@ fn owned_locals(words: &[u32], pointers: &[u32], a: AllocId, set: &mut [u64])
 }
 
 // The record of a marked allocation: it has no intervals.
-fn marked_answer(words: &[u32], site: AllocSite, out: &mut [u8]) -> Answer
+pub fn marked_answer(words: &[u32], site: AllocSite, out: &mut [u8]) -> Answer
     requires { ⌜ WellFormed (now words) ⌝ }
     requires { ⌜ ((a : ℕ) × Site (now words) a (site .block .0) (site .op .0)) ⌝ }
     ensures { λ r. ⌜ ((a : ℕ) → Site (now (words .entry)) a (site .block .0) (site .op .0) → marked (now (words .entry)) a ≡ true → made (r .number) (r .length) (now (out .exit)) ≡ answered (bind (allocationAnswer (now (words .entry)) a) bytesOf) (now (out .entry))) ⌝ }
@@ -115,37 +105,6 @@ pub fn allocation_answer(
     record_answer(words, visit, live, site, &reach, out)
 }
 
-// The same, with the tables of liveness made here, for an allocation that is not marked; a marked one needs none.
-fn one_allocation(
-    words: &[u32],
-    visit: &[u32],
-    pointers: &[u32],
-    a: AllocId,
-    out: &mut [u8],
-) -> Answer
-    requires { ⌜ VisitStage (now words) (now visit) ⌝ }
-    requires { ⌜ PointerStage (now words) (now pointers) × (a .0 < length (allocs (now words))) ⌝ }
-    ensures { λ r. ⌜ made (r .number) (r .length) (now (out .exit)) ≡ answered (bind (allocationAnswer (now (words .entry)) (a .0)) bytesOf) (now (out .entry)) ⌝ }
-{
-    if is_marked(pointers, a) {
-        return marked_answer(words, site_of(alloc_sites(pointers), a), out);
-    }
-    let mut live = [0u64; LIVE];
-    compute_liveness(words, visit, &mut live);
-    allocation_answer(words, visit, &live, pointers, a, out)
-}
-
-// The records of all allocations, with the tables of liveness made here.
-fn every_allocation(words: &[u32], visit: &[u32], pointers: &[u32], out: &mut [u8]) -> Answer
-    requires { ⌜ VisitStage (now words) (now visit) ⌝ }
-    requires { ⌜ PointerStage (now words) (now pointers) ⌝ }
-    ensures { λ r. ⌜ made (r .number) (r .length) (now (out .exit)) ≡ answered (bind (all (λ w. length (allocs w)) allocationAnswer (now (words .entry))) bytesOf) (now (out .entry)) ⌝ }
-{
-    let mut live = [0u64; LIVE];
-    compute_liveness(words, visit, &mut live);
-    all_allocations_answer(words, visit, &live, pointers, out)
-}
-
 // All tables of pointers, to an array that is empty at first.
 pub fn compute_pointers(words: &[u32], visit: &[u32], sites: &[u32], pointers: &mut [u32])
     requires { ⌜ VisitStage (now words) (now visit) ⌝ }
@@ -156,26 +115,4 @@ pub fn compute_pointers(words: &[u32], visit: &[u32], sites: &[u32], pointers: &
     let mut escaping = [0u64; 8];
     pointer_links(words, visit, &mut links, &mut escaping);
     discover_allocations(words, sites, &links, &escaping, pointers);
-}
-
-// The answer to a question on pointers: follows them, and answers from their tables.
-pub fn pointer_answer(
-    words: &[u32],
-    visit: &[u32],
-    sites: &[u32],
-    question: PointerQuestion,
-    out: &mut [u8],
-) -> Answer
-    requires { ⌜ VisitStage (now words) (now visit) ⌝ }
-    requires { ⌜ AcceptedStage (now words) (now sites) × (first (ownRules (Question.OfPointers question) (now words)) ≡ 0) ⌝ }
-    ensures { λ r. ⌜ made (r .number) (r .length) (now (out .exit)) ≡ answered (inWords (answerWords (Question.OfPointers question)) (now (words .entry))) (now (out .entry)) ⌝ }
-{
-    let mut pointers = [0u32; POINTERS];
-    compute_pointers(words, visit, sites, &mut pointers);
-    match question {
-        PointerQuestion::Allocation(a) => one_allocation(words, visit, &pointers, a, out),
-        PointerQuestion::Owner(v) => words_answer(&[owner_of(&pointers, v)], out),
-        PointerQuestion::AllAllocations => every_allocation(words, visit, &pointers, out),
-        PointerQuestion::AllOwners => all_owners_answer(words, &pointers, out),
-    }
 }

@@ -1,26 +1,15 @@
-// Layer 3: the analyses of the source's files, what is read from them, and the questions that can be put to an image.
-pub mod all_allocations;
-pub mod all_intervals;
-pub mod all_predecessors;
-pub mod all_sets;
-pub mod all_uses;
+// Layer 3: the analyses of the source's files, in stages, and what is read from them.
 pub mod allocation_answers;
 pub mod allocation_liveness;
 pub mod allocation_words;
 pub mod answers;
-pub mod ask;
 pub mod block_sets;
 pub mod def_use;
-pub mod live_answers;
 pub mod loading;
 pub mod local_intervals;
 pub mod local_liveness;
 pub mod merged_intervals;
-pub mod order_answers;
-pub mod owned_tables;
 pub mod pointer_links;
 pub mod predecessors;
-pub mod questions;
 pub mod reverse_post_order;
-pub mod scatter;
 pub mod stages;

@@ -19,7 +19,7 @@ use Rattle.sir_analyses.proofs.stages.Parts.{length-part, part-drop, sa
 use Rattle.sir_analyses.proofs.Tables.{Filled, filled-starts, filled-more, filled-not, filled-ends, cleared-long}
 use Rattle.sir_analyses.proofs.block_sets.BlockSets.{row-defined}
 use Rattle.sir_analyses.proofs.local_liveness.Passes.{stepped-as, stepped-then, stepped-none, Settling, settling-starts}
-use Rattle.sir_analyses.proofs.live_answers.SetAnswers.{exit-members, entry-members}
+use Rattle.sir_analyses.proofs.local_liveness.SetAnswers.{exit-members, entry-members}
 
 -- ---- an array of zeros
 

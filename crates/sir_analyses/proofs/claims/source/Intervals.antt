@@ -21,7 +21,7 @@ use Rattle.sir_analyses.specs.SourceLiveness.{sourceLocalIntervals}
 use Rattle.sir_analyses.specs.Source.{sourceState}
 use Rattle.sir_analyses.specs.SourceIntervals.{mergeIntervals, pushIntervals, sourceIntervals}
 use Rattle.sir_analyses.specs.inner.Scanning.{openBefore, closedBy}
-use Rattle.sir_analyses.proofs.live_answers.SetAnswers.{keep-same}
+use Rattle.sir_analyses.proofs.local_liveness.SetAnswers.{keep-same}
 use Rattle.sir_analyses.proofs.local_intervals.Scanning.{scan-open, scan-closed}
 use Rattle.plank_core.specs.laws.Folds.{bind-each, bind-kept, bind-none, bind-single}
 use Rattle.sir_analyses.proofs.Accepted.{listed-op}

@@ -16,7 +16,7 @@ use Rattle.sir_analyses.proofs.claims.order.OrderLength.{rpo-below, blo
 use Rattle.sir_analyses.proofs.loading.Loads.{front-length}
 use Rattle.sir_analyses.proofs.answers.Writing.{Putting, putting-none, putting-as, putting-more, putting-all, puts-as}
 use Rattle.sir_analyses.proofs.def_use.UseWords.{block-next, block-end}
-use Rattle.sir_analyses.proofs.live_answers.SetAnswers.{interval-words}
+use Rattle.sir_analyses.proofs.local_liveness.SetAnswers.{interval-words}
 use borrow.Author.Needs.{needs}
 use Rattle.sir_analyses.proofs.local_intervals.compute_intervals.Statement.{statement}
 use Rattle.sir_analyses.proofs.local_intervals.compute_intervals.Tie as tie

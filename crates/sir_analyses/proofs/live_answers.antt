@@ -1,2 +1,0 @@
--- What the proofs of the functions of `live_answers` share.
-pub mod SetAnswers

@@ -1,0 +1,13 @@
+// The questions that can be put to an image, about one id or for all, each a reader of stages.
+pub mod all_allocations;
+pub mod all_intervals;
+pub mod all_predecessors;
+pub mod all_sets;
+pub mod all_uses;
+pub mod ask;
+pub mod live_answers;
+pub mod order_answers;
+pub mod owned_tables;
+pub mod pointer_answers;
+pub mod questions;
+pub mod scatter;
