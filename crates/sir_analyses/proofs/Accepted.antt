@@ -2,14 +2,16 @@
 use mathlib.Core.Path.{_≡_}
 use mathlib.Core.Logic.{⊎-elim}
 use mathlib.Core.Bool.{Bool, true, false, _&&_, cond}
-use Prim.Native.Nat.{ℕ, _<_}
+use Prim.Native.Nat.{ℕ, _<_, _-_, _≤_}
 use mathlib.Core.List.{List, [], List·Memᴰ·not-nil}
+use native.Mathlib.Omega.{arith}
 use lib.ListN.{length}
 use lib.Dec.{eqb}
 use borrow.Author.Tests.{eqb-true}
 use Rattle.plank_core.specs.Lists.{_∈_}
 use Rattle.plank_core.specs.laws.Lists.{and-true-left, and-true-right, or-cases}
-use Rattle.sir_data.specs.Records.{blocks, operations, locals, outputs, ops, control, successors, returned, code, ins, outs}
+use Rattle.plank_core.specs.laws.Loops.{length-count}
+use Rattle.sir_data.specs.Records.{blocks, operations, locals, outputs, ops, control, successors, returned, code, ins, outs, blockWord}
 use Rattle.sir_data.specs.Codes.{arityOk, isStaticAlloc, isDynamicAlloc, isAlloc}
 use Rattle.sir_data.specs.inner.WellFormed.{WellFormed}
 use Rattle.sir_analyses.specs.Order.{blocksRpo}
@@ -49,6 +51,10 @@ module _ (w : List ℕ) (good : WellFormed w) where
       go : (t : Bool) → v ∈ cond t (outputs w b) [] → v < locals w
       go true k = good .in-range .output b v l k
       go false k = absurd (List·Memᴰ·not-nil k)
+
+  -- how many operations a block can have
+  pub ops-few : (b : ℕ) → b < blocks w → length (ops w b) ≤ 1024
+  ops-few b l = omega (arith, length-count (blockWord w b 4) (blockWord w b 5 - blockWord w b 4), good .in-range .ops-range b l, good .sized .operations-most)
 
   -- the operations of a listed block
   pub listed-op : {b o : ℕ} → b ∈ blocksRpo w → o ∈ ops w b → o < operations w

@@ -1,7 +1,7 @@
 -- Laws of sets of locals, one Bool for each local.
 use mathlib.Core.Path.{_≡_, refl, sym, ap, _∙_, subst}
 use mathlib.Core.Logic.{_⊎_, inl, inr, ⊎-elim}
-use mathlib.Core.Bool.{Bool, true, false, not, _&&_, _||_, cond}
+use mathlib.Core.Bool.{Bool, true, false, not, _&&_, _||_, cond, or-false, and-true}
 use Prim.Native.Nat.{ℕ, zero, suc, _≤_, _<_}
 use native.Mathlib.Omega.{arith}
 use mathlib.Core.List.{List, [], _∷_, List·Memᴰ·head, List·Memᴰ·tail}
@@ -51,11 +51,7 @@ has-set s i v x h = go (eqb v i) refl
     go false e = getD-set-other s i v x false (eqb-false v i e)
 
 pub has-addAll : (s : Set) (vs : List ℕ) (v : ℕ) → v < length s → has (addAll s vs) v ≡ (has s v || mem v vs)
-has-addAll s [] v h = go (has s v)
-  where
-    go : (a : Bool) → a ≡ (a || false)
-    go true = refl
-    go false = refl
+has-addAll s [] v h = sym (or-false (has s v))
 has-addAll s (u ∷ vs) v h =
     let k : v < length (set s u true) = rw length-set h in
     has-addAll (set s u true) vs v k ∙ ap (λ (a : Bool). a || mem v vs) (has-set s u v true h) ∙ go (eqb v u) (has s v) (mem v vs)
@@ -67,11 +63,7 @@ has-addAll s (u ∷ vs) v h =
     go false false m = refl
 
 pub has-removeAll : (s : Set) (vs : List ℕ) (v : ℕ) → v < length s → has (removeAll s vs) v ≡ (has s v && not (mem v vs))
-has-removeAll s [] v h = go (has s v)
-  where
-    go : (a : Bool) → a ≡ (a && true)
-    go true = refl
-    go false = refl
+has-removeAll s [] v h = sym (and-true (has s v))
 has-removeAll s (u ∷ vs) v h =
     let k : v < length (set s u false) = rw length-set h in
     has-removeAll (set s u false) vs v k ∙ ap (λ (a : Bool). a && not (mem v vs)) (has-set s u v false h) ∙ go (eqb v u) (has s v) (mem v vs)
@@ -171,6 +163,11 @@ card-rises (true ∷ s) (true ∷ t) e f d = omega (arith, card-rises s t (omega
 card-rises (true ∷ s) (false ∷ t) e f d = none false (f 0 refl) refl
 card-rises (false ∷ s) (true ∷ t) e f d = omega (arith, card-grows s t (omega arith) (λ v. f (suc v)))
 card-rises (false ∷ s) (false ∷ t) e f d = card-rises s t (omega arith) (λ v. f (suc v)) d
+
+pub same-self : (s : Set) → sameSet s s ≡ true
+same-self [] = refl
+same-self (true ∷ s) = same-self s
+same-self (false ∷ s) = same-self s
 
 pub same-set : (s t : Set) → sameSet s t ≡ true → s ≡ t
 same-set [] [] d = refl

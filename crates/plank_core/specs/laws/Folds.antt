@@ -1,6 +1,6 @@
 -- Laws of folds, and of the lists that a function has for each element, joined.
 use mathlib.Core.Path.{_≡_, refl, sym, _∙_, ap, ap₂}
-use mathlib.Core.List.{List, [], _∷_, _++_, foldr, reverseAux, reverse, List·Memᴰ, List·Memᴰ·head, List·Memᴰ·tail, reverse-append, reverse-cons}
+use mathlib.Core.List.{List, [], _∷_, _++_, map, foldr, reverseAux, reverse, List·Memᴰ, List·Memᴰ·head, List·Memᴰ·tail, reverse-append, reverse-cons}
 use mathlib.Core.Bool.{Bool, true, false, cond, _||_}
 use Prim.Native.Nat.{ℕ, suc, _+_, _*_, _≤_}
 use native.Mathlib.Nat.{mul-suc}
@@ -21,13 +21,14 @@ foldl-back f b (x ∷ xs) ys = foldl-back f b xs (x ∷ ys)
 pub foldl-reverse : {A B : Type 0} (f : B → A → B) (b : B) (xs : List A) → foldl f b (reverse xs) ≡ foldr (λ x c. f c x) b xs
 foldl-reverse f b xs = foldl-back f b xs []
 
+-- a loop over some, and on over others
+pub foldl-append : {A B : Type 0} (f : B → A → B) (b : B) (xs ys : List A) → foldl f b (xs ++ ys) ≡ foldl f (foldl f b xs) ys
+foldl-append f b [] ys = refl
+foldl-append f b (x ∷ xs) ys = foldl-append f (f b x) xs ys
+
 pub fold-bind : {A B C : Type 0} (f : C → B → C) (g : A → List B) (xs : List A) (c : C) → foldl (λ d x. foldl f d (g x)) c xs ≡ foldl f c (bind xs g)
 fold-bind f g [] c = refl
-fold-bind {A} {B} {C} f g (x ∷ xs) c = fold-bind f g xs (foldl f c (g x)) ∙ sym (append (g x) c)
-  where
-    append : (ys : List B) (d : C) → foldl f d (ys ++ bind xs g) ≡ foldl f (foldl f d ys) (bind xs g)
-    append [] d = refl
-    append (y ∷ ys) d = append ys (f d y)
+fold-bind f g (x ∷ xs) c = fold-bind f g xs (foldl f c (g x)) ∙ sym (foldl-append f c (g x) (bind xs g))
 
 pub fold-as : {A C : Type 0} (F G : C → A → C) (xs : List A) → ((c : C) (x : A) → List·Memᴰ x xs → F c x ≡ G c x) → (c : C) → foldl F c xs ≡ foldl G c xs
 fold-as F G [] h c = refl
@@ -43,9 +44,18 @@ pub bind-single : {A : Type 0} (xs : List A) → bind xs (λ x. x ∷ []) ≡ xs
 bind-single [] = refl
 bind-single {A} (x ∷ xs) = ap (λ (l : List A). x ∷ l) (bind-single xs)
 
-pub bind-kept : {A : Type 0} (on : ℕ → Bool) (g : ℕ → List A) (xs : List ℕ) → bind xs (λ x. cond (on x) (g x) []) ≡ bind (keep on xs) g
+-- one thing of each
+pub bind-one : {A B : Type 0} (f : A → B) (xs : List A) → bind xs (λ x. f x ∷ []) ≡ map f xs
+bind-one f [] = refl
+bind-one {A} {B} f (x ∷ xs) = ap (λ (l : List B). f x ∷ l) (bind-one f xs)
+
+pub bind-map : {A B C : Type 0} (f : A → B) (g : B → List C) (xs : List A) → bind (map f xs) g ≡ bind xs (λ x. g (f x))
+bind-map f g [] = refl
+bind-map {A} {B} {C} f g (x ∷ xs) = ap (λ (l : List C). g (f x) ++ l) (bind-map f g xs)
+
+pub bind-kept : {X A : Type 0} (on : X → Bool) (g : X → List A) (xs : List X) → bind xs (λ x. cond (on x) (g x) []) ≡ bind (keep on xs) g
 bind-kept on g [] = refl
-bind-kept {A} on g (x ∷ xs) = go (on x) (bind-kept on g xs)
+bind-kept {X} {A} on g (x ∷ xs) = go (on x) (bind-kept on g xs)
   where
     go : (t : Bool) → bind xs (λ x. cond (on x) (g x) []) ≡ bind (keep on xs) g → cond t (g x) [] ++ bind xs (λ x. cond (on x) (g x) []) ≡ bind (cond t (x ∷ keep on xs) (keep on xs)) g
     go true e = ap (λ (r : List A). g x ++ r) e
@@ -58,6 +68,13 @@ bind-none g (x ∷ xs) h = rw (h x (List·Memᴰ·head refl)) (bind-none g xs (�
 pub bind-each : {B : Type 0} (g h : ℕ → List B) (xs : List ℕ) → ((x : ℕ) → x ∈ xs → g x ≡ h x) → bind xs g ≡ bind xs h
 bind-each g h [] e = refl
 bind-each g h (x ∷ xs) e = ap₂ (λ a b. a ++ b) (e x (List·Memᴰ·head refl)) (bind-each g h xs (λ y m. e y (List·Memᴰ·tail m)))
+
+-- as many of each
+pub bind-long : {A B : Type 0} (g : A → List B) (n : ℕ) (xs : List A) → ((x : A) → length (g x) ≡ n) → length (bind xs g) ≡ n * length xs
+bind-long g n [] h = omega arith
+bind-long g n (x ∷ xs) h =
+    let e : n * suc (length xs) ≡ n * length xs + n = mul-suc n (length xs) in
+    omega (arith, length-append (g x) (bind xs g), h x, bind-long g n xs h)
 
 pub bind-most : (g : ℕ → List ℕ) (k : ℕ) (xs : List ℕ) → ((x : ℕ) → x ∈ xs → length (g x) ≤ k) → length (bind xs g) ≤ k * length xs
 bind-most g k [] h = omega arith

@@ -325,6 +325,10 @@ pub oneIf-most : (t : Bool) → oneIf t ≤ 1
 oneIf-most true = omega arith
 oneIf-most false = omega arith
 
+pub oneIf-told : (t : Bool) → not (eqb (oneIf t) 0) ≡ t
+oneIf-told true = refl
+oneIf-told false = refl
+
 pub oneIf-some : (t : Bool) → 1 ≤ oneIf t → t ≡ true
 oneIf-some true h = refl
 oneIf-some false h = absurd (omega arith)

@@ -224,9 +224,52 @@ module _ {A : Type 0} where
   pub reverse-snoc : (xs : List A) (x : A) → reverse (xs ++ (x ∷ [])) ≡ x ∷ reverse xs
   reverse-snoc xs x = reverse-append xs (x ∷ [])
 
+  pub keep-reverse : (p : A → Bool) (xs : List A) → keep p (reverse xs) ≡ reverse (keep p xs)
+  keep-reverse p [] = refl
+  keep-reverse p (x ∷ xs) = ap (keep p) (reverse-append (x ∷ []) xs) ∙ keep-append p (reverse xs) (x ∷ []) ∙ ap (λ (l : List A). l ++ keep p (x ∷ [])) (keep-reverse p xs) ∙ go (p x)
+    where
+      go : (t : Bool) → reverse (keep p xs) ++ cond t (x ∷ []) [] ≡ reverse (cond t (x ∷ keep p xs) (keep p xs))
+      go true = sym (reverse-append (x ∷ []) (keep p xs))
+      go false = append-nil (reverse (keep p xs))
+
 pub bind-bind : {A B C : Type 0} (h : A → List B) (g : B → List C) (xs : List A) → bind (bind xs h) g ≡ bind xs (λ x. bind (h x) g)
 bind-bind h g [] = refl
 bind-bind {A} {B} {C} h g (x ∷ xs) = bind-append g (h x) (bind xs h) ∙ ap (λ (l : List C). bind (h x) g ++ l) (bind-bind h g xs)
+
+-- ---- a loop that takes what g gives of each; the invariant is that what it gives of those left is to come
+
+-- the last of some numbers is the first of them backwards
+pub reverse-range : (s e : ℕ) → s < e → reverse (range s e) ≡ (e - 1) ∷ reverse (range s (e - 1))
+reverse-range s e h =
+    let n : e - s ≡ suc (e - 1 - s) = omega arith in
+    let l : s + (e - 1 - s) ≡ e - 1 = omega arith in
+    ap (λ (k : ℕ). reverse (count s k)) n
+    ∙ ap reverse (count-suc s (e - 1 - s) ∙ ap (λ (k : ℕ). count s (e - 1 - s) ++ (k ∷ [])) l)
+    ∙ reverse-snoc (count s (e - 1 - s)) (e - 1)
+
+module _ {B : Type 0} (g : ℕ → List B) where
+  pub bind-all : (n : ℕ) → bind (upto n) g ≡ bind (range 0 n) g
+  bind-all n = ap (λ (l : List ℕ). bind l g) (sym (range-all n))
+
+  pub bind-step : (i n : ℕ) → i < n → bind (range i n) g ≡ g i ++ bind (range (i + 1) n) g
+  bind-step i n h = ap (λ (l : List ℕ). bind l g) (range-next i n h)
+
+  pub bind-end : (i n : ℕ) → n ≤ i → bind (range i n) g ≡ []
+  bind-end i n h = ap (λ (l : List ℕ). bind l g) (range-none i n h)
+
+  -- over the elements of a list
+  pub bind-drop-step : (xs : List ℕ) (i : ℕ) → i < length xs → bind (drop i xs) g ≡ g (getD xs i 0) ++ bind (drop (i + 1) xs) g
+  bind-drop-step xs i h = ap (λ (l : List ℕ). bind l g) (drop-next i xs h)
+
+  pub bind-drop-end : (xs : List ℕ) (i : ℕ) → length xs ≤ i → bind (drop i xs) g ≡ []
+  bind-drop-end xs i h = ap (λ (l : List ℕ). bind l g) (drop-of-length-le xs {i = i} h)
+
+  -- from the last to the first
+  pub bind-back-step : (s e : ℕ) → s < e → bind (reverse (range s e)) g ≡ g (e - 1) ++ bind (reverse (range s (e - 1))) g
+  bind-back-step s e h = ap (λ (l : List ℕ). bind l g) (reverse-range s e h)
+
+  pub bind-back-end : (s e : ℕ) → e ≤ s → bind (reverse (range s e)) g ≡ []
+  bind-back-end s e h = ap (λ (l : List ℕ). bind (reverse l) g) (range-none s e h)
 
 -- ---- a list of different numbers below n has at most n
 

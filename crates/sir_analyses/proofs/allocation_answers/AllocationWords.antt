@@ -1,16 +1,19 @@
 -- The locals that an allocation owns as a set, and the words of its answer.
-use mathlib.Core.Path.{_≡_, refl, sym, ap, _∙_}
-use mathlib.Core.Bool.{Bool, true, false, _&&_, _||_, not}
+use mathlib.Core.Path.{_≡_, refl, sym, ap, _∙_, ap₂}
+use mathlib.Core.Bool.{Bool, true, false, _&&_, _||_, not, and-true, and-false, or-false, or-comm}
 use mathlib.Core.List.{List, [], _∷_, _++_, append-nil, append-assoc}
-use Prim.Native.Nat.{ℕ, _+_, _-_, _*_, _/_, _%_, _≤_, _<_}
+use Prim.Native.Nat.{ℕ, _+_, _-_, _*_, _/_, _%_, _<_}
 use native.Mathlib.Omega.{arith}
 use native.Mathlib.Numerals.{add-one}
 use lib.ListN.{length, getD, replicate, length-append}
 use lib.Dec.{eqb, ltb}
-use borrow.Author.Tests.{eqb-true, eqb-false, lt-ltb, le-ltb, ltb-true, ltb-false}
+use borrow.Author.Tests.{le-ltb, ltb-true, ltb-false}
 use Rattle.plank_core.specs.Lists.{upto, oneIf}
 use Rattle.plank_core.specs.inner.DenseIndexSet.{contains, added}
 use Rattle.plank_core.specs.laws.DenseIndexSet.{contains-added, contains-cleared}
+use Rattle.plank_core.specs.laws.Prefixes as Prefixes
+use Rattle.plank_core.specs.laws.Lists.{oneIf-told}
+use Rattle.plank_core.specs.laws.Folds.{bind-long}
 use Rattle.sir_data.specs.Records.{blocks, operations, locals, code, outs}
 use Rattle.sir_data.specs.Codes.{isAlloc}
 use Rattle.sir_data.specs.inner.WellFormed.{WellFormed}
@@ -27,19 +30,12 @@ use Rattle.sir_analyses.proofs.claims.liveness.GenKill.{beyond}
 use Rattle.sir_analyses.proofs.claims.marks.Marks.{reach-length}
 use Rattle.sir_analyses.proofs.merged_intervals.SweepProof.{sweep-merged}
 use Rattle.sir_analyses.proofs.allocation_liveness.Discovery.{sites-long, alloc-op, site-op, site-block}
-use Rattle.sir_analyses.proofs.answers.Writing.{puts-as, puts-then, puts-past}
+use Rattle.sir_analyses.proofs.answers.Writing.{puts-as, puts-then}
 
 -- ---- the locals below v for which a test holds
 
 abbrev pub Below : (ℕ → Bool) → ℕ → List ℕ → Type 0
 Below own v set = (u : ℕ) → u < 512 → contains set u ≡ (ltb u v && own u)
-
-pub below-next : (u v : ℕ) → (u ≡ v → ⊥) → ltb u (v + 1) ≡ ltb u v
-below-next u v n = go (ltb u v) refl
-  where
-    go : (t : Bool) → ltb u v ≡ t → ltb u (v + 1) ≡ t
-    go true e = lt-ltb u (v + 1) (omega (arith, ltb-true u v e))
-    go false e = le-ltb u (v + 1) (let h : v ≤ u = ltb-false u v e in omega (arith, n))
 
 pub below-none : (own : ℕ → Bool) (set : List ℕ) → set ≡ replicate 8 0 → Below own 0 set
 below-none own set e u h = ap (λ (l : List ℕ). contains l u) e ∙ contains-cleared 8 u ∙ rw (le-ltb u 0 (omega arith)) refl
@@ -47,18 +43,18 @@ below-none own set e u h = ap (λ (l : List ℕ). contains l u) e ∙ contains-c
 module _ (own : ℕ → Bool) (set : List ℕ) (v : ℕ) (b : Below own v set) where
   pub below-more : (set′ : List ℕ) → length set ≡ 8 → set′ ≡ added set v → own v ≡ true → Below own (v + 1) set′
   below-more set′ long e t u h =
-      ap (λ (l : List ℕ). contains l u) e ∙ contains-added set v u (omega arith) ∙ go (eqb u v) refl
-    where
-      go : (x : Bool) → eqb u v ≡ x → (x || contains set u) ≡ (ltb u (v + 1) && own u)
-      go true q = let p : u ≡ v = eqb-true u v q in rw (p, lt-ltb v (v + 1) (omega arith), t) refl
-      go false q = b u h ∙ ap (λ (x : Bool). x && own u) (sym (below-next u v (eqb-false u v q)))
+      ap (λ (l : List ℕ). contains l u) e
+      ∙ contains-added set v u (omega arith)
+      ∙ or-comm (eqb u v) (contains set u)
+      ∙ ap₂ (λ (x y : Bool). x || y) (b u h) (sym (ap (λ (x : Bool). eqb u v && x) t ∙ and-true (eqb u v)))
+      ∙ Prefixes.below-more u v own
 
   pub below-on : own v ≡ false → Below own (v + 1) set
-  below-on f u h = go (eqb u v) refl
-    where
-      go : (x : Bool) → eqb u v ≡ x → contains set u ≡ (ltb u (v + 1) && own u)
-      go true q = let p : u ≡ v = eqb-true u v q in b u h ∙ rw (p, le-ltb v v (omega arith), lt-ltb v (v + 1) (omega arith), f) refl
-      go false q = b u h ∙ ap (λ (x : Bool). x && own u) (sym (below-next u v (eqb-false u v q)))
+  below-on f u h =
+      b u h
+      ∙ sym (or-false (ltb u v && own u))
+      ∙ ap (λ (x : Bool). (ltb u v && own u) || x) (sym (ap (λ (x : Bool). eqb u v && x) f ∙ and-false (eqb u v)))
+      ∙ Prefixes.below-more u v own
 
 -- ---- the reach of an unmarked allocation, and its merged intervals
 
@@ -75,15 +71,10 @@ module _ {w owner marks : List ℕ} (good : WellFormed w) (d : Discovered w owne
 
 -- the array of marks tells
 pub mark-told : {w owner marks : List ℕ} → Discovered w owner marks → {a : ℕ} → a < length (allocs w) → {told t : Bool} → told ≡ not (eqb (getD marks a 0) 0) → told ≡ t → marked w a ≡ t
-mark-told {w} d {a} l p q = sym (flag (marked w a)) ∙ ap (λ (k : ℕ). not (eqb k 0)) (sym (d .mark-is a l)) ∙ sym p ∙ q
-  where
-    flag : (m : Bool) → not (eqb (oneIf m) 0) ≡ m
-    flag true = refl
-    flag false = refl
+mark-told {w} d {a} l p q = sym (oneIf-told (marked w a)) ∙ ap (λ (k : ℕ). not (eqb k 0)) (sym (d .mark-is a l)) ∙ sym p ∙ q
 
 pub interval-count : (is : List Interval) → length (intervalWords is) ≡ 3 * length is
-interval-count [] = refl
-interval-count (i ∷ is) = let h = interval-count is in omega arith
+interval-count is = bind-long (λ i. i .block ∷ i .from ∷ i .to ∷ []) 3 is (λ i. refl)
 
 -- ---- the answer: its head, then the intervals
 
@@ -118,6 +109,9 @@ module _ (w : List ℕ) {a b o : ℕ} (good : WellFormed w) (x : Site w a b o) w
       rw (x .op-is, x .block-is, p, q)
       (ap (λ (l : List ℕ). allocAt w a .block ∷ allocAt w a .op ∷ base w (allocAt w a) ∷ l) (append-assoc (kindWords (kindOf w (allocAt w a .op))) (oneIf (marked w a) ∷ length (merged w a) ∷ []) (intervalWords (merged w a))))
 
+  pub answer-long : length (allocationAnswer w a) ≡ 8 + length (intervalWords (merged w a))
+  answer-long = sym (ap length (head-is (oneIf (marked w a)) (length (merged w a)) refl refl)) ∙ length-append (headWords w b o (oneIf (marked w a)) (length (merged w a))) (intervalWords (merged w a)) ∙ rw (head-long w b o (oneIf (marked w a)) (length (merged w a)))
+
   pub marked-answer : marked w a ≡ true → headWords w b o 1 0 ≡ allocationAnswer w a
   marked-answer t = sym (append-nil (headWords w b o 1 0)) ∙ ap (λ (is : List Interval). headWords w b o 1 0 ++ intervalWords is) (sym none) ∙ head-is 1 0 (rw t refl) (rw none refl)
     where
@@ -135,17 +129,14 @@ module _ {w set : List ℕ} {b o a : ℕ} (good : WellFormed w) (x : Unmarked w 
   swept : {r : ℕ} {out out′ : List ℕ} → Sweeps w set out out′ r → Puts 8 (intervalWords (merged w a)) out out′ r
   swept p = puts-as (ap intervalWords (sweep-merged w good a (x .unmarked))) (p (reach w (allocAt w a)) (reach-length w good a) (x .same))
 
-  pub answer-long : length (allocationAnswer w a) ≡ 8 + length (intervalWords (merged w a))
-  answer-long = sym (ap length (head-is w good (x .site) (oneIf (marked w a)) (length (merged w a)) refl refl)) ∙ length-append (headWords w b o (oneIf (marked w a)) (length (merged w a))) (intervalWords (merged w a)) ∙ rw (head-long w b o (oneIf (marked w a)) (length (merged w a)))
-
   -- counting gives the number of words
   pub swept-count : {n : ℕ} {out counted : List ℕ} → Sweeps w set out counted n → n ≡ length (allocationAnswer w a)
-  swept-count p = let q = swept p in omega (arith, q .next, answer-long)
+  swept-count p = let q = swept p in omega (arith, q .next, answer-long w good (x .site))
 
   pub swept-answer : {n m r : ℕ} {out headed left : List ℕ} → n ≡ length (allocationAnswer w a)
       → Puts 0 (headWords w b o 0 ((n - 8) / 3)) out headed m → Sweeps w set headed left r → Puts 0 (allocationAnswer w a) out left r
   swept-answer {n} {m} {r} {out} {headed} {left} e p q =
-      let z : (n - 8) / 3 ≡ length (merged w a) = omega (arith, e, answer-long, interval-count (merged w a)) in
+      let z : (n - 8) / 3 ≡ length (merged w a) = omega (arith, e, answer-long w good (x .site), interval-count (merged w a)) in
       let g : m ≡ 8 = omega (arith, p .next, head-long w b o 0 ((n - 8) / 3)) in
       let p′ : Puts 0 (headWords w b o 0 ((n - 8) / 3)) out headed 8 = rw g at p in
       puts-as (head-is w good (x .site) 0 ((n - 8) / 3) (rw (x .unmarked) refl) z) (puts-then p′ (swept q))

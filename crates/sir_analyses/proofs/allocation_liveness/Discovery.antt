@@ -13,7 +13,7 @@ use Rattle.plank_core.specs.laws.Loops.{upto-suc, range-next, range-none, map-a
 use Rattle.plank_core.specs.inner.DenseIndexSet.{contains, wordOf, setOf, emptySet, added, fresh}
 use Rattle.plank_core.specs.laws.Distinct.{fresh-all, fresh-step, fresh-stop, fresh-end}
 use Rattle.plank_core.specs.laws.DenseIndexSet.{length-added}
-use Rattle.sir_data.specs.Records.{operations, locals, blockWord, ops, code, outs}
+use Rattle.sir_data.specs.Records.{operations, locals, blockWord, ops, code}
 use Rattle.sir_data.specs.Codes.{isAlloc}
 use Rattle.sir_data.specs.inner.WellFormed.{WellFormed}
 use Rattle.sir_analyses.specs.Order.{blocksRpo}
@@ -22,8 +22,8 @@ use Rattle.sir_analyses.specs.inner.Discovery.{allocSite, allocSites, bl
 use Rattle.sir_analyses.proofs.Accepted.{listed-op}
 use Rattle.sir_analyses.proofs.claims.marks.Marks.{allocOf, alloc-known, alloc-in, base-less}
 use Rattle.plank_core.specs.laws.Folds.{foldl-snoc}
-use Rattle.sir_analyses.proofs.claims.source.Steps.{zeros-at}
 use Rattle.sir_analyses.proofs.allocation_liveness.Linking.{set-both, set-most}
+use Rattle.sir_analyses.proofs.Tables.{zero-at}
 
 -- ---- operation by operation
 
@@ -175,8 +175,8 @@ bases-long w a =
 module _ (w : List ℕ) where
   pub owned-none : {owner : List ℕ} → owner ≡ replicate 512 0 → OwnedTo w owner 0
   owned-none {owner} e = record {
-    same = λ v h. ap (λ (l : List ℕ). getD l v 0) e ∙ zeros-at 512 v ∙ sym (zeros-at (locals w) v);
-    most = λ v. omega (arith, ap (λ (l : List ℕ). getD l v 0) e ∙ zeros-at 512 v);
+    same = λ v h. ap (λ (l : List ℕ). getD l v 0) e ∙ zero-at 512 v ∙ sym (zero-at (locals w) v);
+    most = λ v. omega (arith, ap (λ (l : List ℕ). getD l v 0) e ∙ zero-at 512 v);
     long = ap length e ∙ length-replicate {A = ℕ} 512 0;
   }
 

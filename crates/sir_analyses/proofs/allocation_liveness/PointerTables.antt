@@ -6,14 +6,14 @@ use Prim.Native.Nat.{ℕ, _+_, _-_, _≤_, _<_}
 use native.Mathlib.Omega.{arith}
 use native.Mathlib.Numerals.{add-one}
 use lib.ListN.{length, getD, set, take, drop, replicate, length-set, length-replicate}
-use lib.Seq.{getD-take, getD-drop, getD-set-same, getD-set-other, take-suc, take-all, drop-set-lt}
+use lib.Seq.{getD-take, getD-set-same, getD-set-other, take-suc, take-all, drop-set-lt}
 use Rattle.plank_core.specs.Lists.{foldl}
 use Rattle.plank_core.specs.inner.DenseIndexSet.{contains}
 use Rattle.sir_data.specs.Records.{locals}
 use Rattle.sir_analyses.specs.Allocation.{allocs, allocAt, base, bases}
 use Rattle.sir_analyses.specs.inner.Pointers.{PointerRows}
 use Rattle.sir_analyses.specs.Propagation.{State, linkLocal, follow}
-use Rattle.sir_analyses.specs.inner.Discovery.{zeros, Room, StepTaken, linksIn, Propagated}
+use Rattle.sir_analyses.specs.inner.Discovery.{zeros, Room, StepTaken, linksIn}
 use Rattle.sir_analyses.specs.inner.Stages.{part, sitesIn, ownersIn, marksIn, workIn, leftIn, SitesStored, PointerRoom, PointerStep, PointersFollowed, AcceptedStage, PointerStage}
 use Rattle.sir_analyses.proofs.stages.Parts.{part-none, part-most, part-get, part-next, part-shorter, part-drop, part-set, part-set-low, part-set-high, putBack, put-part, put-before, put-long, put-low, put-high}
 use Rattle.sir_analyses.proofs.local_liveness.LivenessTables.{cleared-part, cleared-drop}
@@ -105,7 +105,6 @@ module _ {p : List ℕ} (R : PointerRoom p) {v a : ℕ} (hv : v < 512) (ha : a <
     linked-other d i e =
         let old = getD p (514 + v) 0 - 1 in
         let two = set one (1026 + a) 1 in
-        let three = set two (1026 + old) 1 in
         let o : getD (ownersIn p) v 0 - 1 ≡ old = ap (λ (k : ℕ). k - 1) owned in
         let S = link-other (R .room) hv ha (λ q. z (sym owned ∙ q)) (λ q. d (sym owned ∙ q)) in
         let tl : length two ≡ 2051 = length-set one (1026 + a) 1 ∙ one-long in

@@ -1,7 +1,7 @@
 -- What the tables of operands, of use and def sets and of predecessors hold, step by step.
 use mathlib.Core.Path.{_≡_, refl, sym, ap, _∙_}
 use mathlib.Core.Logic.{⊎-elim}
-use mathlib.Core.Bool.{Bool, true, false, not, _&&_, _||_, or-true, or-false, or-comm, and-true, and-comm, and-or-distrib-left}
+use mathlib.Core.Bool.{Bool, true, false, not, _&&_, _||_, or-true, or-false, or-comm, and-true, and-comm, and-or-distrib-left, and-false}
 use mathlib.Core.List.{List, [], _∷_, List·Memᴰ·head, List·Memᴰ·tail, List·Memᴰ·append-cases}
 use Prim.Native.Nat.{ℕ, _+_, _*_, _≤_, _<_}
 use native.Mathlib.Omega.{arith}
@@ -43,11 +43,7 @@ module _ {w : List ℕ} (good : WellFormed w) where
   read-none v xs [] h k l = above v xs h k
   read-none v xs (o ∷ os) h k l =
       rw (above v (ins w o) h (λ x. good .in-range .read o x (l o (List·Memᴰ·head refl))), read-none v xs os h k (λ p m. l p (List·Memᴰ·tail m)))
-      (go (mem v (outs w o)))
-    where
-      go : (t : Bool) → (not t && false) ≡ false
-      go true = refl
-      go false = refl
+      (and-false (not (mem v (outs w o))))
 
   defined-none : (v : ℕ) (os : List ℕ) → locals w ≤ v → ((o : ℕ) → o ∈ os → o < operations w) → defined w os v ≡ false
   defined-none v [] h l = refl

@@ -19,8 +19,9 @@ use Rattle.sir_analyses.specs.Liveness.{Use, positions, usesIn}
 use Rattle.sir_analyses.specs.Answers.{usesAnswer}
 use Rattle.sir_analyses.proofs.claims.order.OrderProof.{blocks-below}
 use Rattle.sir_analyses.proofs.claims.order.OrderLength.{blocks-most}
-use Rattle.plank_core.specs.laws.Folds.{bind-most, bind-each}
+use Rattle.plank_core.specs.laws.Folds.{bind-most, bind-each, bind-long, bind-map}
 use Rattle.sir_analyses.specs.inner.Uses.{InputCounts, repeatedUses, operationUses, conditionUses, outputUses, blockUses, usesOf}
+use Rattle.sir_analyses.proofs.Accepted.{ops-few}
 
 -- ---- the places of a local in a list
 
@@ -62,13 +63,9 @@ module _ (b o : ℕ) where
   pub same-end : (i n : ℕ) → n ≤ i → sameLeft i n ≡ []
   same-end i n h = rw (range-none i n h)
 
-triples : {A : Type 0} (g : A → List ℕ) (xs : List A) → ((x : A) → length (g x) ≡ 3) → length (bind xs g) ≡ 3 * length xs
-triples g [] h = refl
-triples g (x ∷ xs) h = omega (arith, length-append (g x) (bind xs g), h x, triples g xs h)
-
 pub repeated-uses-length : (b o n : ℕ) → length (repeatedUses b o n) ≡ 3 * n
 unfolding repeatedUses
-repeated-uses-length b o n = triples (λ k. b ∷ 0 ∷ o ∷ []) (upto n) (λ x. refl) ∙ ap (λ (k : ℕ). 3 * k) (length-count 0 n)
+repeated-uses-length b o n = bind-long (λ k. b ∷ 0 ∷ o ∷ []) 3 (upto n) (λ x. refl) ∙ ap (λ (k : ℕ). 3 * k) (length-count 0 n)
 
 -- ---- a block's operations in turn
 
@@ -134,13 +131,7 @@ module _ (w : List ℕ) (v b : ℕ) where
   pub no-condition-use : mem v (condition w b) ≡ false → conditionUses w v b ≡ []
   no-condition-use e = single v (condition w b) (λ k. b ∷ 1 ∷ 0 ∷ []) (condition-one w b) false e
 
--- ---- a block after the other, and all of it is the answer
-
-pub block-next : {B : Type 0} (g : ℕ → List B) (rpo : List ℕ) (i : ℕ) → i < length rpo → bind (drop i rpo) g ≡ g (getD rpo i 0) ++ bind (drop (i + 1) rpo) g
-block-next g rpo i h = ap (λ (l : List ℕ). bind l g) (drop-cons rpo i 0 h ∙ ap (λ (k : ℕ). getD rpo i 0 ∷ drop k rpo) (sym (add-one i)))
-
-pub block-end : {B : Type 0} (g : ℕ → List B) (rpo : List ℕ) (i : ℕ) → length rpo ≤ i → bind (drop i rpo) g ≡ []
-block-end g rpo i h = ap (λ (l : List ℕ). bind l g) (drop-of-length-le rpo {i = i} h)
+-- ---- all of it is the answer
 
 -- a fixed list, as often as a list is long
 fixed : (c xs ys : List ℕ) → length xs ≡ length ys → bind xs (λ k. c) ≡ bind ys (λ k. c)
@@ -152,10 +143,6 @@ fixed c (x ∷ xs) (y ∷ ys) e = ap (λ (l : List ℕ). c ++ l) (fixed c xs ys 
 -- the three words of a use
 abbrev useWords : Use → List ℕ
 useWords u = u .block ∷ u .kind ∷ u .place ∷ []
-
-bind-map : (f : ℕ → Use) (xs : List ℕ) → bind (map f xs) useWords ≡ bind xs (λ k. useWords (f k))
-bind-map f [] = refl
-bind-map f (x ∷ xs) = ap (λ (l : List ℕ). useWords (f x) ++ l) (bind-map f xs)
 
 -- the words of the uses by block b's operations, each place of v among the inputs
 abbrev pub operationWords : List ℕ → ℕ → ℕ → List ℕ
@@ -173,10 +160,10 @@ answer-blocks w v = bind-bind (usesIn w v) useWords (blocksRpo w) ∙ bind-same 
         let a : bind A useWords ≡ operationWords w v b =
         bind-bind (λ o. map (λ k. record { block = b; kind = 0; place = o }) (positions v (ins w o) 0)) useWords (ops w b)
         ∙ bind-same (λ o. bind (map (λ k. record { block = b; kind = 0; place = o }) (positions v (ins w o) 0)) useWords) (λ o. bind (positions v (ins w o) 0) (λ k. b ∷ 0 ∷ o ∷ [])) (ops w b)
-        (λ o. bind-map (λ k. record { block = b; kind = 0; place = o }) (positions v (ins w o) 0)) in
+        (λ o. bind-map (λ k. record { block = b; kind = 0; place = o }) useWords (positions v (ins w o) 0)) in
         bind-append useWords (A ++ C) D
-        ∙ ap₂ (λ x y. x ++ y) (bind-append useWords A C ∙ ap₂ (λ x y. x ++ y) a (bind-map (λ k. record { block = b; kind = 1; place = 0 }) (positions v (condition w b) 0)))
-        (bind-map (λ k. record { block = b; kind = 2; place = k }) (positions v (outputs w b) 0))
+        ∙ ap₂ (λ x y. x ++ y) (bind-append useWords A C ∙ ap₂ (λ x y. x ++ y) a (bind-map (λ k. record { block = b; kind = 1; place = 0 }) useWords (positions v (condition w b) 0)))
+        (bind-map (λ k. record { block = b; kind = 2; place = k }) useWords (positions v (outputs w b) 0))
 
 module _ (w : List ℕ) (good : WellFormed w) (v : ℕ) {counts : List ℕ} (k : InputCounts w v counts) where
   operation-words : (b : ℕ) → b < blocks w → operationUses w counts b ≡ operationWords w v b
@@ -199,18 +186,16 @@ module _ (w : List ℕ) (good : WellFormed w) (v : ℕ) {counts : List ℕ} (k :
   block-most : (b : ℕ) → b < blocks w → length (blockUses w counts v b) ≤ 12595203
   unfolding operationUses
   block-most b l =
-      let r = good .in-range .ops-range b l in
       omega (
         arith,
         length-append (operationUses w counts b ++ conditionUses w v b) (outputUses w v b),
         length-append (operationUses w counts b) (conditionUses w v b),
         bind-most (λ o. repeatedUses b o (getD counts o 0)) 12288 (ops w b) (λ o m. same-most b o (good .in-range .op b o l m)),
-        length-count (blockWord w b 4) (blockWord w b 5 - blockWord w b 4),
-        good .sized .operations-most,
-        triples (λ k. b ∷ 1 ∷ 0 ∷ []) (positions v (condition w b) 0) (λ x. refl),
+        ops-few w good b l,
+        bind-long (λ k. b ∷ 1 ∷ 0 ∷ []) 3 (positions v (condition w b) 0) (λ x. refl),
         places-most v (condition w b) 0,
         condition-one w b,
-        triples (λ k. b ∷ 2 ∷ k ∷ []) (positions v (outputs w b) 0) (λ x. refl),
+        bind-long (λ k. b ∷ 2 ∷ k ∷ []) 3 (positions v (outputs w b) 0) (λ x. refl),
         places-most v (outputs w b) 0,
         outputs-most w v b 0 good l,
       )

@@ -1,6 +1,6 @@
 -- A block's intervals of one local, as the step over its operations finds them.
 use mathlib.Core.Path.{_≡_, refl, sym, ap, ap₂, _∙_}
-use mathlib.Core.Bool.{Bool, true, false, _&&_, cond}
+use mathlib.Core.Bool.{Bool, true, false, _&&_, cond, _||_}
 use mathlib.Core.List.{List, [], _∷_, _++_, foldr, append-nil, append-assoc}
 use Prim.Native.Nat.{ℕ, suc, _+_, _*_, _≤_, _<_}
 use native.Mathlib.Omega.{arith}
@@ -11,10 +11,19 @@ use lib.Dec.{eqb}
 use Rattle.plank_core.specs.Lists.{mem}
 use Rattle.plank_core.specs.inner.DenseIndexSet.{contains}
 use Rattle.sir_data.specs.Records.{operations, ops, ins, outs}
-use Rattle.sir_analyses.specs.Liveness.{Interval, Scan, closing, close, scanOp}
+use Rattle.sir_analyses.specs.Liveness.{Interval, Scan, closing, close, scanOp, blockEnd, endOpen}
 use Rattle.sir_analyses.specs.Answers.{intervalWords}
 use Rattle.sir_analyses.specs.inner.Tables.{OperandRows}
 use Rattle.sir_analyses.specs.inner.Scanning.{openBefore, closedBy, scanWords}
+
+-- ---- the end that is open after the operations
+
+-- the block's, for what is in one of two sets
+pub end-either : (s t : Bool) → cond t blockEnd (cond s blockEnd 0) ≡ endOpen (s || t)
+end-either true true = refl
+end-either true false = refl
+end-either false true = refl
+end-either false false = refl
 
 -- ---- one step of the definition
 

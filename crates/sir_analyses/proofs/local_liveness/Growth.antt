@@ -1,7 +1,7 @@
 -- Laws of tables that grow: whether a step, or several one after the other, add a member.
 use mathlib.Core.Path.{_≡_, refl, sym, ap, ap₂, _∙_}
 use mathlib.Core.Logic.{⊎-elim}
-use mathlib.Core.Bool.{Bool, true, false, not, _&&_, _||_, or-false}
+use mathlib.Core.Bool.{Bool, true, false, not, _&&_, _||_, or-false, and-not-self}
 use mathlib.Core.List.{List}
 use Prim.Native.Nat.{ℕ, _+_, _*_, _/_, _%_, _≤_, _<_}
 use native.Mathlib.Omega.{arith}
@@ -26,7 +26,6 @@ module _ (n : ℕ) {t : List ℕ} {p : ℕ → ℕ → Bool} {t′ : List ℕ} (
   pub grew-in : Fresh n t p → grew n t t′ ≡ true
   unfolding grew
   grew-in f =
-      let b = f .below in
       let s = f .small in
       any-some (λ k. contains t′ k && not (contains t k)) 0 (512 * n) (512 * f .row + f .place) (omega arith) (omega arith)
       (both-true (contains t′ (512 * f .row + f .place)) (not (contains t (512 * f .row + f .place)))
@@ -38,7 +37,6 @@ module _ (n : ℕ) {t : List ℕ} {p : ℕ → ℕ → Bool} {t′ : List ℕ} (
   grew-out g =
       let w = any-find (λ k. contains t′ k && not (contains t k)) 0 (512 * n) g in
       let k : ℕ = w .0 in
-      let l : k < 512 * n = omega (arith, w .2) in
       let e : 512 * (k / 512) + k % 512 ≡ k = omega arith in
       let z : contains t (512 * (k / 512) + k % 512) ≡ false = ap (contains t) e ∙ not-true (contains t k) (and-true-right (contains t′ k) (not (contains t k)) (w .3)) in
       let y : contains t′ (512 * (k / 512) + k % 512) ≡ true = ap (contains t′) e ∙ and-true-left (contains t′ k) (not (contains t k)) (w .3) in
@@ -63,11 +61,7 @@ grew-not n t t′ g more k l =
 
 pub same-grew : (n : ℕ) (t t′ : List ℕ) → ((k : ℕ) → k < 512 * n → contains t′ k ≡ contains t k) → grew n t t′ ≡ false
 unfolding grew
-same-grew n t t′ h = any-none (λ k. contains t′ k && not (contains t k)) 0 (512 * n) (λ k a b. ap (λ (x : Bool). x && not (contains t k)) (h k (omega arith)) ∙ go (contains t k))
-  where
-    go : (x : Bool) → (x && not x) ≡ false
-    go true = refl
-    go false = refl
+same-grew n t t′ h = any-none (λ k. contains t′ k && not (contains t k)) 0 (512 * n) (λ k a b. ap (λ (x : Bool). x && not (contains t k)) (h k (omega arith)) ∙ and-not-self (contains t k))
 
 -- ---- the two functions of layer 1
 

@@ -13,10 +13,10 @@ use Rattle.plank_core.specs.laws.DenseIndexSet.{length-union}
 use Rattle.sir_data.specs.Records.{blocks, operations, ops, ins, outs}
 use Rattle.sir_data.specs.inner.WellFormed.{WellFormed}
 use Rattle.sir_analyses.specs.Liveness.{Set, has, useSet, defSet}
-use Rattle.sir_analyses.specs.inner.Tables.{Adds, OperandRows, RangeSets, BlockRows, EndRows, PredecessorRows, LiveRows, Stepped}
+use Rattle.sir_analyses.specs.inner.Tables.{Adds, OperandRows, RangeSets, BlockRows, EndRows, PredecessorRows, Stepped}
 use Rattle.sir_analyses.specs.inner.Stages.{part, readsIn, writesIn, usesIn, defsIn, endsIn, exitsIn, predsIn, sentIn, LivenessStage, Emptied, BlockAdded, Passing, PassStep, ExitsFound}
-use Rattle.sir_analyses.proofs.stages.Parts.{length-part, part-drop, same-front, same-back, putBack, put-part, put-before, put-after, put-long, put-low, put-high}
-use Rattle.sir_analyses.proofs.Tables.{Filled, filled-starts, filled-more, filled-not, filled-ends, cleared-long}
+use Rattle.sir_analyses.proofs.stages.Parts.{length-part, part-drop, same-front, putBack, put-part, put-before, put-after, put-long, put-low, put-high}
+use Rattle.sir_analyses.proofs.Tables.{Filled, filled-starts, filled-more, filled-ends, cleared-long}
 use Rattle.sir_analyses.proofs.block_sets.BlockSets.{row-defined}
 use Rattle.sir_analyses.proofs.local_liveness.Passes.{stepped-as, stepped-then, stepped-none, Settling, settling-starts}
 use Rattle.sir_analyses.proofs.local_liveness.SetAnswers.{exit-members, entry-members}

@@ -2,7 +2,7 @@
 use mathlib.Core.Path.{_≡_, refl, sym, ap, ap₂, subst, _∙_}
 use mathlib.Core.Logic.{⊎-elim}
 use mathlib.Core.Bool.{Bool, true, false, not, _||_, cond}
-use mathlib.Core.List.{List, [], _∷_, reverse, reverse-cons}
+use mathlib.Core.List.{List, [], reverse, reverse-cons}
 use Prim.Native.Nat.{ℕ, suc, _+_, _-_, _*_, _/_, _%_, _≤_, _<_}
 use native.Mathlib.Omega.{arith}
 use native.Mathlib.Nat.{mul-le-mul}
@@ -15,10 +15,10 @@ use Rattle.plank_core.specs.inner.DenseIndexSet.{contains}
 use Rattle.sir_data.specs.Records.{blocks, locals}
 use Rattle.sir_data.specs.inner.WellFormed.{WellFormed}
 use Rattle.sir_analyses.specs.Order.{blocksRpo}
-use Rattle.sir_analyses.specs.Liveness.{Set, has, sameSet, sameRows, rowOf, back, pass, noExits, settle, settled, rounds}
+use Rattle.sir_analyses.specs.Liveness.{Set, has, sameRows, rowOf, back, pass, noExits, settle, settled, rounds}
 use Rattle.sir_analyses.specs.inner.Tables.{SameRows, More, grew, Shown, SentOn, Stepped}
 use Rattle.sir_analyses.proofs.SetLaws.{has-less}
-use Rattle.sir_analyses.proofs.claims.liveness.RowLaws.{Under, total, total-le, total-rises, same-rows, empty-row, empty-shape}
+use Rattle.sir_analyses.proofs.claims.liveness.RowLaws.{Under, total, total-le, total-rises, same-rows, empty-row, empty-shape, rows-self}
 use Rattle.sir_analyses.proofs.Tables.{cleared-row, cleared-long}
 use Rattle.sir_analyses.proofs.local_liveness.Growth.{grew-join, grew-not, same-grew}
 use Rattle.plank_core.specs.laws.Folds.{foldl-snoc}
@@ -76,15 +76,6 @@ from-next w order k p h e =
     ∙ ap (λ (j : ℕ). back w (from w order j e) (getD order (k - 1) 0)) q)
 
 -- ---- tables of sets that are shown
-
-same-self : (s : Set) → sameSet s s ≡ true
-same-self [] = refl
-same-self (true ∷ s) = same-self s
-same-self (false ∷ s) = same-self s
-
-rows-self : (e : List Set) → sameRows e e ≡ true
-rows-self [] = refl
-rows-self (s ∷ e) = rw (same-self s) (rows-self e)
 
 module _ {w : List ℕ} (good : WellFormed w) where
   module _ {t t′ : List ℕ} {e e′ : List Set} (s : Shown w t e) (s′ : Shown w t′ e′) where

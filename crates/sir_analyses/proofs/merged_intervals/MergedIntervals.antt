@@ -10,7 +10,7 @@ use lib.Seq.{sets-eq, drop-at, length-take-le}
 use lib.Dec.{eqb}
 use Rattle.plank_core.specs.Lists.{bind, keep, range, upto, mem, any}
 use Rattle.plank_core.specs.laws.Lists.{and-true-left, and-true-right, both-true, same-tests, any-some, any-find}
-use Rattle.plank_core.specs.laws.Loops.{range-next, range-none, range-all, bind-bind, lent-end}
+use Rattle.plank_core.specs.laws.Loops.{range-all, bind-bind, lent-end}
 use Rattle.plank_core.specs.inner.DenseIndexSet.{contains, meets}
 use Rattle.plank_core.specs.inner.DenseIndexSet as Words
 use Rattle.plank_core.specs.laws.DenseIndexSet.{contains-row, contains-cleared, set-union, set-difference, length-union, length-difference}
@@ -28,6 +28,7 @@ use Rattle.sir_analyses.proofs.claims.liveness.GenKill.{length-through}
 use Rattle.sir_analyses.proofs.claims.lifetimes.Scans.{liveIn}
 use Rattle.sir_analyses.proofs.claims.liveness.LivenessProof.{exit-size}
 use Rattle.sir_analyses.proofs.merged_intervals.SweepProof.{has-meet, nonempty-has, has-nonempty, sweep-live, sweep-listed}
+use Rattle.sir_analyses.proofs.predecessors.Edges.{visited-step, unvisited-step, visited-end}
 
 -- ---- words
 
@@ -198,15 +199,6 @@ module _ (w : List ℕ) (s : Set) where
       ap intervalWords (sweep-listed w s 0 (blocks w)) ∙ bind-bind (λ b. sweepBlock w s b []) (λ i. i .block ∷ i .from ∷ i .to ∷ []) (keep (isVisited w) (upto (blocks w)))
       ∙ ap (λ (bs : List ℕ). bind (keep (isVisited w) bs) inBlock) (sym (range-all (blocks w)))
 
-  pub left-in : (b : ℕ) → b < blocks w → isVisited w b ≡ true → blocksLeft b ≡ inBlock b ++ blocksLeft (b + 1)
-  left-in b l t = ap (λ (bs : List ℕ). bind (keep (isVisited w) bs) inBlock) (range-next b (blocks w) l) ∙ rw t
-
-  pub left-out : (b : ℕ) → b < blocks w → isVisited w b ≡ false → blocksLeft b ≡ blocksLeft (b + 1)
-  left-out b l t = ap (λ (bs : List ℕ). bind (keep (isVisited w) bs) inBlock) (range-next b (blocks w) l) ∙ rw t
-
-  pub left-none : (b : ℕ) → blocks w ≤ b → blocksLeft b ≡ []
-  left-none b l = ap (λ (bs : List ℕ). bind (keep (isVisited w) bs) inBlock) (range-none b (blocks w) l)
-
 -- what is lent of an array from r on
 pub lent-most : (run : List ℕ) (k r : ℕ) → length run ≡ k → length (take (k - r) (drop r run)) ≤ k
 lent-most run k r e = omega (arith, length-take (k - r) (drop r run), length-drop r run)
@@ -229,11 +221,11 @@ module _ {w reach : List ℕ} {n : ℕ} {out₀ : List ℕ} {b : ℕ} {out : Lis
       record {
         long = puts-long p ∙ g .long;
         few = omega (arith, p .next, g .few);
-        puts = λ s e same. putting-more (putting-as (left-in w s b l t) (g .puts s e same)) (puts-as (ap (λ (n : ℕ). take (n - r) (drop r run)) (sym k) ∙ lent-end r run ∙ f s e same) p);
+        puts = λ s e same. putting-more (putting-as (visited-step w (inBlock w s) b (blocks w) l t) (g .puts s e same)) (puts-as (ap (λ (n : ℕ). take (n - r) (drop r run)) (sym k) ∙ lent-end r run ∙ f s e same) p);
       }
 
   pub populating-on : b < blocks w → isVisited w b ≡ false → Populating w reach n out₀ (b + 1) out m
-  populating-on l t = record { long = g .long; few = omega (arith, g .few); puts = λ s e same. putting-as (left-out w s b l t) (g .puts s e same) }
+  populating-on l t = record { long = g .long; few = omega (arith, g .few); puts = λ s e same. putting-as (unvisited-step w (inBlock w s) b (blocks w) l t) (g .puts s e same) }
 
   pub populating-all : blocks w ≤ b → (s : Set) → length s ≡ locals w → Same reach s → Puts n (intervalWords (sweepFrom w s (upto (blocks w)))) out₀ out m
-  populating-all l s e same = putting-all (left-none w s b l) (g .puts s e same)
+  populating-all l s e same = putting-all (visited-end w (inBlock w s) b (blocks w) l) (g .puts s e same)

@@ -1,7 +1,7 @@
 -- The sweep gives the merged intervals.
 use mathlib.Core.Path.{_≡_, refl, sym, _∙_, ap}
 use mathlib.Core.Logic.{_↔_, _⊎_, inl, inr}
-use mathlib.Core.Bool.{Bool, true, false, not, _&&_, _||_, cond, and-assoc, and-or-distrib-left}
+use mathlib.Core.Bool.{Bool, true, false, not, _&&_, _||_, cond, and-assoc, and-or-distrib-left, and-false}
 use Prim.Native.Nat.{ℕ, zero, suc, _+_, _-_, _≤_, _<_}
 use native.Mathlib.Omega.{arith}
 use mathlib.Core.List.{List, [], _∷_, _++_, foldr, List·Memᴰ, List·Memᴰ·head, List·Memᴰ·tail, List·Memᴰ·not-nil, List·Memᴰ·append-cases}
@@ -31,11 +31,7 @@ use Rattle.sir_analyses.proofs.merged_intervals.SweepSteps.{Ahead, end-
 
 pub has-meet : (r s : Set) (v : ℕ) → has (meet r s) v ≡ (has r v && has s v)
 has-meet [] s v = refl
-has-meet (x ∷ r) [] v = go (has (x ∷ r) v)
-  where
-    go : (t : Bool) → false ≡ (t && false)
-    go true = refl
-    go false = refl
+has-meet (x ∷ r) [] v = sym (and-false (has (x ∷ r) v))
 has-meet (x ∷ r) (y ∷ s) zero = refl
 has-meet (x ∷ r) (y ∷ s) (suc v) = has-meet r s v
 

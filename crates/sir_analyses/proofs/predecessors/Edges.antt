@@ -1,17 +1,15 @@
 -- Edges and predecessors, one by one.
-use mathlib.Core.Path.{_≡_, refl, sym, ap, _∙_}
+use mathlib.Core.Path.{_≡_, refl, ap, _∙_}
 use mathlib.Core.Bool.{Bool, true, false, cond}
 use mathlib.Core.List.{List, [], _∷_, _++_, map}
 use Prim.Native.Nat.{ℕ, zero, suc, _+_, _*_, _≤_, _<_}
-use native.Mathlib.Numerals.{add-one}
 use native.Mathlib.Omega.{arith}
 use lib.ListN.{length, getD, drop, length-append, length-map, drop-of-length-le}
-use lib.Seq.{drop-cons}
 use lib.Dec.{eqb}
 use borrow.Author.Tests.{eq-eqb, ne-eqb, eqb-true}
 use Rattle.plank_core.specs.Lists.{count, range, upto, bind, keep}
 use Rattle.plank_core.specs.laws.Lists.{keep-most, keep-out, mem-upto}
-use Rattle.plank_core.specs.laws.Loops.{range-next, range-none, length-count, length-map-count}
+use Rattle.plank_core.specs.laws.Loops.{range-next, range-none, length-count, length-map-count, drop-next}
 use Rattle.sir_data.specs.Records.{blocks, control, field, target, optional, successors}
 use Rattle.sir_data.specs.inner.WellFormed.{WellFormed}
 use Rattle.sir_analyses.specs.Order.{isVisited, edgesFrom, predecessors}
@@ -24,7 +22,7 @@ module _ (w : List ℕ) (p b : ℕ) where
 
   module _ (i : ℕ) (h : i < length (successors w p)) where
     next : edgesLeft i ≡ map (λ s. p) (keep (λ s. eqb s b) (getD (successors w p) i 0 ∷ drop (i + 1) (successors w p)))
-    next = ap (λ (l : List ℕ). map (λ s. p) (keep (λ s. eqb s b) l)) (drop-cons (successors w p) i 0 h ∙ ap (λ (k : ℕ). getD (successors w p) i 0 ∷ drop k (successors w p)) (sym (add-one i)))
+    next = ap (λ (l : List ℕ). map (λ s. p) (keep (λ s. eqb s b) l)) (drop-next i (successors w p) h)
 
     pub edge-here : getD (successors w p) i 0 ≡ b → edgesLeft i ≡ (p ∷ []) ++ edgesLeft (i + 1)
     edge-here e = next ∙ rw (eq-eqb (getD (successors w p) i 0) b e)
@@ -53,15 +51,6 @@ module _ (w : List ℕ) (b p n : ℕ) where
   -- the predecessors from block p on
   abbrev pub predecessorsLeft : List ℕ
   predecessorsLeft = visitedLeft w (λ q. edgesFrom w q b) p n
-
-  pub visited-next : p < n → isVisited w p ≡ true → predecessorsLeft ≡ edgesFrom w p b ++ bind (keep (isVisited w) (range (p + 1) n)) (λ q. edgesFrom w q b)
-  visited-next = visited-step w (λ q. edgesFrom w q b) p n
-
-  pub unvisited-next : p < n → isVisited w p ≡ false → predecessorsLeft ≡ bind (keep (isVisited w) (range (p + 1) n)) (λ q. edgesFrom w q b)
-  unvisited-next = unvisited-step w (λ q. edgesFrom w q b) p n
-
-  pub none-left : n ≤ p → predecessorsLeft ≡ []
-  none-left = visited-end w (λ q. edgesFrom w q b) p n
 
 -- ---- how many predecessors a block can have
 

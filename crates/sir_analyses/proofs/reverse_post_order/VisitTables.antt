@@ -1,6 +1,6 @@
 -- The visit in its flat array: the order's sequence, and which blocks were visited.
-use mathlib.Core.Path.{_≡_, refl, sym, ap, _∙_}
-use mathlib.Core.Bool.{Bool, true, false, not}
+use mathlib.Core.Path.{_≡_, sym, ap, _∙_}
+use mathlib.Core.Bool.{true, false, not}
 use mathlib.Core.List.{List}
 use Prim.Native.Nat.{ℕ, _+_, _≤_, _<_}
 use native.Mathlib.Omega.{arith}
@@ -10,11 +10,12 @@ use lib.Seq.{getD-set-same, getD-set-other}
 use lib.Dec.{eqb}
 use Rattle.plank_core.specs.Lists.{oneIf}
 use Rattle.plank_core.specs.inner.DenseIndexSet.{contains}
+use Rattle.plank_core.specs.laws.Lists.{oneIf-told}
 use Rattle.sir_data.specs.Records.{blocks}
 use Rattle.sir_data.specs.inner.WellFormed.{WellFormed}
-use Rattle.sir_analyses.specs.Order.{blocksRpo, isVisited}
+use Rattle.sir_analyses.specs.Order.{isVisited}
 use Rattle.sir_analyses.specs.inner.Visiting.{VisitedAll, blocksIn, Listed}
-use Rattle.sir_analyses.specs.inner.Stages.{part, rpoIn, visitedIn, VisitStage}
+use Rattle.sir_analyses.specs.inner.Stages.{part, VisitStage}
 use Rattle.sir_analyses.proofs.stages.Parts.{length-part, part-get, part-shorter, part-set-low, putBack, put-part, put-long, put-low, put-high}
 use Rattle.sir_analyses.proofs.local_liveness.LivenessTables.{cleared-part}
 use Rattle.sir_analyses.proofs.loading.Loads.{blocks-fit, rpo-is}
@@ -108,9 +109,5 @@ module _ {w seen postorder : List ℕ} {n : ℕ} (good : WellFormed w) (v : Visi
           rpo-is = ap (λ (k : ℕ). part 1 k (set two 0 m)) count ∙ part-shorter 1 m 256 (set two 0 m) blocks-few ∙ ap (take m) front ∙ rpo-is good v l;
           visited-is = λ b h.
               ap (λ (k : ℕ). not (eqb k 0)) (sym (part-get 257 256 b (set two 0 m) (omega (arith, good .sized .blocks-most))) ∙ ap (λ (t : List ℕ). getD t b 0) back ∙ F .1 b h ∙ ap oneIf (sym (v .shows .blocks-seen b (omega (arith, good .sized .blocks-most)))))
-              ∙ flag (isVisited w b);
+              ∙ oneIf-told (isVisited w b);
         }
-      where
-        flag : (t : Bool) → not (eqb (oneIf t) 0) ≡ t
-        flag true = refl
-        flag false = refl

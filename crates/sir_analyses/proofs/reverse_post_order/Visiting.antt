@@ -74,7 +74,6 @@ fuel w = functions w + blocks w
 same-unseen : {w : List ℕ} → WellFormed w → (seen seen₁ : List ℕ) → ((x : ℕ) → x < 1024 → contains seen₁ x ≡ contains seen x) → unseen w seen₁ ≡ unseen w seen
 unfolding unseen
 same-unseen {w} ok seen seen₁ h =
-    let s = ok .sized in
     ap₂ (λ x y. x + y)
     (missing-same (functions w) (contains seen) (contains seen₁) (λ i l. h i (omega arith)))
     (missing-same (blocks w) (λ b. contains seen (512 + b)) (λ b. contains seen₁ (512 + b)) (λ i l. h (512 + i) (omega arith)))
@@ -106,7 +105,6 @@ module _ {w : List ℕ} (ok : WellFormed w) {seen postorder : List ℕ} {n : ℕ
   pub enter-function : (f : ℕ) → f < functions w → seen₁ ≡ added seen f → contains seen f ≡ false → Entered w (λ v. seeFunction v f) seen postorder n seen₁
   unfolding unseen
   enter-function f l e t =
-      let s = ok .sized in
       let g = put seen seen₁ f (held .wide) e in
       let o = other seen seen₁ f (held .wide) e in
       let fewer : unseen w seen₁ + 1 ≡ unseen w seen =
@@ -128,7 +126,6 @@ module _ {w : List ℕ} (ok : WellFormed w) {seen postorder : List ℕ} {n : ℕ
   pub enter-block : (b : ℕ) → b < blocks w → seen₁ ≡ added seen (512 + b) → contains seen (512 + b) ≡ false → Entered w (λ v. seeBlock v b) seen postorder n seen₁
   unfolding unseen
   enter-block b l e t =
-      let s = ok .sized in
       let g = put seen seen₁ (512 + b) (held .wide) e in
       let o = other seen seen₁ (512 + b) (held .wide) e in
       let fewer : unseen w seen₁ + 1 ≡ unseen w seen =

@@ -9,12 +9,12 @@ use lib.Seq.{take-at, drop-at, drop-drop, length-take-le}
 use lib.Dec.{leb}
 use borrow.Author.Tests.{le-leb, lt-leb, leb-true}
 use Rattle.plank_core.specs.Lists.{bind}
+use Rattle.plank_core.specs.laws.Folds.{bind-long}
 use Rattle.sir_data.specs.Pages.{bytesOf}
 use Rattle.sir_analyses.specs.inner.Writing.{wordPut, wordsPut}
 
 pub length-bytes : (xs : List ℕ) → length (bind xs bytesOf) ≡ 4 * length xs
-length-bytes [] = refl
-length-bytes (x ∷ xs) = let h = length-bytes xs in omega arith
+length-bytes xs = bind-long bytesOf 4 xs (λ x. refl)
 
 put-past : (limit n x : ℕ) (out : List ℕ) → limit < 4 * n + 4 → wordPut limit n x out ≡ out
 unfolding wordPut

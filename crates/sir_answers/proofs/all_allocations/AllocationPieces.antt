@@ -2,16 +2,16 @@
 use mathlib.Core.Path.{_≡_, refl, sym, ap, ap₂, _∙_}
 use mathlib.Core.Logic.{_≢_}
 use mathlib.Core.Bool.{Bool, true, false, not, _&&_, cond, and-false}
-use mathlib.Core.List.{List, [], _∷_, _++_, foldr, reverse, append-nil, append-assoc, reverse-append, List·Memᴰ·head, List·Memᴰ·tail, List·Memᴰ·eq-of-singleton}
+use mathlib.Core.List.{List, [], _∷_, _++_, foldr, reverse, append-nil, append-assoc, List·Memᴰ·head, List·Memᴰ·tail, List·Memᴰ·eq-of-singleton}
 use Prim.Native.Nat.{ℕ, zero, suc, _+_, _-_, _*_, _≤_, _<_}
 use native.Mathlib.Numerals.{add-one}
 use native.Mathlib.Omega.{arith}
 use lib.ListN.{length, replicate, length-append, length-replicate}
 use lib.Dec.{eqb, ltb}
-use borrow.Author.Tests.{eq-eqb, ne-eqb, eqb-true, eqb-false, lt-ltb, le-ltb}
+use borrow.Author.Tests.{ne-eqb, lt-ltb, le-ltb}
 use Rattle.plank_core.specs.Lists.{count, upto, range, bind, keep, oneIf, _∈_}
 use Rattle.plank_core.specs.laws.Lists.{refuted, and-true-left, mem-upto, keep-out, keep-most, reverse-out}
-use Rattle.plank_core.specs.laws.Loops.{length-count, upto-suc, range-none, keep-append, bind-snoc, bind-bind, reverse-snoc}
+use Rattle.plank_core.specs.laws.Loops.{length-count, upto-suc, range-none, keep-append, bind-bind, reverse-snoc, reverse-range}
 use Rattle.sir_data.specs.Records.{blocks, locals, blockWord, ops}
 use Rattle.sir_data.specs.inner.WellFormed.{WellFormed}
 use Rattle.sir_analyses.specs.Order.{isVisited}
@@ -19,105 +19,30 @@ use Rattle.sir_analyses.specs.Liveness.{Set, has, members, Interval, intervals,
 use Rattle.sir_analyses.specs.Allocation.{allocs, allocAt, reach, marked, sort, merge, merged}
 use Rattle.sir_analyses.specs.Answers.{intervalWords, allocationAnswer}
 use Rattle.sir_analyses.specs.inner.Sweep.{meet, nonempty, Sweep, sweepEnd, sweepOp, sweepBlock, sweepFrom, note}
-use Rattle.sir_answers.specs.inner.Scatter.{Pieces, piecesOf, Direction, forward, backward, moved, numberAt, Below, Fits, Scatters}
+use Rattle.sir_answers.specs.inner.Scatter.{Pieces, piecesOf, Direction, backward, moved, numberAt, Below, Fits, Scatters}
 use Rattle.sir_analyses.specs.inner.Stages.{PointerStage}
 use Rattle.sir_analyses.specs.inner.Discovery.{Site, headWords}
 use Rattle.sir_answers.specs.inner.IntervalPieces.{intervalPieces, closedPieces}
 use Rattle.sir_answers.specs.inner.AllocationPieces.{ownReach, sweptTo, livesAt, sweptEnd, sweptBy, sweptPieces, runPieces, openPieces, sweepPieces, visitedPieces, headOf, headPieces, recordPieces}
-use Rattle.sir_answers.specs.laws.Scatter.{pieces-append, length-in-order}
+use Rattle.sir_answers.specs.laws.Scatter.{length-in-order, moved-none}
 use Rattle.sir_analyses.proofs.SetLaws.{none-in}
 use Rattle.plank_core.specs.laws.Folds.{bind-most, bind-each}
-use Rattle.sir_answers.proofs.scatter.PieceLaws.{below-append, below-bind}
+use Rattle.sir_answers.proofs.scatter.PieceLaws.{below-append, below-bind, back-append, back-bind, back-upto}
 use Rattle.sir_analyses.proofs.claims.liveness.LivenessProof.{exit-size}
 use Rattle.sir_analyses.proofs.claims.marks.Marks.{reach-length}
 use Rattle.sir_analyses.proofs.claims.lifetimes.Scans.{liveIn}
 use Rattle.sir_analyses.proofs.local_intervals.Scanning.{closing-few}
 use Rattle.sir_analyses.proofs.merged_intervals.SweepProof.{has-meet, nonempty-has, sweep-live, sweep-listed, sweep-merged}
 use Rattle.sir_analyses.proofs.merged_intervals.MergedIntervals.{shut-words, note-words}
-use Rattle.sir_analyses.proofs.allocation_answers.AllocationWords.{head-is, head-long}
+use Rattle.sir_analyses.proofs.allocation_answers.AllocationWords.{head-is, answer-long}
 use Rattle.sir_analyses.proofs.allocation_liveness.PointerTables.{allocations-few}
 use Rattle.sir_answers.proofs.scatter.AllAnswers.{Small, scatters-cursor}
-use Rattle.sir_answers.proofs.all_intervals.IntervalPieces.{closed-below, reverse-next}
+use Rattle.sir_answers.proofs.all_intervals.IntervalPieces.{closed-below, intervals-own}
+use Rattle.sir_analyses.proofs.Accepted.{ops-few}
 
 -- ---- the pieces for one id, from the last to the first
 
--- is a piece for v?
-abbrev pub ownPiece : ℕ → ℕ × List ℕ → Bool
-ownPiece v p = eqb (p .0) v
-
-pieces-keep : (v : ℕ) (ps : Pieces) → piecesOf v ps ≡ bind (keep (ownPiece v) ps) (λ p. p .1)
-pieces-keep v [] = refl
-pieces-keep v (p ∷ ps) = go (eqb (p .0) v) (pieces-keep v ps)
-  where
-    go : (t : Bool) → piecesOf v ps ≡ bind (keep (ownPiece v) ps) (λ p. p .1) → cond t (p .1) [] ++ piecesOf v ps ≡ bind (cond t (p ∷ keep (ownPiece v) ps) (keep (ownPiece v) ps)) (λ p. p .1)
-    go true e = ap (λ (l : List ℕ). p .1 ++ l) e
-    go false e = e
-
-keep-reverse : {A : Type 0} (f : A → Bool) (xs : List A) → keep f (reverse xs) ≡ reverse (keep f xs)
-keep-reverse f [] = refl
-keep-reverse {A} f (x ∷ xs) = ap (keep f) (reverse-append (x ∷ []) xs) ∙ keep-append f (reverse xs) (x ∷ []) ∙ ap (λ (l : List A). l ++ keep f (x ∷ [])) (keep-reverse f xs) ∙ go (f x)
-  where
-    go : (t : Bool) → reverse (keep f xs) ++ cond t (x ∷ []) [] ≡ reverse (cond t (x ∷ keep f xs) (keep f xs))
-    go true = sym (reverse-append (x ∷ []) (keep f xs))
-    go false = append-nil (reverse (keep f xs))
-
-pieces-back : (v : ℕ) (ps : Pieces) → piecesOf v (reverse ps) ≡ bind (reverse (keep (ownPiece v) ps)) (λ p. p .1)
-pieces-back v ps = pieces-keep v (reverse ps) ∙ ap (λ (l : Pieces). bind l (λ p. p .1)) (keep-reverse (ownPiece v) ps)
-
-back-append : (v : ℕ) (ps qs : Pieces) → piecesOf v (reverse (ps ++ qs)) ≡ piecesOf v (reverse qs) ++ piecesOf v (reverse ps)
-back-append v ps qs = ap (piecesOf v) (reverse-append ps qs) ∙ pieces-append v (reverse qs) (reverse ps)
-
-back-bind : {A : Type 0} (v : ℕ) (g : A → Pieces) (xs : List A) → piecesOf v (reverse (bind (reverse xs) g)) ≡ bind xs (λ x. piecesOf v (reverse (g x)))
-back-bind v g [] = refl
-back-bind {A} v g (x ∷ xs) =
-    ap (λ (l : List A). piecesOf v (reverse (bind l g))) (reverse-append (x ∷ []) xs)
-    ∙ ap (λ (l : Pieces). piecesOf v (reverse l)) (bind-snoc g (reverse xs) x)
-    ∙ back-append v (bind (reverse xs) g) (g x)
-    ∙ ap (λ (l : List ℕ). piecesOf v (reverse (g x)) ++ l) (back-bind v g xs)
-
--- of pieces by id, those for one id are its own
-module _ (v : ℕ) (g : ℕ → Pieces) (own : (u : ℕ) → keep (ownPiece v) (g u) ≡ cond (eqb u v) (g u) []) where
-  other-own : (u : ℕ) → u ≢ v → keep (ownPiece v) (g u) ≡ []
-  other-own u h = own u ∙ ap (λ (t : Bool). cond t (g u) []) (ne-eqb u v h)
-
-  same-own : keep (ownPiece v) (g v) ≡ g v
-  same-own = own v ∙ ap (λ (t : Bool). cond t (g v) []) (eq-eqb v v refl)
-
-  none-own : (s n : ℕ) → v < s → keep (ownPiece v) (bind (count s n) g) ≡ []
-  none-own s zero h = refl
-  none-own s (suc n) h =
-      keep-append (ownPiece v) (g s) (bind (count (suc s) n) g)
-      ∙ ap₂ (λ (xs ys : Pieces). xs ++ ys) (other-own s (λ e. omega arith)) (none-own (suc s) n (omega arith))
-
-  count-own : (s n : ℕ) → s ≤ v → v < s + n → keep (ownPiece v) (bind (count s n) g) ≡ g v
-  count-own s zero l h = absurd (omega arith)
-  count-own s (suc n) l h = keep-append (ownPiece v) (g s) (bind (count (suc s) n) g) ∙ go (eqb s v) refl (count-own (suc s) n)
-    where
-      go : (t : Bool) → eqb s v ≡ t → (suc s ≤ v → v < suc s + n → keep (ownPiece v) (bind (count (suc s) n) g) ≡ g v)
-          → keep (ownPiece v) (g s) ++ keep (ownPiece v) (bind (count (suc s) n) g) ≡ g v
-      go true e rest =
-          let q : s ≡ v = eqb-true s v e in
-          ap₂ (λ (xs ys : Pieces). xs ++ ys) (ap (λ (u : ℕ). keep (ownPiece v) (g u)) q ∙ same-own) (none-own (suc s) n (omega arith)) ∙ append-nil (g v)
-      go false e rest =
-          let q : s ≡ v → ⊥ = eqb-false s v e in
-          ap₂ (λ (xs ys : Pieces). xs ++ ys) (other-own s q) (rest (omega arith) (omega arith))
-
-  pub back-upto : (n : ℕ) → v < n → piecesOf v (reverse (bind (upto n) g)) ≡ bind (reverse (g v)) (λ p. p .1)
-  back-upto n h = pieces-back v (bind (upto n) g) ∙ ap (λ (l : Pieces). bind (reverse l) (λ p. p .1)) (count-own 0 n (omega arith) (omega arith))
-
-intervals-own : (v u : ℕ) (is : List Interval) → keep (ownPiece v) (intervalPieces u is) ≡ cond (eqb u v) (intervalPieces u is) []
-intervals-own v u [] = go (eqb u v)
-  where
-    go : (t : Bool) → [] ≡ cond t (intervalPieces u []) []
-    go true = refl
-    go false = refl
-intervals-own v u (i ∷ is) = go (eqb u v) (intervals-own v u is)
-  where
-    go : (t : Bool) → keep (ownPiece v) (intervalPieces u is) ≡ cond t (intervalPieces u is) []
-        → cond t ((u, i .block ∷ i .from ∷ i .to ∷ []) ∷ keep (ownPiece v) (intervalPieces u is)) (keep (ownPiece v) (intervalPieces u is)) ≡ cond t (intervalPieces u (i ∷ is)) []
-    go true e = ap (λ (l : Pieces). (u, i .block ∷ i .from ∷ i .to ∷ []) ∷ l) e
-    go false e = e
-
+-- of what is closed for all ids, that for v
 closed-back : (v b from : ℕ) (ends : ℕ → ℕ) → v < 512 → piecesOf v (reverse (closedPieces b from ends (upto 512))) ≡ intervalWords (closing b from (ends v))
 closed-back v b from ends h = back-upto v (λ u. intervalPieces u (closing b from (ends u))) (λ u. intervals-own v u (closing b from (ends u))) 512 h ∙ go (eqb (ends v) 0)
   where
@@ -292,7 +217,7 @@ module _ (w : List ℕ) (good : WellFormed w) where
   block-few b a l =
       let c : Scan = sweptTo w b a (ops w b) .spans in
       let e = ap length (shut-words b 0 c) ∙ length-append (intervalWords (closing b 0 (c .open′))) (intervalWords (c .closed)) in
-      omega (arith, e, closing-few b 0 (c .open′), closed-few b a (ops w b), length-count (blockWord w b 4) (blockWord w b 5 - blockWord w b 4), good .in-range .ops-range b l, good .sized .operations-most)
+      omega (arith, e, closing-few b 0 (c .open′), closed-few b a (ops w b), ops-few w good b l)
 
   pub merged-few : (a : ℕ) → a < length (allocs w) → length (intervalWords (merged w a)) ≤ 787200
   merged-few a l =
@@ -313,7 +238,7 @@ module _ (w : List ℕ) (b : ℕ) where
   sweptLeft s o = bind (reverse (range s o)) (sweptPieces w b) ++ openPieces w b
 
   pub swept-next : (s o : ℕ) → s < o → sweptLeft s o ≡ sweptPieces w b (o - 1) ++ sweptLeft s (o - 1)
-  swept-next s o h = ap (λ (l : List ℕ). bind l (sweptPieces w b) ++ openPieces w b) (reverse-next s o h) ∙ append-assoc (sweptPieces w b (o - 1)) (bind (reverse (range s (o - 1))) (sweptPieces w b)) (openPieces w b)
+  swept-next s o h = ap (λ (l : List ℕ). bind l (sweptPieces w b) ++ openPieces w b) (reverse-range s o h) ∙ append-assoc (sweptPieces w b (o - 1)) (bind (reverse (range s (o - 1))) (sweptPieces w b)) (openPieces w b)
 
   pub swept-last : (s o : ℕ) → o ≤ s → sweptLeft s o ≡ openPieces w b ++ []
   swept-last s o h = ap (λ (l : List ℕ). bind (reverse l) (sweptPieces w b) ++ openPieces w b) (range-none s o h) ∙ sym (append-nil (openPieces w b))
@@ -352,11 +277,7 @@ pub other-cursor : {d : Direction} {a : ℕ} {xs cursors out cursors′ out′ :
 other-cursor {d} {a} {xs} {cursors} u n h s =
     scatters-cursor u h s
     ∙ ap (λ (t : Bool). moved d (numberAt cursors u) (length (cond t xs [] ++ []))) (ne-eqb a u n)
-    ∙ still d (numberAt cursors u)
-  where
-    still : (d : Direction) (c : ℕ) → moved d c 0 ≡ c
-    still forward c = omega arith
-    still backward c = omega arith
+    ∙ moved-none d (numberAt cursors u)
 
 -- ---- what the machine of all answers asks
 
@@ -365,13 +286,7 @@ module _ {w pointers : List ℕ} (stage : PointerStage w pointers) where
   records-are a l = record-pieces w (stage .well-formed) a l (omega (arith, allocations-few stage))
 
   pub records-small : Small (length (allocs w)) (allocationAnswer w)
-  records-small = record { ids = omega (arith, allocations-few stage); words = λ a l. omega (arith, long a l, merged-few w (stage .well-formed) a l) }
-    where
-      long : (a : ℕ) → a < length (allocs w) → length (allocationAnswer w a) ≡ 8 + length (intervalWords (merged w a))
-      long a l =
-          sym (ap length (head-is w (stage .well-formed) (record { known = l; block-is = refl; op-is = refl }) (oneIf (marked w a)) (length (merged w a)) refl refl))
-          ∙ length-append (headOf w a) (intervalWords (merged w a))
-          ∙ ap (λ (k : ℕ). k + length (intervalWords (merged w a))) (head-long w (allocAt w a .block) (allocAt w a .op) (oneIf (marked w a)) (length (merged w a)))
+  records-small = record { ids = omega (arith, allocations-few stage); words = λ a l. omega (arith, answer-long w (stage .well-formed) (record { known = l; block-is = refl; op-is = refl }), merged-few w (stage .well-formed) a l) }
 
   pub records-counted : (a : ℕ) → a < length (allocs w) → length (piecesOf a (recordPieces w)) ≡ length (allocationAnswer w a)
   records-counted a l = sym (length-in-order backward a (recordPieces w)) ∙ ap length (records-are a l)

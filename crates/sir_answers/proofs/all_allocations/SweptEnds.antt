@@ -1,14 +1,14 @@
 -- The ends that are open for the allocations in a block, as its operations are passed backwards with the live set.
 use mathlib.Core.Path.{_≡_, refl, sym, ap, ap₂, _∙_}
-use mathlib.Core.Bool.{Bool, true, false, not, _&&_, _||_, cond, and-false}
-use mathlib.Core.List.{List, [], _∷_, map}
+use mathlib.Core.Bool.{Bool, true, false, not, _&&_, _||_, cond, and-false, or-false, and-true}
+use mathlib.Core.List.{List, [], _∷_, map, Memᴰ·map}
 use Prim.Native.Nat.{ℕ, zero, suc, _+_, _*_, _≤_, _<_}
 use native.Mathlib.Omega.{arith}
 use lib.ListN.{length, replicate}
 use lib.Dec.{eqb}
-use borrow.Author.Tests.{eq-eqb, eqb-true, eqb-false}
-use Rattle.plank_core.specs.Lists.{count, upto, range, mem, any, _∈_}
-use Rattle.plank_core.specs.laws.Lists.{or-false-left, or-false-right, or-true-right, and-true-left, and-true-right, any-find}
+use borrow.Author.Tests.{eqb-true, not-true, not-false}
+use Rattle.plank_core.specs.Lists.{count, range, mem, any}
+use Rattle.plank_core.specs.laws.Lists.{or-false-left, or-false-right, and-true-left, and-true-right, any-find, in-mem, mem-in, refuted, none}
 use Rattle.plank_core.specs.inner.DenseIndexSet.{contains, members, meets, rowOf}
 use Rattle.plank_core.specs.laws.DenseIndexSet.{contains-row}
 use Rattle.sir_data.specs.Records.{blocks, operations, locals, blockWord, ops}
@@ -43,18 +43,10 @@ open-lives w b a [] = go (livesAt w b a [])
 open-lives w b a (o ∷ os) = note-open b o (livesAt w b a (o ∷ os)) (sweptTo w b a os .spans)
 
 none-open : (w : List ℕ) (b a : ℕ) (os : List ℕ) → livesAt w b a os ≡ false → sweptEnd w b a os ≡ 0
-none-open w b a os e = go (eqb (sweptEnd w b a os) 0) refl
-  where
-    go : (t : Bool) → eqb (sweptEnd w b a os) 0 ≡ t → sweptEnd w b a os ≡ 0
-    go true z = eqb-true (sweptEnd w b a os) 0 z
-    go false z = absurd (let q : _≡_ {A = ℕ} 0 1 = cc (open-lives w b a os) in omega arith)
+none-open w b a os e = eqb-true (sweptEnd w b a os) 0 (not-false (eqb (sweptEnd w b a os) 0) (open-lives w b a os ∙ e))
 
 some-open : (w : List ℕ) (b a : ℕ) (os : List ℕ) → livesAt w b a os ≡ true → eqb (sweptEnd w b a os) 0 ≡ false
-some-open w b a os e = go (eqb (sweptEnd w b a os) 0) refl
-  where
-    go : (t : Bool) → eqb (sweptEnd w b a os) 0 ≡ t → t ≡ false
-    go true z = absurd (let q : _≡_ {A = ℕ} 0 1 = cc (open-lives w b a os) in omega arith)
-    go false z = refl
+some-open w b a os e = not-true (eqb (sweptEnd w b a os) 0) (open-lives w b a os ∙ e)
 
 -- ---- a set meets the same of two sets that differ only elsewhere
 
@@ -71,12 +63,7 @@ meets-same r s t e = go 0 512 (omega arith)
     go k (suc n) h = ap₂ (λ (x y : Bool). x || y) (one k (omega arith) (contains r k) refl) (go (suc k) n (omega arith))
 
 map-mem : (f : ℕ → ℕ) (v : ℕ) (vs : List ℕ) → mem v vs ≡ true → mem (f v) (map f vs) ≡ true
-map-mem f v [] e = e
-map-mem f v (x ∷ xs) e = go (eqb v x) refl e (map-mem f v xs)
-  where
-    go : (t : Bool) → eqb v x ≡ t → (t || mem v xs) ≡ true → (mem v xs ≡ true → mem (f v) (map f xs) ≡ true) → (eqb (f v) (f x) || mem (f v) (map f xs)) ≡ true
-    go true q r rest = rw (eq-eqb (f v) (f x) (ap f (eqb-true v x q)))
-    go false q r rest = or-true-right (eqb (f v) (f x)) (mem (f v) (map f xs)) (rest r)
+map-mem f v vs e = in-mem (f v) (Memᴰ·map f (mem-in v vs e))
 
 -- ---- the owners of some locals, put in two rows of an empty table
 
@@ -153,22 +140,14 @@ module _ {w live : List ℕ} (stage : LivenessStage w live) {owned : List ℕ} (
           ∙ lives-told os set k a h
         where
           apart : (v : ℕ) → ownerIn owned v ≡ a + 1 → mem v (x .touched) ≡ false
-          apart v q = go (mem v (x .touched)) refl
-            where
-              go : (t : Bool) → mem v (x .touched) ≡ t → t ≡ false
-              go true r = sym (map-mem (ownerIn owned) v (x .touched) r) ∙ ap (λ (i : ℕ). mem i (map (ownerIn owned) (x .touched))) q ∙ n
-              go false r = refl
+          apart v q = refuted (mem v (x .touched)) (λ r. none (ownsOne owned (x .touched) a) (ap (λ (i : ℕ). mem i (map (ownerIn owned) (x .touched))) (sym q) ∙ map-mem (ownerIn owned) v (x .touched) r) n)
 
           same : (v : ℕ) → v < 512 → ownerIn owned v ≡ a + 1 → contains set′ v ≡ contains set v
           same v h q =
               let c : Bool = contains (writesIn live) (512 * o + v) in
               let d : Bool = contains (readsIn live) (512 * o + v) in
               let z : (c || d) ≡ false = sym (x .touched-is v h (λ z. omega arith)) ∙ apart v q in
-              f v h ∙ rw (or-false-left c d z, or-false-right c d z) (kept (contains set v))
-            where
-              kept : (t : Bool) → ((t && true) || false) ≡ t
-              kept true = refl
-              kept false = refl
+              f v h ∙ rw (or-false-left c d z, or-false-right c d z) (or-false (contains set v && true) ∙ and-true (contains set v))
 
       told : (r a : ℕ) → r < 2 → a < 512 → contains (rowOf split r) a ≡ (ownsOne owned (x .touched) a && eqb r (cond (livesAt w b a (o ∷ os)) 0 1))
       told r a q h = contains-row split r a h ∙ x .split-is r a q h ∙ ap (λ (t : Bool). ownsOne owned (x .touched) a && eqb r (cond t 0 1)) (lives-told (o ∷ os) set′ (live-more long) a h)

@@ -1,23 +1,20 @@
 -- The pieces of the pass over blocks and operations: those for a local are its intervals.
 use mathlib.Core.Path.{_≡_, refl, sym, ap, ap₂, _∙_}
-use mathlib.Core.Logic.{⊎-elim, _≢_}
-use mathlib.Core.Bool.{Bool, true, false, not, _&&_, _||_, cond}
-use mathlib.Core.List.{List, [], _∷_, _++_, foldr, reverse, append-nil, reverse-append, List·Memᴰ, List·Memᴰ·head, List·Memᴰ·tail, List·Memᴰ·append-cases, List·Memᴰ·not-nil}
-use Prim.Native.Nat.{ℕ, zero, suc, _+_, _-_, _*_, _^_, _≤_, _<_}
+use mathlib.Core.Logic.{⊎-elim}
+use mathlib.Core.Bool.{Bool, true, false, _||_, cond}
+use mathlib.Core.List.{List, [], _∷_, _++_, foldr, reverse, reverse-append, List·Memᴰ·head, List·Memᴰ·tail, List·Memᴰ·not-nil}
+use Prim.Native.Nat.{ℕ, zero, suc, _+_, _-_, _*_, _≤_, _<_}
 use native.Mathlib.Numerals.{add-one}
 use native.Mathlib.Omega.{arith}
-use lib.ListN.{length, getD, drop, length-append, drop-of-length-le}
+use lib.ListN.{length, length-append}
 use lib.Dec.{eqb}
-use borrow.Author.Tests.{eq-eqb, ne-eqb, eqb-true, eqb-false}
 use Rattle.plank_core.specs.Lists.{count, upto, range, bind, keep, mem, _∈_}
-use Rattle.plank_core.specs.laws.Lists.{split, mem-not, mem-in, in-mem, same-tests, map-each, bind-out, mem-range}
-use Rattle.plank_core.specs.laws.Loops.{count-suc, length-count, range-none, drop-next, bind-snoc, bind-bind, reverse-snoc}
-use Rattle.plank_core.specs.inner.DenseIndexSet.{contains, members}
-use Rattle.plank_core.specs.laws.Members.{member-in, member-is}
+use Rattle.plank_core.specs.laws.Lists.{split, map-each, bind-out, mem-range}
+use Rattle.plank_core.specs.laws.Loops.{bind-snoc, bind-bind}
 use Rattle.sir_data.specs.Records.{blocks, operations, locals, blockWord, ops, ins, outs}
 use Rattle.sir_data.specs.inner.WellFormed.{WellFormed}
 use Rattle.sir_analyses.specs.Order.{blocksRpo}
-use Rattle.sir_analyses.specs.Liveness.{Set, has, exitSet, endReads, endOpen, Interval, Scan, closing, close, scanOp, blockIntervals}
+use Rattle.sir_analyses.specs.Liveness.{Set, has, exitSet, endReads, endOpen, Interval, Scan, closing, scanOp, blockIntervals}
 use Rattle.sir_analyses.specs.Answers.{intervalWords, intervalsAnswer}
 use Rattle.sir_analyses.specs.inner.Scanning.{openBefore, closedBy}
 use Rattle.sir_answers.specs.inner.Scatter.{Pieces, piecesOf, Below}
@@ -25,60 +22,38 @@ use Rattle.sir_answers.specs.inner.IntervalPieces.{intervalPieces, close
 use Rattle.sir_answers.specs.laws.Scatter.{pieces-append}
 use Rattle.sir_analyses.proofs.local_intervals.Scanning.{scan-open, scan-closed, words-append, closing-few}
 use Rattle.sir_analyses.proofs.claims.order.OrderLength.{rpo-below, blocks-most}
-use Rattle.plank_core.specs.laws.Folds.{bind-most, bind-each}
-use Rattle.sir_answers.proofs.scatter.PieceLaws.{below-append, below-bind}
+use Rattle.plank_core.specs.laws.Folds.{bind-most, bind-each, bind-map}
+use Rattle.sir_answers.proofs.scatter.PieceLaws.{below-append, below-bind, ownPiece, pieces-bind, pieces-upto}
 use Rattle.sir_answers.proofs.scatter.AllAnswers.{Small}
 use Rattle.sir_analyses.proofs.claims.liveness.GenKill.{beyond}
 use Rattle.sir_analyses.proofs.claims.liveness.LivenessProof.{exit-size}
 use Rattle.sir_analyses.proofs.block_sets.BlockSets.{above, end-below}
+use Rattle.sir_analyses.proofs.Accepted.{ops-few}
 
 -- ---- the pieces for one id
 
-pub pieces-bind : {A : Type 0} (v : ℕ) (g : A → Pieces) (xs : List A) → piecesOf v (bind xs g) ≡ bind xs (λ x. piecesOf v (g x))
-pieces-bind v g xs = bind-bind g (λ p. cond (eqb (p .0) v) (p .1) []) xs
+-- of the intervals of one id, all or none
+pub intervals-own : (v u : ℕ) (is : List Interval) → keep (ownPiece v) (intervalPieces u is) ≡ cond (eqb u v) (intervalPieces u is) []
+intervals-own v u [] = go (eqb u v)
+  where
+    go : (t : Bool) → [] ≡ cond t (intervalPieces u []) []
+    go true = refl
+    go false = refl
+intervals-own v u (i ∷ is) = go (eqb u v) (intervals-own v u is)
+  where
+    go : (t : Bool) → keep (ownPiece v) (intervalPieces u is) ≡ cond t (intervalPieces u is) []
+        → cond t ((u, i .block ∷ i .from ∷ i .to ∷ []) ∷ keep (ownPiece v) (intervalPieces u is)) (keep (ownPiece v) (intervalPieces u is)) ≡ cond t (intervalPieces u (i ∷ is)) []
+    go true e = ap (λ (l : Pieces). (u, i .block ∷ i .from ∷ i .to ∷ []) ∷ l) e
+    go false e = e
 
-pub own-pieces : (v : ℕ) (is : List Interval) → piecesOf v (intervalPieces v is) ≡ intervalWords is
-own-pieces v [] = refl
-own-pieces v (i ∷ is) = rw (eq-eqb v v refl) (ap (λ (l : List ℕ). i .block ∷ i .from ∷ i .to ∷ l) (own-pieces v is))
+own-words : (v : ℕ) (is : List Interval) → bind (intervalPieces v is) (λ p. p .1) ≡ intervalWords is
+own-words v is = bind-map (λ i. (v, i .block ∷ i .from ∷ i .to ∷ [])) (λ p. p .1) is
 
-pub other-pieces : (u v : ℕ) (is : List Interval) → u ≢ v → piecesOf v (intervalPieces u is) ≡ []
-other-pieces u v [] h = refl
-other-pieces u v (i ∷ is) h = rw (ne-eqb u v h) (other-pieces u v is h)
-
-module _ (v : ℕ) (f : ℕ → List Interval) where
-  none-before : (s n : ℕ) → v < s → piecesOf v (bind (count s n) (λ u. intervalPieces u (f u))) ≡ []
-  none-before s zero h = refl
-  none-before s (suc n) h =
-      pieces-append v (intervalPieces s (f s)) (bind (count (suc s) n) (λ u. intervalPieces u (f u)))
-      ∙ ap₂ (λ (xs ys : List ℕ). xs ++ ys) (other-pieces s v (f s) (λ e. omega arith)) (none-before (suc s) n (omega arith))
-
-  pieces-count : (s n : ℕ) → s ≤ v → v < s + n → piecesOf v (bind (count s n) (λ u. intervalPieces u (f u))) ≡ intervalWords (f v)
-  pieces-count s zero l h = absurd (omega arith)
-  pieces-count s (suc n) l h =
-      pieces-append v (intervalPieces s (f s)) (bind (count (suc s) n) (λ u. intervalPieces u (f u))) ∙ go (eqb s v) refl (pieces-count (suc s) n)
-    where
-      go : (t : Bool) → eqb s v ≡ t → (suc s ≤ v → v < suc s + n → piecesOf v (bind (count (suc s) n) (λ u. intervalPieces u (f u))) ≡ intervalWords (f v))
-          → piecesOf v (intervalPieces s (f s)) ++ piecesOf v (bind (count (suc s) n) (λ u. intervalPieces u (f u))) ≡ intervalWords (f v)
-      go true e rest =
-          let q : s ≡ v = eqb-true s v e in
-          ap₂ (λ (xs ys : List ℕ). xs ++ ys) (ap (λ (u : ℕ). piecesOf v (intervalPieces u (f u))) q ∙ own-pieces v (f v)) (none-before (suc s) n (omega arith)) ∙ append-nil (intervalWords (f v))
-      go false e rest =
-          let q : s ≡ v → ⊥ = eqb-false s v e in
-          ap₂ (λ (xs ys : List ℕ). xs ++ ys) (other-pieces s v (f s) q) (rest (omega arith) (omega arith))
-
-  -- of the intervals of all ids below n
-  pub pieces-upto : (n : ℕ) → v < n → piecesOf v (bind (upto n) (λ u. intervalPieces u (f u))) ≡ intervalWords (f v)
-  pieces-upto n h = pieces-count 0 n (omega arith) (omega arith)
+-- of the intervals of all ids below n, its own
+intervals-upto : (v : ℕ) (f : ℕ → List Interval) (n : ℕ) → v < n → piecesOf v (bind (upto n) (λ u. intervalPieces u (f u))) ≡ intervalWords (f v)
+intervals-upto v f n h = pieces-upto v (λ u. intervalPieces u (f u)) (λ u. intervals-own v u (f u)) n h ∙ own-words v (f v)
 
 -- ---- the operations of a block, backwards
-
-pub reverse-next : (s e : ℕ) → s < e → reverse (range s e) ≡ (e - 1) ∷ reverse (range s (e - 1))
-reverse-next s e h =
-    let n : e - s ≡ suc (e - 1 - s) = omega arith in
-    let l : s + (e - 1 - s) ≡ e - 1 = omega arith in
-    ap (λ (k : ℕ). reverse (count s k)) n
-    ∙ ap reverse (count-suc s (e - 1 - s) ∙ ap (λ (k : ℕ). count s (e - 1 - s) ++ (k ∷ [])) l)
-    ∙ reverse-snoc (count s (e - 1 - s)) (e - 1)
 
 module _ (w : List ℕ) (b v : ℕ) where
   -- the scan of one local from the block's end on
@@ -93,7 +68,7 @@ module _ (w : List ℕ) (b v : ℕ) where
   module _ (h : v < 512) where
     operation-of : (o : ℕ) → piecesOf v (operationPieces w b o) ≡ intervalWords (closing b (o + 1) (closedBy (mem v (outs w o)) (openEnd w b v (range (o + 1) (blockWord w b 5)))))
     unfolding operationPieces
-    operation-of o = pieces-upto v (λ u. closing b (o + 1) (closedBy (mem u (outs w o)) (openEnd w b u (range (o + 1) (blockWord w b 5))))) 512 h
+    operation-of o = intervals-upto v (λ u. closing b (o + 1) (closedBy (mem u (outs w o)) (openEnd w b u (range (o + 1) (blockWord w b 5))))) 512 h
 
     run-of : (n s : ℕ) → s + n ≡ blockWord w b 5 → piecesOf v (bind (reverse (count s n)) (operationPieces w b)) ≡ intervalWords (scanned (count s n) .closed)
     run-of zero s e = refl
@@ -119,7 +94,7 @@ module _ (w : List ℕ) (b v : ℕ) where
         pieces-append v (operationsPieces w b) (startPieces w b)
         ∙ ap₂ (λ (xs ys : List ℕ). xs ++ ys)
         (run-of (blockWord w b 5 - blockWord w b 4) (blockWord w b 4) (omega arith))
-        (pieces-upto v (λ u. closing b 0 (openEnd w b u (ops w b))) 512 h ∙ ap (λ (t : ℕ). intervalWords (closing b 0 t)) (sym (scanned-open (ops w b))))
+        (intervals-upto v (λ u. closing b 0 (openEnd w b u (ops w b))) 512 h ∙ ap (λ (t : ℕ). intervalWords (closing b 0 t)) (sym (scanned-open (ops w b))))
         ∙ sym (words-append (c .closed) (closing b 0 (c .open′)))
 
 -- ---- all blocks
@@ -196,28 +171,8 @@ pub intervals-few : {w : List ℕ} → WellFormed w → (v : ℕ) → length (in
 intervals-few {w} good v =
     let e : intervalsAnswer w v ≡ bind (blocksRpo w) (λ b. intervalWords (blockIntervals w (exitSet w b) v b)) = bind-bind (λ b. blockIntervals w (exitSet w b) v b) (λ i. i .block ∷ i .from ∷ i .to ∷ []) (blocksRpo w) in
     let f = bind-most (λ b. intervalWords (blockIntervals w (exitSet w b) v b)) 3075 (blocksRpo w)
-    (λ b m.
-    let l = rpo-below w good refl b m in
-    omega (arith, block-few w (exitSet w b) v b, length-count (blockWord w b 4) (blockWord w b 5 - blockWord w b 4), good .in-range .ops-range b l, good .sized .operations-most)) in
+    (λ b m. omega (arith, block-few w (exitSet w b) v b, ops-few w good b (rpo-below w good refl b m))) in
     omega (arith, ap length e, f, blocks-most w good, good .sized .blocks-most)
-
--- ---- the operations of a block, one after the other
-
-module _ (w : List ℕ) (b : ℕ) where
-  pub operations-next : (s o : ℕ) → s < o → bind (reverse (range s o)) (operationPieces w b) ≡ operationPieces w b (o - 1) ++ bind (reverse (range s (o - 1))) (operationPieces w b)
-  operations-next s o h = ap (λ (l : List ℕ). bind l (operationPieces w b)) (reverse-next s o h)
-
-  pub operations-end : (s o : ℕ) → o ≤ s → bind (reverse (range s o)) (operationPieces w b) ≡ []
-  operations-end s o h = ap (λ (l : List ℕ). bind (reverse l) (operationPieces w b)) (range-none s o h)
-
--- ---- the blocks of the order, one after the other
-
-module _ (w order : List ℕ) (i : ℕ) where
-  pub blocks-next : i < length order → bind (drop i order) (blockPieces w) ≡ blockPieces w (getD order i 0) ++ bind (drop (i + 1) order) (blockPieces w)
-  blocks-next h = ap (λ (l : List ℕ). bind l (blockPieces w)) (drop-next i order h)
-
-  pub blocks-end : length order ≤ i → bind (drop i order) (blockPieces w) ≡ []
-  blocks-end h = ap (λ (l : List ℕ). bind l (blockPieces w)) (drop-of-length-le order {i = i} h)
 
 -- ---- what the machine of all answers asks
 

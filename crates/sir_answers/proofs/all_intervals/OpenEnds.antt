@@ -3,31 +3,34 @@ use mathlib.Core.Path.{_≡_, refl, sym, ap, ap₂, _∙_}
 use mathlib.Core.Logic.{⊎-elim}
 use mathlib.Core.Bool.{Bool, true, false, not, _&&_, _||_, cond, and-false}
 use mathlib.Core.List.{List, [], _∷_, _++_, List·Memᴰ·head}
-use Prim.Native.Nat.{ℕ, zero, suc, _+_, _-_, _*_, _≤_, _<_}
+use Prim.Native.Nat.{ℕ, _+_, _*_, _≤_, _<_}
 use native.Mathlib.Omega.{arith}
-use lib.ListN.{length, getD, take, drop, set, drop-of-length-le}
+use lib.ListN.{length, getD, drop, set, drop-of-length-le}
 use lib.Seq.{getD-set-same, getD-set-other}
 use lib.Dec.{eqb}
-use borrow.Author.Tests.{ne-eqb, eqb-true, eqb-false}
-use Rattle.plank_core.specs.Lists.{count, upto, range, bind, keep, mem, _∈_}
-use Rattle.plank_core.specs.laws.Lists.{split, same-tests, mem-in, in-mem, getD-mem, bind-mem}
+use borrow.Author.Tests.{ne-eqb, eqb-true, eqb-false, not-false}
+use Rattle.plank_core.specs.Lists.{upto, range, mem, _∈_}
+use Rattle.plank_core.specs.laws.Lists.{split, same-tests, mem-in, in-mem, getD-mem, bind-mem, mem-upto}
 use Rattle.plank_core.specs.laws.Loops.{drop-next}
 use Rattle.plank_core.specs.inner.DenseIndexSet.{contains, members, rowOf}
 use Rattle.plank_core.specs.laws.DenseIndexSet.{contains-row}
 use Rattle.plank_core.specs.laws.Members.{member-in, member-is}
+use Rattle.plank_core.specs.laws.Folds.{bind-kept, bind-each}
 use Rattle.sir_data.specs.Records.{blocks, operations, locals, blockWord, ops, outs}
 use Rattle.sir_data.specs.inner.WellFormed.{WellFormed}
 use Rattle.sir_analyses.specs.Liveness.{has, exitSet, blockEnd, endOpen, closing}
 use Rattle.sir_analyses.specs.inner.Tables.{EntryWords}
 use Rattle.sir_analyses.specs.inner.Stages.{LivenessStage, readsIn, writesIn, usesIn, defsIn, endsIn, exitsIn}
 use Rattle.sir_analyses.specs.inner.Scanning.{closedBy}
-use Rattle.sir_answers.specs.inner.Scatter.{Pieces, Direction, numberAt, Below, Fits}
+use Rattle.sir_answers.specs.inner.Scatter.{Pieces, Direction, numberAt, Below, Fits, Scatters}
 use Rattle.sir_answers.specs.inner.IntervalPieces.{intervalPieces, closedPieces, openEnd, OpenEnds, operationPieces, startPieces}
 use Rattle.sir_analyses.proofs.claims.liveness.LivenessProof.{exit-size}
 use Rattle.sir_analyses.proofs.local_liveness.Stepping.{entry-shows}
 use Rattle.sir_analyses.proofs.claims.lifetimes.Scans.{liveIn}
 use Rattle.sir_analyses.proofs.merged_intervals.SweepProof.{scan-live}
 use Rattle.sir_answers.proofs.all_intervals.IntervalPieces.{scanned-open, never-open}
+use Rattle.sir_analyses.proofs.local_intervals.Scanning.{end-either}
+use Rattle.sir_answers.proofs.scatter.Scattering.{Scattering, scattering-none, scattering-as, scattering-fits, scattering-more, scattering-all}
 
 -- ---- an array after one store
 
@@ -92,23 +95,53 @@ module _ (ids : List ℕ) (i : ℕ) (h : length ids ≤ i) (till : List ℕ) (to
 
 module _ (b from : ℕ) (till ids : List ℕ) where
   -- the pieces from id i on
-  abbrev pub closedLeft : ℕ → Pieces
+  abbrev closedLeft : ℕ → Pieces
   closedLeft i = closedPieces b from (numberAt till) (drop i ids)
 
-  pub closed-next : (i : ℕ) → i < length ids → ¬ (numberAt till (getD ids i 0) ≡ 0) → closedLeft i ≡ ((getD ids i 0, b ∷ from ∷ numberAt till (getD ids i 0) ∷ []) ∷ []) ++ closedLeft (i + 1)
+  closed-next : (i : ℕ) → i < length ids → ¬ (numberAt till (getD ids i 0) ≡ 0) → closedLeft i ≡ ((getD ids i 0, b ∷ from ∷ numberAt till (getD ids i 0) ∷ []) ∷ []) ++ closedLeft (i + 1)
   closed-next i h z = ap (closedPieces b from (numberAt till)) (drop-next i ids h) ∙ rw (ne-eqb (numberAt till (getD ids i 0)) 0 z)
 
-  pub closed-skip : (i : ℕ) → i < length ids → numberAt till (getD ids i 0) ≡ 0 → closedLeft i ≡ closedLeft (i + 1)
+  closed-skip : (i : ℕ) → i < length ids → numberAt till (getD ids i 0) ≡ 0 → closedLeft i ≡ closedLeft (i + 1)
   closed-skip i h z = ap (closedPieces b from (numberAt till)) (drop-next i ids h) ∙ rw z
 
-  pub closed-end : (i : ℕ) → length ids ≤ i → closedLeft i ≡ []
+  closed-end : (i : ℕ) → length ids ≤ i → closedLeft i ≡ []
   closed-end i h = ap (closedPieces b from (numberAt till)) (drop-of-length-le ids {i = i} h)
 
   -- an id for which something is closed
-  pub closed-known : {n : ℕ} (i : ℕ) → i < length ids → ¬ (numberAt till (getD ids i 0) ≡ 0) → Below n (closedPieces b from (numberAt till) ids) → getD ids i 0 < n
+  closed-known : {n : ℕ} (i : ℕ) → i < length ids → ¬ (numberAt till (getD ids i 0) ≡ 0) → Below n (closedPieces b from (numberAt till) ids) → getD ids i 0 < n
   closed-known i h z below =
       let v : ℕ = getD ids i 0 in
       below (v, b ∷ from ∷ numberAt till v ∷ []) (bind-mem (λ u. intervalPieces u (closing b from (numberAt till u))) (getD-mem ids i 0 h) (rw (ne-eqb (numberAt till v) 0 z) (List·Memᴰ·head refl)))
+
+-- those from id i on are to be put, whichever way the segments are filled
+pub record Closing (d : Direction) (b from : ℕ) (till ids cursors₀ out₀ : List ℕ) (i : ℕ) (cursors out : List ℕ) : Type 0 where
+  pub put : Scattering d (closedPieces b from (numberAt till) ids) cursors₀ out₀ (closedLeft b from till ids i) cursors out
+
+pub closing-none : {d : Direction} {b from : ℕ} {till ids cursors out : List ℕ} → Fits d (closedPieces b from (numberAt till) ids) cursors → Closing d b from till ids cursors out 0 cursors out
+closing-none f = record { put = scattering-none f }
+
+module _ {d : Direction} {b from : ℕ} {till ids cursors₀ out₀ : List ℕ} {i : ℕ} {cursors out : List ℕ} (k : Closing d b from till ids cursors₀ out₀ i cursors out) where
+  -- what is closed for the next id
+  abbrev closed-piece : ℕ × List ℕ
+  closed-piece = (getD ids i 0, b ∷ from ∷ numberAt till (getD ids i 0) ∷ [])
+
+  module _ (h : i < length ids) (z : ¬ (numberAt till (getD ids i 0) ≡ 0)) where
+    closing-next : Scattering d (closedPieces b from (numberAt till) ids) cursors₀ out₀ ((closed-piece ∷ []) ++ closedLeft b from till ids (i + 1)) cursors out
+    closing-next = scattering-as (closed-next b from till ids i h z) (k .put)
+
+    -- it can be put
+    pub closing-fits : Below (length cursors₀) (closedPieces b from (numberAt till) ids) → (getD ids i 0 < length cursors) × Fits d (closed-piece ∷ []) cursors
+    closing-fits below = (omega (arith, closed-known b from till ids i h z below, k .put .wide), scattering-fits (closed-piece ∷ []) (closedLeft b from till ids (i + 1)) closing-next)
+
+    pub closing-more : {cursors′ out′ : List ℕ} → Scatters d (closed-piece ∷ []) cursors out cursors′ out′ → Closing d b from till ids cursors₀ out₀ (i + 1) cursors′ out′
+    closing-more p = record { put = scattering-more (closedLeft b from till ids (i + 1)) closing-next p }
+
+  -- no end is open for it
+  pub closing-skip : i < length ids → numberAt till (getD ids i 0) ≡ 0 → Closing d b from till ids cursors₀ out₀ (i + 1) cursors out
+  closing-skip h z = record { put = scattering-as (closed-skip b from till ids i h z) (k .put) }
+
+  pub closing-all : length ids ≤ i → Scatters d (closedPieces b from (numberAt till) ids) cursors₀ out₀ cursors out
+  closing-all h = scattering-all (closed-end b from till ids i h) (k .put)
 
 -- ---- the members of a row, and what is closed for them
 
@@ -122,19 +155,12 @@ mem-row t r v h = mem-members (rowOf t r) v h ∙ contains-row t r v h
 pub listed-below : {ids : List ℕ} (ws till : List ℕ) → ids ≡ members ws → length till ≡ 512 → (v : ℕ) → v ∈ ids → v < length till
 listed-below ws till e l v m = omega (arith, member-is ws v (rw e at m) .0)
 
-bind-keep : {B : Type 0} (p : ℕ → Bool) (g h : ℕ → List B) (s n : ℕ) → ((v : ℕ) → v < s + n → h v ≡ cond (p v) (g v) []) → bind (keep p (count s n)) g ≡ bind (count s n) h
-bind-keep p g h s zero e = refl
-bind-keep {B} p g h s (suc n) e = go (p s) (e s (omega arith)) (bind-keep p g h (suc s) n (λ v l. e v (omega arith)))
-  where
-    go : (t : Bool) → h s ≡ cond t (g s) [] → bind (keep p (count (suc s) n)) g ≡ bind (count (suc s) n) h → bind (cond t (s ∷ keep p (count (suc s) n)) (keep p (count (suc s) n))) g ≡ h s ++ bind (count (suc s) n) h
-    go true x y = ap₂ (λ (a b : List B). a ++ b) (sym x) y
-    go false x y = y ∙ ap (λ (a : List B). a ++ bind (count (suc s) n) h) (sym x)
-
 pub closed-members : (ws till : List ℕ) (b from : ℕ) (ends : ℕ → ℕ) → ((v : ℕ) → v < 512 → ends v ≡ cond (contains ws v) (numberAt till v) 0) → closedPieces b from (numberAt till) (members ws) ≡ closedPieces b from ends (upto 512)
 unfolding members
 closed-members ws till b from ends e =
-    bind-keep (contains ws) (λ v. intervalPieces v (closing b from (numberAt till v))) (λ v. intervalPieces v (closing b from (ends v))) 0 512
-    (λ v l. ap (λ (t : ℕ). intervalPieces v (closing b from t)) (e v (omega arith)) ∙ go v (contains ws v))
+    sym (bind-kept (contains ws) (λ v. intervalPieces v (closing b from (numberAt till v))) (upto 512))
+    ∙ bind-each (λ v. cond (contains ws v) (intervalPieces v (closing b from (numberAt till v))) []) (λ v. intervalPieces v (closing b from (ends v))) (upto 512)
+    (λ v m. sym (ap (λ (t : ℕ). intervalPieces v (closing b from t)) (e v (mem-upto v 512 m)) ∙ go v (contains ws v)))
   where
     go : (v : ℕ) (t : Bool) → intervalPieces v (closing b from (cond t (numberAt till v) 0)) ≡ cond t (intervalPieces v (closing b from (numberAt till v))) []
     go v true = refl
@@ -145,13 +171,7 @@ closed-members ws till b from ends e =
 pub block-opened : (exits ends : List ℕ) (b v x y z : ℕ) → v < 512 → x ≡ 0 → y ≡ cond (mem v (members (rowOf exits b))) blockEnd x → z ≡ cond (mem v (members (rowOf ends b))) blockEnd y
     → z ≡ endOpen (contains exits (512 * b + v) || contains ends (512 * b + v))
 block-opened exits ends b v x y z h e f g =
-    g ∙ ap₂ (λ (t : Bool) (k : ℕ). cond t blockEnd k) (mem-row ends b v h) (f ∙ ap₂ (λ (t : Bool) (k : ℕ). cond t blockEnd k) (mem-row exits b v h) e) ∙ go (contains exits (512 * b + v)) (contains ends (512 * b + v))
-  where
-    go : (s t : Bool) → cond t blockEnd (cond s blockEnd 0) ≡ endOpen (s || t)
-    go true true = refl
-    go true false = refl
-    go false true = refl
-    go false false = refl
+    g ∙ ap₂ (λ (t : Bool) (k : ℕ). cond t blockEnd k) (mem-row ends b v h) (f ∙ ap₂ (λ (t : Bool) (k : ℕ). cond t blockEnd k) (mem-row exits b v h) e) ∙ end-either (contains exits (512 * b + v)) (contains ends (512 * b + v))
 
 module _ {w live : List ℕ} (stage : LivenessStage w live) {b : ℕ} (l : b < blocks w) where
   pub ends-none : {till : List ℕ} → length till ≡ 512 → ((v : ℕ) → v < 512 → numberAt till v ≡ endOpen (contains (exitsIn live) (512 * b + v) || contains (endsIn live) (512 * b + v))) → OpenEnds w b [] till
@@ -191,11 +211,7 @@ module _ {w live : List ℕ} (stage : LivenessStage w live) {b : ℕ} (l : b < b
       good = stage .well-formed
 
       zero-open : {n : ℕ} → not (eqb n 0) ≡ false → n ≡ 0
-      zero-open {n} e = eqb-true n 0 (flipped (eqb n 0) e)
-        where
-          flipped : (t : Bool) → not t ≡ false → t ≡ true
-          flipped true e = refl
-          flipped false e = sym e
+      zero-open {n} e = eqb-true n 0 (not-false (eqb n 0) e)
 
       go : (v : ℕ) → v < 512 → (t : Bool) → t ≡ has (liveIn w b (ops w b)) v → openEnd w b v (ops w b) ≡ numberAt till v → openEnd w b v (ops w b) ≡ cond t (numberAt till v) 0
       go v h true e f = f

@@ -2,14 +2,14 @@
 use mathlib.Core.Path.{_≡_, refl, sym, ap, ap₂, _∙_}
 use mathlib.Core.Bool.{Bool, true, false, cond}
 use mathlib.Core.List.{List, [], _∷_, _++_, map, append-assoc}
-use Prim.Native.Nat.{ℕ, suc, _+_, _-_, _*_, _≤_, _<_}
+use Prim.Native.Nat.{ℕ, suc, _+_, _*_, _≤_, _<_}
 use native.Mathlib.Omega.{arith}
 use lib.ListN.{length, getD, length-append, length-replicate}
 use lib.Dec.{eqb}
 use Rattle.plank_core.specs.Lists.{bind, upto, oneIf, times, sum}
 use Rattle.plank_core.specs.laws.Lists.{bind-out, oneIf-most}
-use Rattle.plank_core.specs.laws.Loops.{bind-bind, bind-same, map-append, sum-append, map-same, length-count, length-map-upto, getD-map-upto}
-use Rattle.sir_data.specs.Records.{blocks, operations, locals, blockWord, ops, ins, condition, outputs}
+use Rattle.plank_core.specs.laws.Loops.{bind-bind, bind-same, map-append, sum-append, map-same, length-map-upto, getD-map-upto}
+use Rattle.sir_data.specs.Records.{blocks, operations, locals, ops, ins, condition, outputs}
 use Rattle.sir_data.specs.inner.WellFormed.{WellFormed}
 use Rattle.sir_analyses.specs.Order.{blocksRpo}
 use Rattle.sir_analyses.specs.Liveness.{positions}
@@ -20,15 +20,12 @@ use Rattle.sir_answers.specs.inner.Pieces.{piecesAt, blanks, operationPi
 use Rattle.sir_answers.specs.laws.Scatter.{pieces-append}
 use Rattle.sir_analyses.proofs.claims.order.OrderProof.{blocks-below}
 use Rattle.sir_analyses.proofs.claims.order.OrderLength.{blocks-most}
-use Rattle.plank_core.specs.laws.Folds.{bind-most}
-use Rattle.sir_analyses.proofs.claims.order.PredecessorLaws.{eqb-swap}
+use Rattle.plank_core.specs.laws.Folds.{bind-most, bind-long}
+use Rattle.plank_core.specs.laws.Distinct.{eqb-swap}
 use Rattle.sir_analyses.proofs.def_use.UseWords.{operationWords, answer-blocks, uses-are, uses-most}
 use Rattle.sir_answers.proofs.scatter.AllAnswers.{Small}
-use Rattle.sir_answers.proofs.scatter.PieceLaws.{pieces-at, length-fixed, below-at, below-append, below-bind, sum-times}
-
--- the pieces for one id, list by list
-pieces-bind : (v : ℕ) (g : ℕ → Pieces) (xs : List ℕ) → piecesOf v (bind xs g) ≡ bind xs (λ x. piecesOf v (g x))
-pieces-bind v g xs = bind-bind g (λ p. cond (eqb (p .0) v) (p .1) []) xs
+use Rattle.sir_answers.proofs.scatter.PieceLaws.{pieces-at, below-at, below-append, below-bind, sum-times, pieces-bind}
+use Rattle.sir_analyses.proofs.Accepted.{ops-few}
 
 module _ (w : List ℕ) (v : ℕ) where
   operation-pieces : (b : ℕ) → piecesOf v (operationPieces w b) ≡ operationWords w v b
@@ -112,7 +109,7 @@ module _ (w : List ℕ) (v : ℕ) where
   pieces-sum : (c : ℕ → List ℕ) (n : ℕ → ℕ) → ((o : ℕ) → length (c o) ≡ n o) → (os : List ℕ) → length (piecesOf v (bind os (λ o. piecesAt (λ k. c o) (ins w o) 0))) ≡ sum (map (λ o. n o * reads o) os)
   pieces-sum c n h [] = refl
   pieces-sum c n h (o ∷ os) =
-      let e : length (piecesOf v (piecesAt (λ k. c o) (ins w o) 0)) ≡ n o * reads o = ap length (pieces-at v (λ k. c o) (ins w o) 0) ∙ length-fixed (c o) (positions v (ins w o) 0) ∙ ap (λ (m : ℕ). m * reads o) (h o) in
+      let e : length (piecesOf v (piecesAt (λ k. c o) (ins w o) 0)) ≡ n o * reads o = ap length (pieces-at v (λ k. c o) (ins w o) 0) ∙ bind-long (λ k. c o) (n o) (positions v (ins w o) 0) (λ k. h o) in
       ap length (pieces-append v (piecesAt (λ k. c o) (ins w o) 0) (bind os (λ o. piecesAt (λ k. c o) (ins w o) 0)))
       ∙ length-append (piecesOf v (piecesAt (λ k. c o) (ins w o) 0)) (piecesOf v (bind os (λ o. piecesAt (λ k. c o) (ins w o) 0)))
       ∙ ap₂ _+_ e (pieces-sum c n h os)
@@ -165,8 +162,7 @@ ones-most w good o =
       arith,
       ones-times w o,
       times-most o (bind (blocksRpo w) (ops w)),
-      bind-most (ops w) 1024 (blocksRpo w) (λ b m.
-          omega (arith, length-count (blockWord w b 4) (blockWord w b 5 - blockWord w b 4), good .in-range .ops-range b (blocks-below w good b m), good .sized .operations-most)),
+      bind-most (ops w) 1024 (blocksRpo w) (λ b m. ops-few w good b (blocks-below w good b m)),
       blocks-most w good,
       good .sized .blocks-most,
     )

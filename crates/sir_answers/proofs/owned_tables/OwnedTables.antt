@@ -1,9 +1,9 @@
 -- The tables of owners, as they are filled and read.
 use mathlib.Core.Path.{_≡_, refl, sym, ap, ap₂, _∙_}
 use mathlib.Core.Logic.{_⊎_, inl, inr, ⊎-elim}
-use mathlib.Core.Bool.{Bool, true, false, not, _&&_, _||_, cond, and-true, and-false, or-false}
+use mathlib.Core.Bool.{Bool, true, false, not, _&&_, _||_, cond, and-true, and-false, or-false, and-comm}
 use mathlib.Core.List.{List, map}
-use Prim.Native.Nat.{ℕ, zero, suc, _+_, _-_, _*_, _≤_, _<_}
+use Prim.Native.Nat.{ℕ, _+_, _-_, _*_, _≤_, _<_}
 use native.Mathlib.Numerals.{add-one}
 use native.Mathlib.Omega.{arith}
 use lib.ListN.{length, getD, take, drop, replicate, set}
@@ -11,7 +11,7 @@ use lib.Seq.{take-all, getD-take, getD-drop}
 use lib.Dec.{eqb, ltb}
 use borrow.Author.Tests.{eq-eqb, ne-eqb, eqb-true, eqb-false, lt-ltb, le-ltb, ltb-true, ltb-false}
 use Rattle.plank_core.specs.Lists.{mem, oneIf}
-use Rattle.plank_core.specs.laws.Lists.{split, any-some}
+use Rattle.plank_core.specs.laws.Lists.{split, any-some, oneIf-told}
 use Rattle.plank_core.specs.laws.Distinct.{eqb-swap}
 use Rattle.plank_core.specs.inner.DenseIndexSet.{contains, added, members, meets, rowOf, rowUnion, rowDifference}
 use Rattle.plank_core.specs.laws.DenseIndexSet.{contains-row, contains-cleared, set-union, set-difference, length-union}
@@ -27,13 +27,11 @@ use Rattle.sir_answers.specs.inner.AllocationPieces.{ownReach, unownedIn
 use Rattle.sir_analyses.proofs.SetLaws.{none-in}
 use Rattle.sir_analyses.proofs.claims.liveness.GenKill.{beyond}
 use Rattle.sir_analyses.proofs.claims.marks.Marks.{reach-length}
-use Rattle.sir_analyses.proofs.Tables.{adds-as, adds-then, adds-none, adds-one, cleared-row, cleared-long}
-use Rattle.plank_core.specs.laws.Prefixes.{mapped-next}
+use Rattle.sir_analyses.proofs.Tables.{adds-as, adds-then, adds-none, adds-one, cleared-row, cleared-long, zero-at}
+use Rattle.plank_core.specs.laws.Prefixes.{mapped-next, below-more}
 use Rattle.sir_analyses.proofs.stages.Parts.{length-part, putBack, put-part, put-low, put-high, put-long, contains-part}
 use Rattle.sir_analyses.proofs.local_liveness.LivenessTables.{cleared-part}
 use Rattle.sir_analyses.proofs.allocation_liveness.PointerTables.{allocations-few}
-use Rattle.sir_answers.proofs.scatter.AllAnswers.{zero-at}
-use Rattle.sir_analyses.proofs.allocation_answers.AllocationWords.{below-next}
 use Rattle.sir_answers.proofs.all_allocations.AllocationPieces.{own-unmarked, own-marked, own-unknown}
 use Rattle.sir_answers.proofs.all_intervals.OpenEnds.{at-set, mem-members}
 
@@ -84,13 +82,12 @@ module _ (own : ℕ → ℕ) (t₀ t : List ℕ) where
   rows-none = adds-none (λ r u h. ap (λ (x : Bool). x && eqb (own u) r) (le-ltb u 0 (omega arith)))
 
   pub rows-more : {t′ : List ℕ} (v o : ℕ) → v < 512 → o ≡ own v → t′ ≡ added t (512 * o + v) → Adds t₀ (ownedTo v) t → Adds t₀ (ownedTo (v + 1)) t′
-  rows-more v o h e p k = rw p (adds-as (λ r u q. go r u (eqb u v) refl) (adds-then k (adds-one t o v h)))
-    where
-      go : (r u : ℕ) (x : Bool) → eqb u v ≡ x → ((ltb u v && eqb (own u) r) || (eqb r o && eqb u v)) ≡ (ltb u (v + 1) && eqb (own u) r)
-      go r u true q =
-          let i : u ≡ v = eqb-true u v q in
-          rw (i, le-ltb v v (omega arith), lt-ltb v (v + 1) (omega arith), eq-eqb v v refl, ← e) (and-true (eqb r o) ∙ eqb-swap r o)
-      go r u false q = rw (q, and-false, or-false, below-next u v (eqb-false u v q))
+  rows-more v o h e p k =
+      rw p (adds-as
+      (λ r u q.
+      ap (λ (x : Bool). (ltb u v && eqb (own u) r) || x) (and-comm (eqb r o) (eqb u v) ∙ ap (λ (x : Bool). eqb u v && x) (eqb-swap r o ∙ ap (λ (i : ℕ). eqb i r) e))
+      ∙ below-more u v (λ u. eqb (own u) r))
+      (adds-then k (adds-one t o v h)))
 
 -- ---- the owners of the locals below v are stored
 
@@ -103,7 +100,11 @@ module _ (own : ℕ → ℕ) (t₀ t : List ℕ) where
     where
       go : (y : Bool) → eqb u v ≡ y → cond y x (numberAt t u) ≡ cond (ltb u (v + 1)) (own u) (numberAt t₀ u)
       go true q = let i : u ≡ v = eqb-true u v q in rw (i, lt-ltb v (v + 1) (omega arith)) e
-      go false q = k u ∙ rw (below-next u v (eqb-false u v q))
+      go false q = k u ∙ ap (λ (t : Bool). cond t (own u) (numberAt t₀ u)) (same (ltb u v) refl)
+        where
+          same : (t : Bool) → ltb u v ≡ t → t ≡ ltb u (v + 1)
+          same true l = sym (lt-ltb u (v + 1) (omega (arith, ltb-true u v l)))
+          same false l = sym (le-ltb u (v + 1) (let m : v ≤ u = ltb-false u v l in omega (arith, eqb-false u v q)))
 
 -- ---- both tables
 
@@ -115,11 +116,7 @@ module _ {w pointers : List ℕ} (stage : PointerStage w pointers) where
   good = stage .well-formed
 
   mark-zero : (a : ℕ) → a < length (allocs w) → (t : Bool) → marked w a ≡ t → not (eqb (getD (marksIn pointers) a 0) 0) ≡ t
-  mark-zero a l t e = ap (λ (k : ℕ). not (eqb k 0)) (stage .discovered .mark-is a l ∙ ap oneIf e) ∙ go t
-    where
-      go : (t : Bool) → not (eqb (oneIf t) 0) ≡ t
-      go true = refl
-      go false = refl
+  mark-zero a l t e = ap (λ (k : ℕ). not (eqb k 0)) (stage .discovered .mark-is a l ∙ ap oneIf e) ∙ oneIf-told t
 
   -- no other owner is taken
   other-owner : (v k : ℕ) → ¬ (k ≡ 0) → ¬ (owner v ≡ k) → eqb (unmarkedOwner pointers v) k ≡ false

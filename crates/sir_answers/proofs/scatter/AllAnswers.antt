@@ -3,7 +3,6 @@ use mathlib.Core.Path.{_≡_, refl, sym, ap, _∙_}
 use mathlib.Core.Bool.{Bool, true, false}
 use mathlib.Core.List.{List, _++_}
 use Prim.Native.Nat.{ℕ, zero, suc, _+_, _-_, _*_, _^_, _≤_, _<_}
-use native.Mathlib.Nat.{mul-suc}
 use native.Mathlib.Omega.{arith}
 use lib.ListN.{length, getD, take, drop, replicate, length-replicate, getD-replicate}
 use lib.Seq.{length-take-le, getD-take}
@@ -26,7 +25,6 @@ pub base-bound : (f : ℕ → ℕ) (k n : ℕ) → ((v : ℕ) → v < n → f v 
 unfolding base
 base-bound f k zero h = omega arith
 base-bound f k (suc n) h =
-    let e : (k + 1) * suc n ≡ (k + 1) * n + (k + 1) = mul-suc (k + 1) n in
     omega (arith, base-bound f k n (λ v l. h v (omega arith)), h n (omega arith))
 
 -- not too many ids, and a number of 32 bits for the length of each answer
@@ -54,7 +52,7 @@ module _ {n : ℕ} {ans : ℕ → List ℕ} {counts : List ℕ} (k : Counts n an
   pub lengths-fit : {m : ℕ} → Small n ans → m ≡ 4 * length (allOf ans n) → (base (numberAt counts) (length counts) < 2 ^ 60) × ((4 * base (numberAt counts) (length counts) ≤ m) × ((v : ℕ) → v < length counts → numberAt counts v < 2 ^ 32))
   lengths-fit s l = (counts-fit s, (omega (arith, counts-total), λ v h. omega (arith, k .count-is v (omega (arith, k .wide)), s .words v (omega (arith, k .wide)))))
 
-  pub counts-finished : {r room number len : ℕ} → r ≡ base (numberAt counts) (length counts) → Finished r room number len → Finished (length (allOf ans n)) room number len
+  counts-finished : {r room number len : ℕ} → r ≡ base (numberAt counts) (length counts) → Finished r room number len → Finished (length (allOf ans n)) room number len
   counts-finished e f = rw (e ∙ counts-total) at f
 
   -- pieces for the segments of their size
@@ -80,11 +78,6 @@ zero-room z m = record { inside = λ v h. (omega arith, omega (arith, z v, m v h
 
 pub zero-fits : {n : ℕ} {ans : ℕ → List ℕ} {ps : Pieces} {cursors : List ℕ} → length cursors ≡ n → ((v : ℕ) → getD cursors v 0 ≡ 0) → ((v : ℕ) → v < n → length (piecesOf v ps) ≡ length (ans v)) → Small n ans → Fits forward ps cursors
 zero-fits wide z same s = zero-room z (λ v h. omega (arith, same v (omega arith), s .words v (omega arith)))
-
-pub zero-at : (m v : ℕ) → _≡_ {A = ℕ} (getD (replicate m 0) v 0) 0
-zero-at zero v = refl
-zero-at (suc m) zero = refl
-zero-at (suc m) (suc v) = zero-at m v
 
 -- the first n of an array of one number
 pub fixed-long : (n m x : ℕ) → n ≤ m → length (take n (replicate m x)) ≡ n
@@ -127,22 +120,39 @@ passed-all wide t same small s kept p = record {
 
 -- ---- 14, or the answer
 
-module _ (xs out : List ℕ) {number len : ℕ} (f : Finished (length xs) (length out) number len) where
-  finish-cases : (P : Type 0) → (ltb (length out) (4 * length xs) ≡ true → number ≡ 14 → len ≡ 0 → P) → (ltb (length out) (4 * length xs) ≡ false → number ≡ 0 → len ≡ 4 * length xs → P) → P
-  finish-cases P a b = go (ltb (length out) (4 * length xs)) refl
+module _ {n : ℕ} {ans : ℕ → List ℕ} {counts : List ℕ} (k : Counts n ans counts) (out : List ℕ) {r number len : ℕ} (total : r ≡ base (numberAt counts) (length counts)) (f : Finished r (length out) number len) where
+  -- the words of all ids
+  abbrev words : List ℕ
+  words = allOf ans n
+
+  finish-cases : (P : Type 0) → (ltb (length out) (4 * length words) ≡ true → number ≡ 14 → len ≡ 0 → P) → (ltb (length out) (4 * length words) ≡ false → number ≡ 0 → len ≡ 4 * length words → P) → P
+  finish-cases P a b = go (ltb (length out) (4 * length words)) refl (counts-finished k total f)
     where
-      go : (t : Bool) → ltb (length out) (4 * length xs) ≡ t → P
-      go true e = a e (rw e at (f .number-is)) (rw e at (f .len-is))
-      go false e = b e (rw e at (f .number-is)) (rw e at (f .len-is))
+      go : (t : Bool) → ltb (length out) (4 * length words) ≡ t → Finished (length words) (length out) number len → P
+      go true e g = a e (rw e at (g .number-is)) (rw e at (g .len-is))
+      go false e g = b e (rw e at (g .number-is)) (rw e at (g .len-is))
 
   -- a refused call
-  pub not-answered : ¬ (number ≡ 0) → made number len out ≡ answered (bind xs bytesOf) out
-  not-answered h = finish-cases (made number len out ≡ answered (bind xs bytesOf) out) (λ e n l. rw (length-bytes xs, e, n, l)) (λ e n l. absurd (h n))
+  pub not-answered : ¬ (number ≡ 0) → made number len out ≡ answered (bind words bytesOf) out
+  not-answered h = finish-cases (made number len out ≡ answered (bind words bytesOf) out) (λ e n l. rw (length-bytes words, e, n, l)) (λ e n l. absurd (h n))
 
-  -- there is room for the whole answer
-  pub answer-room : number ≡ 0 → (len ≡ 4 * length xs) × (len ≤ length out)
-  answer-room z = finish-cases ((len ≡ 4 * length xs) × (len ≤ length out)) (λ e n l. absurd (omega arith)) (λ e n l. (l, omega (arith, ltb-false (length out) (4 * length xs) e)))
+  module _ (z : number ≡ 0) where
+    -- there is room for the whole answer
+    room : (len ≡ 4 * length words) × (len ≤ length out)
+    room = finish-cases ((len ≡ 4 * length words) × (len ≤ length out)) (λ e n l. absurd (omega arith)) (λ e n l. (l, omega (arith, ltb-false (length out) (4 * length words) e)))
 
-  -- it is written whole, and the bytes past it stay
-  pub whole-answered : number ≡ 0 → made number len (bind xs bytesOf ++ drop len out) ≡ answered (bind xs bytesOf) out
-  whole-answered z = finish-cases (made number len (bind xs bytesOf ++ drop len out) ≡ answered (bind xs bytesOf) out) (λ e n l. absurd (omega arith)) (λ e n l. rw (length-bytes xs, e, n, l))
+    pub answer-room : len ≤ length out
+    answer-room = room .1
+
+    -- what is lent for it has its length
+    pub lent-long : len ≡ length (take len out)
+    lent-long = sym (length-take-le len out answer-room)
+
+    pub lent-words : length (take len out) ≡ 4 * length words
+    lent-words = sym lent-long ∙ room .0
+
+    -- it is written whole, and the bytes past it stay
+    pub whole-answered : {written : List ℕ} → written ≡ bind words bytesOf → made number len (written ++ drop len out) ≡ answered (bind words bytesOf) out
+    whole-answered w =
+        ap (λ (l : List ℕ). made number len (l ++ drop len out)) w
+        ∙ finish-cases (made number len (bind words bytesOf ++ drop len out) ≡ answered (bind words bytesOf) out) (λ e n l. absurd (omega arith)) (λ e n l. rw (length-bytes words, e, n, l))

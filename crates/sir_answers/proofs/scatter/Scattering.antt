@@ -9,11 +9,12 @@ use lib.ListN.{length, getD, set, length-replicate}
 use lib.Seq.{getD-set-same, getD-set-other}
 use Rattle.plank_core.specs.laws.Lists.{below-next}
 use borrow.Author.Tests.{eq-eqb}
+use Rattle.plank_core.specs.laws.Folds.{foldl-append}
 use Rattle.sir_analyses.specs.inner.Writing.{wordsPut}
 use Rattle.sir_answers.specs.inner.Scatter.{Pieces, piecesOf, Direction, forward, moved, place, Inside, Segments, segments, piecePut, scatter, Scatters, Fits, numberAt, base, origin, toward, Stands, Placed}
 use Rattle.sir_answers.specs.inner.Pieces.{blanks}
 use Rattle.sir_analyses.specs.laws.Writing.{puts-past}
-use Rattle.sir_answers.specs.laws.Scatter.{foldl-append, scatter-cursors, scatter-out, room-first, room-rest, stands-put, stands-other, base-most, base-within, base-next}
+use Rattle.sir_answers.specs.laws.Scatter.{scatter-cursors, scatter-out, room-first, room-rest, stands-put, stands-other, base-most, base-within, base-next}
 
 -- ---- room for the first of some pieces, and for the rest after them
 

@@ -10,7 +10,7 @@ use lib.ListN.{length, getD, take, drop, length-append, length-drop, length-set,
 use lib.Seq.{take-at, drop-at, drop-drop, take-add, take-all, length-take-le, take-append-le, drop-append-le, getD-set-same, getD-set-other}
 use lib.Dec.{eqb}
 use borrow.Author.Tests.{eq-eqb, eqb-true, eqb-false}
-use Rattle.plank_core.specs.Lists.{bind, foldl, upto}
+use Rattle.plank_core.specs.Lists.{bind, upto}
 use Rattle.plank_core.specs.laws.Lists.{split}
 use Rattle.plank_core.specs.laws.Loops.{bind-append, upto-suc, bind-snoc}
 use Rattle.sir_data.specs.Pages.{bytesOf}
@@ -85,7 +85,8 @@ stands-join {at} {q} {xs} {ys} {out} e a b =
 
 -- ---- a cursor
 
-moved-none : (d : Direction) (c : ℕ) → moved d c 0 ≡ c
+-- past no words
+pub moved-none : (d : Direction) (c : ℕ) → moved d c 0 ≡ c
 moved-none forward c = omega arith
 moved-none backward c = omega arith
 
@@ -129,10 +130,6 @@ module _ (d : Direction) (s : Segments) (p : ℕ × List ℕ) where
 
 pub pieces-append : (v : ℕ) (ps qs : Pieces) → piecesOf v (ps ++ qs) ≡ piecesOf v ps ++ piecesOf v qs
 pieces-append v ps qs = bind-append (own v) ps qs
-
-pub foldl-append : {A B : Type 0} (f : B → A → B) (b : B) (xs ys : List A) → foldl f b (xs ++ ys) ≡ foldl f (foldl f b xs) ys
-foldl-append f b [] ys = refl
-foldl-append f b (x ∷ xs) ys = foldl-append f (f b x) xs ys
 
 module _ (d : Direction) where
   pub scatter-cursors : (ps : Pieces) (s : Segments) → length (scatter d ps s .cursors) ≡ length (s .cursors)

@@ -32,7 +32,7 @@ sub-put-head c =
     let at-shared-slice-known2 = at-populate-intervals-from-local-liveness .before .before .before .before .before in
     let start = at-shared-slice-known2 .before .before in
     let x = start .pre .1 .1 .1 in
-    omega (arith, swept-count (start .pre .0 .well-formed) x (at-populate-intervals-from-local-liveness .populate-intervals-from-local-liveness .ensures .1), answer-long (start .pre .0 .well-formed) x)
+    omega (arith, swept-count (start .pre .0 .well-formed) x (at-populate-intervals-from-local-liveness .populate-intervals-from-local-liveness .ensures .1), answer-long (start .args .words .now) (start .pre .0 .well-formed) (x .site))
 
 cast-put-head : tie.Need-cast-put-head
 cast-put-head c = omega (arith, c .before .before .populate-intervals-from-local-liveness .ensures .0)

@@ -84,7 +84,6 @@ propagate-pointers-and-mark-escapes-requires c κs =
     let at-slice-known2 = at-loop .before .before .before .before .before in
     let at-shared-slice-known4 = at-slice-known2 .before .before .before .before .before in
     let start = at-shared-slice-known4 .before .before .before .before in
-    let h : at-loop .loop .i < length (allocs (start .args .words .now)) = omega (arith, at-loop-test .loop-test .taken, ap length (start .pre .0 .sites-are), sites-long (start .args .words .now)) in
     let most = start .pre .0 .sites-few in
     ((start .pre .1 .0 .links-long, start .pre .1 .0 .escaping-long), ((room-turned (start .pre .0) (start .pre .1 .0) (at-loop .loop .inv .1), at-loop .loop .inv .1 .none-left), (omega (arith, at-base-of .base-of .ensures .1, start .pre .0 .well-formed .sized .locals-most), omega (arith, most))))
 
@@ -114,7 +113,6 @@ loop-again c =
     let at-shared-slice-known4 = at-slice-known2 .before .before .before .before .before in
     let start = at-shared-slice-known4 .before .before .before .before in
     let h : at-loop .loop .i < length (allocs (start .args .words .now)) = omega (arith, at-loop-test .loop-test .taken, ap length (start .pre .0 .sites-are), sites-long (start .args .words .now)) in
-    let most = start .pre .0 .sites-few in
     (omega arith, turned-to-more (start .pre .0) (start .pre .1 .0) h (at-base-of .base-of .ensures .0) (at-loop .loop .inv .1) (at-propagate-pointers-and-mark-escapes .propagate-pointers-and-mark-escapes .ensures))
 
 same-length : tie.Need-same-length Inv-loop μ-loop

@@ -5,10 +5,10 @@ use native.Mathlib.Omega.{arith}
 use lib.ListN.{length, getD, drop}
 use Rattle.plank_core.specs.Lists.{bind}
 use Rattle.plank_core.specs.laws.Lists.{getD-mem}
+use Rattle.plank_core.specs.laws.Loops.{bind-drop-step, bind-drop-end}
 use Rattle.sir_analyses.specs.inner.Discovery.{allocSites, blockSites}
 use Rattle.sir_analyses.proofs.Listing.{Listing, listing-none, listing-as, listing-more, listing-all, capped-all, capped-over, capped-fits}
 use Rattle.sir_analyses.proofs.claims.order.OrderLength.{rpo-below}
-use Rattle.sir_analyses.proofs.def_use.UseWords.{block-next, block-end}
 use Rattle.sir_analyses.proofs.allocation_liveness.Discovery.{sites-start}
 use Rattle.sir_analyses.proofs.allocation_liveness.find_allocations.Statement.{statement}
 use Rattle.sir_analyses.proofs.allocation_liveness.find_allocations.Tie as tie
@@ -61,7 +61,7 @@ returns c =
     let L = at-loop .loop in
     let w = start .args .words .now in
     let order = at-rpo .rpo .result .now in
-    let e = block-next (blockSites w) order (L .i) (at-loop-test .loop-test .taken) in
+    let e = bind-drop-step (blockSites w) order (L .i) (at-loop-test .loop-test .taken) in
     capped-over (blockSites w (getD order (L .i) 0)) (bind (drop (L .i + 1) order) (blockSites w)) (omega (arith, c .if1 .taken)) (listing-as e (L .inv .2)) (at-block-allocations .block-allocations .ensures)
 
 add-i : tie.Need-add-i Inv-loop μ-loop
@@ -80,7 +80,7 @@ loop-again c =
     let L = at-loop .loop in
     let w = start .args .words .now in
     let order = at-rpo .rpo .result .now in
-    let e = block-next (blockSites w) order (L .i) (at-loop-test .loop-test .taken) in
+    let e = bind-drop-step (blockSites w) order (L .i) (at-loop-test .loop-test .taken) in
     (omega arith, omega (arith, c .if1 .left), listing-more (listing-as e (L .inv .2)) (capped-fits (omega (arith, c .if1 .left)) (at-block-allocations .block-allocations .ensures)))
 
 same-length-2 : tie.Need-same-length-2 Inv-loop μ-loop
@@ -94,7 +94,7 @@ returns-2 c =
     let L = at-loop .loop in
     let w = start .args .words .now in
     let order = at-rpo .rpo .result .now in
-    capped-all (L .inv .1) (listing-all (block-end (blockSites w) order (L .i) (c .loop-test .left)) (L .inv .2))
+    capped-all (L .inv .1) (listing-all (bind-drop-end (blockSites w) order (L .i) (c .loop-test .left)) (L .inv .2))
 
 pub find-allocations-spec : {M : Type 1} → statement M
 find-allocations-spec =

@@ -1,6 +1,6 @@
 -- `link_local_to_alloc` meets its contract.
 use mathlib.Core.Path.{refl}
-use Prim.Native.Nat.{_+_, _-_}
+use Prim.Native.Nat.{_+_}
 use lib.ListN.{getD, set}
 use Rattle.sir_analyses.proofs.allocation_liveness.PointerTables.{one-long, two-long, mark-long, left-room, linked-new, linked-same, linked-other, other-less, other-place}
 use borrow.Author.Needs.{needs}

@@ -26,7 +26,6 @@ cast-owners c =
 base-of-requires : tie.Need-base-of-requires Inv-loop μ-loop
 base-of-requires c κs =
     let start = c .before .before .before .before .before in
-    let w = start .args .words .now in
     (start .pre .0, (start .pre .1 .0, c .loop-test .taken))
 
 add-a : tie.Need-add-a Inv-loop μ-loop
@@ -53,7 +52,6 @@ slice-write-owners c =
     let at-loop = at-base-of .before .before in
     let start = at-loop .before .before .before .before in
     let L = at-loop .loop in
-    let w = start .args .words .now in
     omega (arith, L .inv .1 .long, at-base-of .base-of .ensures .1, start .pre .0 .sized .locals-most)
 
 loop-less : tie.Need-loop-less Inv-loop μ-loop
@@ -74,7 +72,6 @@ same-length c =
     let at-loop = c .before in
     let start = at-loop .before .before .before .before in
     let L = at-loop .loop in
-    let w = start .args .words .now in
     L .inv .1 .long ∙ sym (ap length (start .pre .1 .2))
 
 returns : tie.Need-returns Inv-loop μ-loop

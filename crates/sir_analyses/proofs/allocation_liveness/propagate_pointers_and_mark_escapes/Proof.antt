@@ -1,6 +1,6 @@
 -- `propagate_pointers_and_mark_escapes` meets its contract. The invariant: the arrays show a state on the way.
 use mathlib.Core.Path.{refl, sym, _∙_}
-use Prim.Native.Nat.{_+_, _-_}
+use Prim.Native.Nat.{_+_}
 use lib.ListN.{length-set}
 use Rattle.sir_analyses.specs.inner.Discovery.{zeros}
 use Rattle.sir_analyses.specs.inner.Stages.{ownersIn, leftIn}

@@ -25,7 +25,6 @@ cast-t8 c = omega (arith, c .before .before .before .before .pre .1 .1)
 
 base-of-requires : tie.Need-base-of-requires Inv-loop μ-loop
 base-of-requires c κs = let S = c .before .before .before .before in
-    let w = S .args .words .now in
     (S .pre .0, (S .pre .1 .0, c .loop-test .taken))
 
 add-a : tie.Need-add-a Inv-loop μ-loop
@@ -38,7 +37,6 @@ row-add-requires : tie.Need-row-add-requires Inv-loop μ-loop
 row-add-requires c κs =
     let at-loop = c .before .before .before in
     let start = at-loop .before .before .before in
-    let w = start .args .words .now in
     (omega (arith, at-loop .loop .inv .1 .long), omega (arith, c .before .base-of .ensures .1, start .pre .0 .sized .locals-most))
 
 returns : tie.Need-returns Inv-loop μ-loop

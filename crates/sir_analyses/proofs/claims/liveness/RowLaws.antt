@@ -10,7 +10,7 @@ use Rattle.plank_core.specs.Lists.{upto, count, sum}
 use Rattle.plank_core.specs.laws.Lists.{and-true-left, and-true-right, none}
 use Rattle.plank_core.specs.laws.Loops.{sum-shift}
 use Rattle.sir_analyses.specs.Liveness.{Set, has, members, sameSet, sameRows, rowOf}
-use Rattle.sir_analyses.proofs.SetLaws.{none-in, card, card-le, members-card, Within, card-grows, card-rises, same-set}
+use Rattle.sir_analyses.proofs.SetLaws.{none-in, card, card-le, members-card, Within, card-grows, card-rises, same-set, same-self}
 
 -- each row has L places
 abbrev pub Wide : ℕ → List Set → Type 0
@@ -65,6 +65,10 @@ module _ (L : ℕ) where
           → (sameSet t s ≡ false → card s < card t) → (sameRows f e ≡ false → total e < total f) → card s + total e < card t + total f
       go true p a c one rest = let r = rest (rw p at d) in omega arith
       go false p a c one rest = let r = one p in omega arith
+
+pub rows-self : (e : List Set) → sameRows e e ≡ true
+rows-self [] = refl
+rows-self (s ∷ e) = rw (same-self s) (rows-self e)
 
 pub same-rows : (e f : List Set) → sameRows f e ≡ true → f ≡ e
 same-rows [] [] d = refl

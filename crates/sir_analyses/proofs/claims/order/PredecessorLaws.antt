@@ -1,5 +1,5 @@
 -- How often a block stands among the predecessors of another, and in which order they stand.
-use mathlib.Core.Path.{_≡_, refl, sym, ap₂, _∙_}
+use mathlib.Core.Path.{_≡_, refl, ap₂, _∙_}
 use mathlib.Core.Bool.{Bool, true, false, cond}
 use Prim.Native.Nat.{ℕ, zero, suc, _+_, _≤_, _<_}
 use native.Mathlib.Omega.{arith}
@@ -8,13 +8,11 @@ use lib.ListN.{length}
 use lib.Dec.{eqb, leb}
 use borrow.Author.Tests.{eqb-true, eqb-false, eq-eqb, ne-eqb, le-leb}
 use Rattle.plank_core.specs.Lists.{count, bind, all, keep, oneIf, times}
-use Rattle.plank_core.specs.laws.Lists.{both-true, same-tests, times-append}
+use Rattle.plank_core.specs.laws.Lists.{both-true, times-append}
+use Rattle.plank_core.specs.laws.Distinct.{eqb-swap}
 use Rattle.sir_data.specs.Records.{blocks, successors}
 use Rattle.sir_analyses.specs.Order.{isVisited, edgesFrom, predecessors}
 use Rattle.sir_analyses.specs.Claims.{ascending}
-
-pub eqb-swap : (x y : ℕ) → eqb x y ≡ eqb y x
-eqb-swap x y = same-tests (eqb x y) (eqb y x) (λ e. eq-eqb y x (sym (eqb-true x y e))) (λ e. eq-eqb x y (sym (eqb-true y x e)))
 
 -- ---- one number, some times over
 

@@ -22,9 +22,9 @@ use Rattle.sir_analyses.specs.Allocation.{Alloc, allocs, noAlloc, base, 
 use Rattle.sir_analyses.specs.Propagation.{State, start}
 use Rattle.sir_analyses.specs.Source.{Discoveries, pushAllocation, discoverOperation, discovered, sourceStart, propagate, sourceAfter}
 use Rattle.sir_analyses.proofs.claims.marks.Marks.{base-less}
-use Rattle.sir_analyses.proofs.claims.order.PredecessorLaws.{eqb-swap}
 use Rattle.sir_analyses.proofs.claims.source.Tables.{source-uses}
 use Rattle.plank_core.specs.laws.Folds.{fold-bind}
+use Rattle.plank_core.specs.laws.Distinct.{eqb-swap}
 
 -- ---- operation by operation, and allocation by allocation
 

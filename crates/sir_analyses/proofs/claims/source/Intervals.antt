@@ -84,7 +84,6 @@ module _ (w : List ℕ) (good : WellFormed w) where
   block-numbered b v mb =
       let c : Scan = record { open′ = endOpen (has (exitSet w b) v || mem v (endReads w b)); closed = [] } in
       let d = foldr (scanOp w b v) c (ops w b) in
-      let few = good .sized .operations-most in
       let r = scan-numbered w b v (ops w b) c (λ o n. let l = listed-op w good mb n in omega arith) (record { open-is = ends (has (exitSet w b) v || mem v (endReads w b)); closed-are = λ k n. absurd (List·Memᴰ·not-nil n) }) in
       appended b 0 (d .open′) (d .closed) (omega arith) (r .open-is) (r .closed-are)
     where

@@ -14,13 +14,13 @@ use Rattle.plank_core.specs.laws.Lists.{or-true-left, or-cases, bool-or, none, 
 use Rattle.sir_data.specs.Records.{blocks, locals, inputs, outputs}
 use Rattle.sir_data.specs.inner.WellFormed.{WellFormed}
 use Rattle.sir_analyses.specs.Order.{functionsRpo, functionBlocks, blocksRpo, isVisited, predecessors}
-use Rattle.sir_analyses.specs.Liveness.{Set, has, addAll, members, entryFrom, indexOf, renamed, rowOf, back, pass, sameSet, sameRows, settle, noExits, exitSet, entrySet}
+use Rattle.sir_analyses.specs.Liveness.{Set, has, addAll, members, entryFrom, indexOf, renamed, rowOf, back, pass, sameRows, settle, noExits, exitSet, entrySet}
 use Rattle.sir_analyses.specs.SourceUses.{sourcePredecessors}
 use Rattle.sir_analyses.specs.SourceLiveness.{Live, insertExit, propagated, propagateLive, liveBlock, livePass, liveLoop, sourceLive}
 use Rattle.sir_analyses.proofs.claims.order.OrderProof.{blocks-seen, blocks-below}
 use Rattle.sir_analyses.proofs.Positions.{index-none}
 use Rattle.sir_analyses.proofs.SetLaws.{has-less, members-out, card}
-use Rattle.sir_analyses.proofs.claims.liveness.RowLaws.{Shape, total, total-le, same-rows, empty-row, empty-shape}
+use Rattle.sir_analyses.proofs.claims.liveness.RowLaws.{Shape, total, total-le, same-rows, empty-row, empty-shape, rows-self}
 use Rattle.sir_analyses.proofs.claims.liveness.FlowLaws.{row-split, row-same, row-other}
 use Rattle.sir_analyses.proofs.claims.liveness.GenKill.{entry-length}
 use Rattle.sir_analyses.proofs.local_liveness.Sending.{predecessor-below, edge-length, rename-below}
@@ -42,15 +42,6 @@ unfolding total
 total-set [] p r l = absurd (omega arith)
 total-set (s ∷ e) zero r l = omega arith
 total-set (s ∷ e) (suc p) r l = omega (arith, total-set e p r (omega arith))
-
-same-set-refl : (s : Set) → sameSet s s ≡ true
-same-set-refl [] = refl
-same-set-refl (true ∷ s) = same-set-refl s
-same-set-refl (false ∷ s) = same-set-refl s
-
-same-rows-refl : (e : List Set) → sameRows e e ≡ true
-same-rows-refl [] = refl
-same-rows-refl (s ∷ e) = rw (same-set-refl s) (same-rows-refl e)
 
 -- ---- inserting
 
@@ -335,7 +326,7 @@ module _ (w : List ℕ) (good : WellFormed w) where
           still : (next .changed ≡ false) × (next .exits ≡ e) → Settles (suc n) k e (liveLoop n w next)
           still q =
               let same : pass w e ≡ e = sym (d .exits-are) ∙ q .1 in
-              let last : sameRows (pass w e) e ≡ true = ap (λ (x : List Set). sameRows x e) same ∙ same-rows-refl e in
+              let last : sameRows (pass w e) e ≡ true = ap (λ (x : List Set). sameRows x e) same ∙ rows-self e in
               subst (Settles (suc n) k e) (sym (loop-still n next (q .0)))
               (record {
                 ended = q .0;
@@ -346,7 +337,6 @@ module _ (w : List ℕ) (good : WellFormed w) where
 
           again : (next .changed ≡ true) × (total e < total (next .exits)) → Settles (suc n) k e (liveLoop n w next)
           again q =
-              let l = q .1 in
               let r = rest (q .0) (d .tall) (d .from .shape) (omega arith) (omega arith) rest-out in
               let more : sameRows (pass w e) e ≡ false = refuted (sameRows (pass w e) e) (λ t. let z = ap total (d .exits-are ∙ same-rows e (pass w e) t) in omega arith) in
               record {

@@ -21,8 +21,9 @@ use Rattle.sir_analyses.specs.Claims.{Reached, itself, linked, Marked, e
 use Rattle.sir_analyses.proofs.SetLaws.{none-in, add-in}
 use Rattle.sir_analyses.proofs.claims.marks.Marks.{next-less, base-less, mark-rule}
 use Rattle.sir_analyses.proofs.claims.source.Discovery.{after-same}
-use Rattle.sir_analyses.proofs.claims.source.Steps.{marksAt, follow-use, zeros-most, bases-out, bases-in, zeros-at, Meets, same, each, Joined, meets-trans, joined-grow, baseOf, start-length, Done, Inv, Grown, grown-trans, grown-refl, remark, fold-step}
+use Rattle.sir_analyses.proofs.claims.source.Steps.{marksAt, follow-use, zeros-most, bases-out, bases-in, Meets, same, each, Joined, meets-trans, joined-grow, baseOf, start-length, Done, Inv, Grown, grown-trans, grown-refl, remark, fold-step}
 use Rattle.plank_core.specs.laws.Folds.{any-or}
+use Rattle.sir_analyses.proofs.Tables.{zero-at}
 
 module _ (w : List ℕ) where
   -- some use of v marks where v escapes or is returned
@@ -188,7 +189,7 @@ module _ (w : List ℕ) (good : WellFormed w) where
         known x c e = go (bases-out (baseOf w) x c (replicate (locals w) 0) (upto (length (allocs w))) e)
           where
             go : (getD (replicate (locals w) 0) x 0 ≡ suc c) ⊎ ((c ∈ upto (length (allocs w))) × (x ≡ baseOf w c)) → (c ∈ upto (length (allocs w))) × (x ≡ baseOf w c)
-            go (inl h) = absurd (let z : suc c ≡ 0 = sym h ∙ zeros-at (locals w) x in omega arith)
+            go (inl h) = absurd (let z : suc c ≡ 0 = sym h ∙ zero-at (locals w) x in omega arith)
             go (inr h) = h
 
   -- ---- the end: nothing is left to be followed

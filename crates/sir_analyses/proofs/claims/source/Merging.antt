@@ -146,7 +146,6 @@ module _ (done : List Interval) (last : Interval) (k : ℕ) (j : Interval) (js :
     place = h .place;
     merged =
         let b = h .behind in
-        let l = long in
         take-suc-set is (m .dst) grown (omega arith) ∙ ap (λ (xs : List Interval). xs ++ (grown ∷ [])) front;
     behind = let b = h .behind in omega arith;
     whole = let w = h .whole in omega (arith, length-set is (m .dst) grown);
@@ -163,7 +162,6 @@ module _ (done : List Interval) (last : Interval) (k : ℕ) (j : Interval) (js :
     place = let p = h .place in omega (arith, length-append done (last ∷ []));
     merged =
         let b = h .behind in
-        let l = long in
         take-suc-set is (suc (m .dst)) j (omega arith) ∙ ap (λ (xs : List Interval). xs ++ (j ∷ [])) (h .merged);
     behind = let b = h .behind in omega arith;
     whole = let w = h .whole in omega (arith, length-set is (suc (m .dst)) j);

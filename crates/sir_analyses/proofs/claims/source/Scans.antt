@@ -20,6 +20,7 @@ use Rattle.sir_analyses.specs.SourceLiveness.{Ends, endAtBlockEnd, remov
 use Rattle.sir_analyses.proofs.SetLaws.{members-in, members-out}
 use Rattle.sir_analyses.proofs.claims.source.Tables.{listOf, push-list, push-tall}
 use Rattle.plank_core.specs.laws.Folds.{foldl-reverse}
+use Rattle.sir_analyses.proofs.local_intervals.Scanning.{end-either}
 
 -- the scan of v alone has come to c, after the intervals `before`
 pub record Follows (v : ℕ) (before : List Interval) (c : Scan) (s : Ends) : Type 0 where
@@ -212,12 +213,6 @@ module _ (w : List ℕ) (exits : List Set) (v : ℕ) (below : v < locals w) wher
       second : (getD ends v 0 ≡ cond (mem v (endReads w b)) blockEnd (getD (endAtBlockEnd (s .ends) live) v 0)) × (length ends ≡ length (endAtBlockEnd (s .ends) live))
       second = ends-at v (endReads w b) (endAtBlockEnd (s .ends) live) wide
 
-      both : (m n : Bool) → cond n blockEnd (cond m blockEnd 0) ≡ endOpen (m || n)
-      both true true = refl
-      both true false = refl
-      both false true = refl
-      both false false = refl
-
       behind : Scan
       behind = record { open′ = endOpen (has (rowOf exits b) v || mem v (endReads w b)); closed = [] }
 
@@ -230,7 +225,7 @@ module _ (w : List ℕ) (exits : List Set) (v : ℕ) (below : v < locals w) wher
         tall = h .tall;
         end =
             second .0 ∙ ap (λ (n : ℕ). cond (mem v (endReads w b)) blockEnd n) (first .0 ∙ ap (λ (n : ℕ). cond (mem v live) blockEnd n) (h .end))
-            ∙ both (mem v live) (mem v (endReads w b)) ∙ ap (λ (t : Bool). endOpen (t || mem v (endReads w b))) (mem-members (rowOf exits b) v);
+            ∙ end-either (mem v live) (mem v (endReads w b)) ∙ ap (λ (t : Bool). endOpen (t || mem v (endReads w b))) (mem-members (rowOf exits b) v);
         list = h .list;
       }
 

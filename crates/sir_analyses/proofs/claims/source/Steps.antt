@@ -87,11 +87,6 @@ module _ (f : ℕ → ℕ) where
       bases-keep k (giveBase owner j) ks (λ i m. d i (List·Memᴰ·tail m)) (rw length-set l) z
   bases-in {k} owner (List·Memᴰ·tail {x = j} {xs = ks} m) d l = bases-in (giveBase owner j) m (λ i m. d i (List·Memᴰ·tail m)) (rw length-set l)
 
-pub zeros-at : (n v : ℕ) → _≡_ {A = ℕ} (getD (replicate n 0) v 0) 0
-zeros-at zero v = refl
-zeros-at (suc n) zero = refl
-zeros-at (suc n) (suc v) = zeros-at n v
-
 -- ---- one use
 
 -- does this use of v mark?

@@ -18,7 +18,7 @@ use Rattle.sir_analyses.specs.Liveness.{Use, positions, usesIn, uses}
 use Rattle.sir_analyses.specs.SourceUses.{push, pushToSuccessors, sourcePredecessors, useInputs, useCondition, useOutputs, useBlock, useTable, sourceUses}
 use Rattle.sir_analyses.proofs.claims.order.OrderProof.{blocks-below}
 use Rattle.sir_analyses.proofs.Accepted.{listed-op}
-use Rattle.plank_core.specs.laws.Folds.{bind-kept, bind-none}
+use Rattle.plank_core.specs.laws.Folds.{bind-kept, bind-none, bind-one}
 
 -- a list for id v of a table
 abbrev pub listOf : {A : Type 0} → List (List A) → ℕ → List A
@@ -82,13 +82,7 @@ module _ {A : Type 0} (v : ℕ) where
 
 -- those of xs that are v, each as x
 same-row : {A : Type 0} (x : A) (v : ℕ) (xs : List ℕ) → bind xs (λ s. cond (eqb s v) (x ∷ []) []) ≡ map (λ s. x) (keep (λ s. eqb s v) xs)
-same-row x v [] = refl
-same-row {A} x v (s ∷ xs) = go (eqb s v) (same-row x v xs)
-  where
-    go : (t : Bool) → bind xs (λ s. cond (eqb s v) (x ∷ []) []) ≡ map (λ s. x) (keep (λ s. eqb s v) xs)
-        → cond t (x ∷ []) [] ++ bind xs (λ s. cond (eqb s v) (x ∷ []) []) ≡ map (λ s. x) (cond t (s ∷ keep (λ s. eqb s v) xs) (keep (λ s. eqb s v) xs))
-    go true e = ap (λ (r : List A). x ∷ r) e
-    go false e = e
+same-row x v xs = bind-kept (λ s. eqb s v) (λ s. x ∷ []) xs ∙ bind-one (λ s. x) (keep (λ s. eqb s v) xs)
 
 module _ (w : List ℕ) where
   successors-append : (b : ℕ) → Appends b (pushToSuccessors w) (λ p. cond (isVisited w p) (edgesFrom w p b) [])

@@ -44,40 +44,28 @@ cast-counts : tie.Need-cast-counts Inv-loop μ-loop
 cast-counts c =
     let at-loop = c .before .before .before in
     let at-operation-count = at-loop .before in
-    let start = at-operation-count .before .before .before in
     let L = at-loop .loop in
-    let h : L .o < operations (start .args .words .now) = omega (arith, at-operation-count .operation-count .ensures, c .before .before .loop-test .taken) in
-    let m = start .pre .0 .sized .operations-most in
     omega (arith, L .inv .1)
 
 mul-counts : tie.Need-mul-counts Inv-loop μ-loop
 mul-counts c =
     let at-loop = c .before .before .before in
     let at-operation-count = at-loop .before in
-    let start = at-operation-count .before .before .before in
     let L = at-loop .loop in
-    let h : L .o < operations (start .args .words .now) = omega (arith, at-operation-count .operation-count .ensures, c .before .before .loop-test .taken) in
-    let m = start .pre .0 .sized .operations-most in
     omega (arith, L .inv .1)
 
 slice-write-counts : tie.Need-slice-write-counts Inv-loop μ-loop
 slice-write-counts c =
     let at-loop = c .before .before .before in
     let at-operation-count = at-loop .before in
-    let start = at-operation-count .before .before .before in
     let L = at-loop .loop in
-    let h : L .o < operations (start .args .words .now) = omega (arith, at-operation-count .operation-count .ensures, c .before .before .loop-test .taken) in
-    let m = start .pre .0 .sized .operations-most in
     omega (arith, L .inv .1)
 
 add-o : tie.Need-add-o Inv-loop μ-loop
 add-o c =
     let at-loop = c .before .before .before in
     let at-operation-count = at-loop .before in
-    let start = at-operation-count .before .before .before in
     let L = at-loop .loop in
-    let h : L .o < operations (start .args .words .now) = omega (arith, at-operation-count .operation-count .ensures, c .before .before .loop-test .taken) in
-    let m = start .pre .0 .sized .operations-most in
     omega (arith, L .inv .1)
 
 loop-less : tie.Need-loop-less Inv-loop μ-loop
@@ -89,8 +77,6 @@ loop-again c =
     let at-operation-count = at-loop .before in
     let start = at-operation-count .before .before .before in
     let L = at-loop .loop in
-    let h : L .o < operations (start .args .words .now) = omega (arith, at-operation-count .operation-count .ensures, c .before .before .loop-test .taken) in
-    let m = start .pre .0 .sized .operations-most in
     let e = c .count-local .ensures ∙ ap (λ (l : List ℕ). length (positions (start .args .local .0) l 0)) (c .before .op-inputs .ensures) in (
       omega arith,
       length-set (L .counts) (L .o) _ ∙ L .inv .1,

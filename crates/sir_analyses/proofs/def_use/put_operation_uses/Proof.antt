@@ -1,6 +1,6 @@
 -- `put_operation_uses` meets its contract. The invariant: the operations left are to be put.
 use mathlib.Core.Path.{ap}
-use Prim.Native.Nat.{_+_, _-_, _^_, _<_}
+use Prim.Native.Nat.{_+_, _-_, _^_}
 use native.Mathlib.Omega.{arith}
 use lib.ListN.{length, getD}
 use Rattle.sir_data.specs.Records.{operations}
@@ -29,10 +29,7 @@ cast-put-repeated c =
     let at-loop = at-loop-test .before in
     let at-operations = at-loop .before in
     let start = at-operations .before .before .before .before in
-    let L = at-loop .loop in
     let r = start .pre .0 .in-range .ops-range (start .args .b .0) (start .pre .1 .0 .0) in
-    let h : L .o < operations (start .args .words .now) = omega (arith, r, at-operations .operations .ensures, at-loop-test .loop-test .taken) in
-    let m = start .pre .0 .sized .operations-most in
     omega (arith, start .pre .1 .0 .1)
 
 mul-put-repeated : tie.Need-mul-put-repeated Inv-loop μ-loop
@@ -41,10 +38,7 @@ mul-put-repeated c =
     let at-loop = at-loop-test .before in
     let at-operations = at-loop .before in
     let start = at-operations .before .before .before .before in
-    let L = at-loop .loop in
     let r = start .pre .0 .in-range .ops-range (start .args .b .0) (start .pre .1 .0 .0) in
-    let h : L .o < operations (start .args .words .now) = omega (arith, r, at-operations .operations .ensures, at-loop-test .loop-test .taken) in
-    let m = start .pre .0 .sized .operations-most in
     omega (arith, start .pre .1 .0 .1)
 
 shared-slice-read-put-repeated : tie.Need-shared-slice-read-put-repeated Inv-loop μ-loop
@@ -53,10 +47,7 @@ shared-slice-read-put-repeated c =
     let at-loop = at-loop-test .before in
     let at-operations = at-loop .before in
     let start = at-operations .before .before .before .before in
-    let L = at-loop .loop in
     let r = start .pre .0 .in-range .ops-range (start .args .b .0) (start .pre .1 .0 .0) in
-    let h : L .o < operations (start .args .words .now) = omega (arith, r, at-operations .operations .ensures, at-loop-test .loop-test .taken) in
-    let m = start .pre .0 .sized .operations-most in
     omega (arith, start .pre .1 .0 .1)
 
 put-repeated-requires : tie.Need-put-repeated-requires Inv-loop μ-loop
@@ -76,10 +67,7 @@ add-o c =
     let at-loop = at-loop-test .before in
     let at-operations = at-loop .before in
     let start = at-operations .before .before .before .before in
-    let L = at-loop .loop in
     let r = start .pre .0 .in-range .ops-range (start .args .b .0) (start .pre .1 .0 .0) in
-    let h : L .o < operations (start .args .words .now) = omega (arith, r, at-operations .operations .ensures, at-loop-test .loop-test .taken) in
-    let m = start .pre .0 .sized .operations-most in
     omega (arith, start .pre .1 .0 .1)
 
 loop-less : tie.Need-loop-less Inv-loop μ-loop

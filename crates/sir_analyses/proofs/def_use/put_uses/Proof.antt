@@ -6,10 +6,10 @@ use native.Mathlib.Omega.{arith}
 use lib.ListN.{length, getD, drop}
 use Rattle.plank_core.specs.Lists.{bind}
 use Rattle.plank_core.specs.laws.Lists.{getD-mem}
+use Rattle.plank_core.specs.laws.Loops.{bind-drop-step, bind-drop-end}
 use Rattle.sir_analyses.specs.inner.Uses.{blockUses, usesOf}
 use Rattle.sir_analyses.proofs.claims.order.OrderLength.{rpo-below}
 use Rattle.sir_analyses.proofs.answers.Writing.{Putting, putting-none, putting-as, putting-count, putting-more, putting-all}
-use Rattle.sir_analyses.proofs.def_use.UseWords.{block-next, block-end}
 use Rattle.sir_analyses.proofs.def_use.put_uses.Statement.{statement}
 use Rattle.sir_analyses.proofs.def_use.put_uses.Tie as tie
 
@@ -45,7 +45,7 @@ put-block-uses-requires c κs =
     let w = start .args .words .now in
     let order = at-rpo .rpo .result .now in
     let g = blockUses w (start .args .counts .now) (start .args .local .0) in
-    let e = block-next g order (L .i) (at-loop-test .loop-test .taken) in
+    let e = bind-drop-step g order (L .i) (at-loop-test .loop-test .taken) in
     let q = putting-count (g (getD order (L .i) 0)) (bind (drop (L .i + 1) order) g) {k = 2 ^ 59 - 3} (omega (arith, start .pre .1 .1)) (putting-as e (L .inv .1)) in
     (start .pre .0 .well-formed, ((rpo-below w (start .pre .0 .well-formed) (at-rpo .rpo .ensures ∙ start .pre .0 .rpo-is) (getD order (L .i) 0) (getD-mem order (L .i) 0 (at-loop-test .loop-test .taken)), start .pre .1 .0), omega (arith, q)))
 
@@ -66,7 +66,7 @@ loop-again c =
     let w = start .args .words .now in
     let order = at-rpo .rpo .result .now in
     let g = blockUses w (start .args .counts .now) (start .args .local .0) in
-    let e = block-next g order (L .i) (at-loop-test .loop-test .taken) in
+    let e = bind-drop-step g order (L .i) (at-loop-test .loop-test .taken) in
     (omega arith, putting-more (putting-as e (L .inv .1)) (at-put-block-uses .put-block-uses .ensures))
 
 same-length : tie.Need-same-length Inv-loop μ-loop
@@ -77,7 +77,7 @@ returns c =
     let at-loop = c .before in
     let at-rpo = at-loop .before in
     let start = at-rpo .before .before .before .before .before in
-    putting-all (block-end (blockUses (start .args .words .now) (start .args .counts .now) (start .args .local .0)) (at-rpo .rpo .result .now) (at-loop .loop .i) (c .loop-test .left)) (at-loop .loop .inv .1)
+    putting-all (bind-drop-end (blockUses (start .args .words .now) (start .args .counts .now) (start .args .local .0)) (at-rpo .rpo .result .now) (at-loop .loop .i) (c .loop-test .left)) (at-loop .loop .inv .1)
 
 pub put-uses-spec : {M : Type 1} → statement M
 put-uses-spec =

@@ -7,7 +7,7 @@ use native.Mathlib.Omega.{arith}
 use lib.ListN.{length, getD, drop}
 use Rattle.plank_core.specs.Lists.{bind}
 use Rattle.plank_core.specs.laws.Lists.{getD-mem}
-use Rattle.plank_core.specs.laws.Loops.{bind-bind}
+use Rattle.plank_core.specs.laws.Loops.{bind-bind, bind-drop-step, bind-drop-end}
 use Rattle.sir_analyses.specs.Order.{blocksRpo}
 use Rattle.sir_analyses.specs.Liveness.{exitSet, blockIntervals}
 use Rattle.sir_analyses.specs.Answers.{intervalWords}
@@ -15,7 +15,6 @@ use Rattle.sir_analyses.specs.inner.Scanning.{scanWords}
 use Rattle.sir_analyses.proofs.claims.order.OrderLength.{rpo-below, blocks-most}
 use Rattle.sir_analyses.proofs.loading.Loads.{front-length}
 use Rattle.sir_analyses.proofs.answers.Writing.{Putting, putting-none, putting-as, putting-more, putting-all, puts-as}
-use Rattle.sir_analyses.proofs.def_use.UseWords.{block-next, block-end}
 use Rattle.sir_analyses.proofs.local_liveness.SetAnswers.{interval-words}
 use borrow.Author.Needs.{needs}
 use Rattle.sir_analyses.proofs.local_intervals.compute_intervals.Statement.{statement}
@@ -103,11 +102,6 @@ put-words-requires c κs =
     let start = at-rpo .before .before .before .before .before in
     let L = at-loop .loop in
     let w = start .args .words .now in
-    let order = at-rpo .rpo .result .now in
-    let t = at-loop-test .loop-test .taken in
-    let b = getD order (L .i) 0 in
-    let below = rpo-below w (start .pre .0 .well-formed) (at-rpo .rpo .ensures ∙ start .pre .0 .rpo-is) b (getD-mem order (L .i) 0 t) in
-    let v : start .args .v .0 < 512 = omega (arith, start .pre .1 .1, start .pre .0 .well-formed .sized .locals-most) in
     let i = at-block-intervals .block-intervals in
     omega (arith, ap length (i .ensures .2), i .ensures .1, i .ensures .0, L .inv .2, ap length (at-rpo .rpo .ensures ∙ start .pre .0 .rpo-is), blocks-most w (start .pre .0 .well-formed), start .pre .0 .well-formed .sized .blocks-most)
 
@@ -139,7 +133,7 @@ loop-again c =
       omega arith,
       omega (arith, i .kept, L .inv .1),
       omega (arith, p .next, ap length (i .ensures .2), i .ensures .1, i .ensures .0, L .inv .2),
-      putting-more (putting-as (block-next (inBlock w (start .args .v .0)) order (L .i) t) (L .inv .3)) (puts-as e p),
+      putting-more (putting-as (bind-drop-step (inBlock w (start .args .v .0)) order (L .i) t) (L .inv .3)) (puts-as e p),
     )
 
 same-length : tie.Need-same-length Inv-loop μ-loop
@@ -154,7 +148,7 @@ returns c =
     let w = start .args .words .now in (
       omega (arith, L .inv .2, L .inv .0, ap length (at-rpo .rpo .ensures ∙ start .pre .0 .rpo-is), blocks-most w (start .pre .0 .well-formed), start .pre .0 .well-formed .sized .blocks-most),
       puts-as (sym (bind-bind (λ b. blockIntervals w (exitSet w b) (start .args .v .0) b) (λ i. i .block ∷ i .from ∷ i .to ∷ []) (blocksRpo w)))
-          (putting-all (block-end (inBlock w (start .args .v .0)) (at-rpo .rpo .result .now) (L .i) (c .loop-test .left)) (L .inv .3)),
+          (putting-all (bind-drop-end (inBlock w (start .args .v .0)) (at-rpo .rpo .result .now) (L .i) (c .loop-test .left)) (L .inv .3)),
     )
 
 pub compute-intervals-spec : {M : Type 1} → statement M

@@ -74,7 +74,6 @@ live-before-requires c κs =
     let at-block-operations = at-loop .before .before .before in
     let at-shared-slice-known3 = at-block-operations .before .before .before .before .before in
     let start = at-shared-slice-known3 .before .before .before in
-    let l : at-loop .loop .o ≤ 1024 = omega (arith, start .pre .0 .well-formed .sized .operations-most, start .pre .0 .well-formed .in-range .ops-range (start .args .b .0) (start .pre .1 .0), at-block-operations .block-operations .ensures) in
     (start .pre .0 .long, omega arith, at-loop .loop .inv .3)
 
 slice-aggregate-intersects : tie.Need-slice-aggregate-intersects Inv-loop μ-loop

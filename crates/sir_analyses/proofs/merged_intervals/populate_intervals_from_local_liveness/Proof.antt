@@ -71,7 +71,6 @@ put-words-requires c κs =
     let L = at-loop .loop in
     let i = at-merge-intervals .merge-intervals in
     let k : length (i .last .1 .1 .1 .1 .0) ≡ 3075 = omega (arith, i .kept, L .inv .1) in
-    let t = at-loop-test .loop-test .taken in
     omega (arith, lent-most (i .last .1 .1 .1 .1 .0) 3075 (i .result) k, L .inv .2 .few, start .pre .1 .1 .1, start .pre .0 .well-formed .sized .blocks-most, at-block-count .block-count .ensures)
 
 add-b : tie.Need-add-b Inv-loop μ-loop

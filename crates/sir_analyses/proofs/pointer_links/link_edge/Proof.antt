@@ -86,7 +86,6 @@ same-length c = c .before .loop .inv .1 .long
 returns : tie.Need-returns Inv-loop μ-loop
 returns c =
     let at-outputs = c .before .before .before in
-    let start = at-outputs .before .before .before in
     let l = c .before .loop in
     let e : l .k ≡ length (at-outputs .outputs .result .now) = omega arith in
     rw (e, at-outputs .outputs .ensures, c .before .before .inputs .ensures) at (l .inv .1)

@@ -7,7 +7,7 @@ use Rattle.plank_core.specs.laws.Loops.{range-all}
 use Rattle.sir_data.specs.Records.{blocks}
 use Rattle.sir_analyses.specs.Order.{isVisited, edgesFrom, predecessors}
 use Rattle.sir_analyses.proofs.answers.Writing.{Putting, putting-none, putting-as, putting-count, putting-more, putting-all}
-use Rattle.sir_analyses.proofs.predecessors.Edges.{predecessors-most, predecessorsLeft, visited-next, unvisited-next, none-left}
+use Rattle.sir_analyses.proofs.predecessors.Edges.{predecessors-most, predecessorsLeft, visited-step, unvisited-step, visited-end}
 use Rattle.sir_analyses.proofs.predecessors.put_predecessors.Statement.{statement}
 use Rattle.sir_analyses.proofs.predecessors.put_predecessors.Tie as tie
 
@@ -45,7 +45,7 @@ put-edges-requires c κs =
     let h : L .p < blocks w = omega (arith, at-block-count .block-count .ensures, at-loop-test .loop-test .taken) in
     let n = at-block-count .block-count .result in
     let t : isVisited w (L .p) ≡ true = sym (start .pre .visited-is (L .p) h) ∙ sym (at-is-visited .is-visited .ensures) ∙ at-if1 .if1 .taken in
-    let e = visited-next w (start .args .b .0) (L .p) n (at-loop-test .loop-test .taken) t in
+    let e = visited-step w (λ q. edgesFrom w q (start .args .b .0)) (L .p) n (at-loop-test .loop-test .taken) t in
     (start .pre .well-formed, (h, putting-count (edgesFrom w (L .p) (start .args .b .0)) (predecessorsLeft w (start .args .b .0) (L .p + 1) n) (omega (arith, predecessors-most w (start .pre .well-formed) (start .args .b .0))) (putting-as e (L .inv .1))))
 
 loop-less : tie.Need-loop-less Inv-loop μ-loop
@@ -65,7 +65,7 @@ loop-again c =
     let h : L .p < blocks w = omega (arith, at-block-count .block-count .ensures, at-loop-test .loop-test .taken) in
     let n = at-block-count .block-count .result in
     let t : isVisited w (L .p) ≡ true = sym (start .pre .visited-is (L .p) h) ∙ sym (at-is-visited .is-visited .ensures) ∙ at-if1 .if1 .taken in
-    let e = visited-next w (start .args .b .0) (L .p) n (at-loop-test .loop-test .taken) t in
+    let e = visited-step w (λ q. edgesFrom w q (start .args .b .0)) (L .p) n (at-loop-test .loop-test .taken) t in
     (omega arith, putting-more (putting-as e (L .inv .1)) (at-put-edges .put-edges .ensures))
 
 loop-less-2 : tie.Need-loop-less-2 Inv-loop μ-loop
@@ -83,7 +83,7 @@ loop-again-2 c =
     let h : L .p < blocks w = omega (arith, at-block-count .block-count .ensures, at-loop-test .loop-test .taken) in
     let n = at-block-count .block-count .result in
     let t : isVisited w (L .p) ≡ false = sym (start .pre .visited-is (L .p) h) ∙ sym (at-is-visited .is-visited .ensures) ∙ c .if1 .left in
-    (omega arith, putting-as (unvisited-next w (start .args .b .0) (L .p) n (at-loop-test .loop-test .taken) t) (L .inv .1))
+    (omega arith, putting-as (unvisited-step w (λ q. edgesFrom w q (start .args .b .0)) (L .p) n (at-loop-test .loop-test .taken) t) (L .inv .1))
 
 same-length : tie.Need-same-length Inv-loop μ-loop
 same-length c = c .before .loop .inv .1 .long
@@ -93,7 +93,7 @@ returns c =
     let at-loop = c .before in
     let at-block-count = at-loop .before in
     let start = at-block-count .before .before .before .before in
-    putting-all (none-left (start .args .words .now) (start .args .b .0) (at-loop .loop .p) (at-block-count .block-count .result) (c .loop-test .left)) (at-loop .loop .inv .1)
+    putting-all (visited-end (start .args .words .now) (λ q. edgesFrom (start .args .words .now) q (start .args .b .0)) (at-loop .loop .p) (at-block-count .block-count .result) (c .loop-test .left)) (at-loop .loop .inv .1)
 
 pub put-predecessors-spec : {M : Type 1} → statement M
 put-predecessors-spec =

@@ -1,6 +1,5 @@
 -- `count_allocations` meets its contract.
-use mathlib.Core.Path.{_≡_}
-use Prim.Native.Nat.{ℕ, _+_, _-_, _*_, _^_, _≤_, _<_}
+use Prim.Native.Nat.{_<_}
 use native.Mathlib.Omega.{arith}
 use borrow.Author.Needs.{needs}
 use lib.ListN.{length}
@@ -26,8 +25,6 @@ passed-words-requires c κs =
     let at-scan-allocations = c .before .before .before .before in
     let at-shared-slice-known3 = at-scan-allocations .before .before .before .before .before in
     let start = at-shared-slice-known3 .before .before .before in
-    let stage = start .pre .1 .1 .0 in
-    let wide = start .pre .1 .1 .1 .0 in
     let top = start .pre .1 .1 .1 .1 in
     let s = at-scan-allocations .scan-allocations in
     λ v h. let l : v < length (start .args .cursors .now) = omega (arith, s .kept) in omega (arith, scatters-cursor v l (s .ensures), top v l)

@@ -1,9 +1,8 @@
 -- `live_owners` meets its contract.
-use mathlib.Core.Path.{_≡_, refl, sym, ap, _∙_}
-use Prim.Native.Nat.{ℕ, _+_, _-_, _*_, _≤_, _<_}
+use mathlib.Core.Path.{refl}
 use native.Mathlib.Omega.{arith}
 use borrow.Author.Needs.{needs}
-use lib.ListN.{length, take}
+use lib.ListN.{take}
 use Rattle.sir_analyses.proofs.loading.Loads.{front-length}
 use Rattle.sir_answers.proofs.all_allocations.SweptEnds.{live-listed}
 use Rattle.sir_answers.proofs.all_allocations.live_owners.Statement.{statement}

@@ -3,16 +3,13 @@ use mathlib.Core.Path.{_≡_, refl, sym, ap, _∙_}
 use mathlib.Core.List.{List, _∷_, []}
 use Prim.Native.Nat.{ℕ, _+_, _-_, _*_, _/_, _≤_, _<_}
 use native.Mathlib.Omega.{arith}
-use borrow.Author.Needs.{needs}
 use lib.ListN.{length}
 use Rattle.plank_core.specs.Lists.{bind, range}
-use Rattle.plank_core.specs.laws.Loops.{range-all}
+use Rattle.plank_core.specs.laws.Loops.{range-all, bind-step, bind-end}
 use Rattle.sir_analyses.specs.Allocation.{allocs, merged}
-use Rattle.sir_analyses.specs.Answers.{intervalWords}
-use Rattle.sir_answers.specs.inner.Scatter.{Pieces, backward, numberAt}
+use Rattle.sir_answers.specs.inner.Scatter.{backward, numberAt}
 use Rattle.sir_answers.specs.inner.AllocationPieces.{headOf, headPieces}
 use Rattle.sir_analyses.proofs.allocation_liveness.PointerTables.{allocations-few}
-use Rattle.sir_answers.proofs.scatter.PieceLaws.{range-step, range-end}
 use Rattle.sir_analyses.proofs.allocation_answers.AllocationWords.{interval-count}
 use Rattle.sir_answers.proofs.all_allocations.AllocationPieces.{merged-few, other-cursor}
 use Rattle.sir_answers.proofs.scatter.Scattering.{Scattering, scattering-none, scattering-as, scattering-fits, scattering-more, scattering-all, fits-as, scatters-as}
@@ -67,7 +64,6 @@ sub-count c =
     let at-shared-slice-known = at-loop .before .before .before .before .before in
     let start = at-shared-slice-known .before in
     let w = start .args .words .now in
-    let stage = start .pre .0 in
     let L = at-loop .loop in
     let h = at-loop-test .loop-test .taken in
     let l : L .a < length (allocs w) = omega (arith, h, L .inv .1 .wide, start .pre .1 .0 .0) in
@@ -122,14 +118,13 @@ prepend-requires c κs =
     let at-shared-slice-known = at-loop .before .before .before .before .before in
     let start = at-shared-slice-known .before in
     let w = start .args .words .now in
-    let stage = start .pre .0 in
     let L = at-loop .loop in
     let h = at-loop-test .loop-test .taken in
     let l : L .a < length (allocs w) = omega (arith, h, L .inv .1 .wide, start .pre .1 .0 .0) in
     let top : numberAt (start .args .tops .now) (L .a) ≡ numberAt (L .cursors) (L .a) + 3 * length (merged w (L .a)) = omega (arith, start .pre .1 .1 .1 (L .a) (omega (arith, l, start .pre .1 .0 .0)), L .inv .2 (L .a) (omega arith) (omega (arith, l, start .pre .1 .0 .0)), interval-count (merged w (L .a))) in
     let n : (numberAt (start .args .tops .now) (L .a) - numberAt (L .cursors) (L .a)) / 3 ≡ length (merged w (L .a)) = omega (arith, top) in
     let head = at-record-head .record-head .ensures n in
-    let k = scattering-as (range-step (λ a. (a, headOf w a) ∷ []) (L .a) (length (start .args .cursors .now)) (omega (arith, h, L .inv .1 .wide))) (L .inv .1) in
+    let k = scattering-as (bind-step (λ a. (a, headOf w a) ∷ []) (L .a) (length (start .args .cursors .now)) (omega (arith, h, L .inv .1 .wide))) (L .inv .1) in
     (omega (arith, h), fits-as (ap (λ (xs : List ℕ). (L .a, xs) ∷ []) (sym head)) (scattering-fits ((L .a, headOf w (L .a)) ∷ []) (bind (range (L .a + 1) (length (start .args .cursors .now))) (λ a. (a, headOf w a) ∷ [])) k))
 
 add-a : tie.Need-add-a Inv-loop μ-loop
@@ -165,14 +160,13 @@ loop-again c =
     let at-shared-slice-known = at-loop .before .before .before .before .before in
     let start = at-shared-slice-known .before in
     let w = start .args .words .now in
-    let stage = start .pre .0 in
     let L = at-loop .loop in
     let h = at-loop-test .loop-test .taken in
     let l : L .a < length (allocs w) = omega (arith, h, L .inv .1 .wide, start .pre .1 .0 .0) in
     let top : numberAt (start .args .tops .now) (L .a) ≡ numberAt (L .cursors) (L .a) + 3 * length (merged w (L .a)) = omega (arith, start .pre .1 .1 .1 (L .a) (omega (arith, l, start .pre .1 .0 .0)), L .inv .2 (L .a) (omega arith) (omega (arith, l, start .pre .1 .0 .0)), interval-count (merged w (L .a))) in
     let n : (numberAt (start .args .tops .now) (L .a) - numberAt (L .cursors) (L .a)) / 3 ≡ length (merged w (L .a)) = omega (arith, top) in
     let head = at-record-head .record-head .ensures n in
-    let k = scattering-as (range-step (λ a. (a, headOf w a) ∷ []) (L .a) (length (start .args .cursors .now)) (omega (arith, h, L .inv .1 .wide))) (L .inv .1) in
+    let k = scattering-as (bind-step (λ a. (a, headOf w a) ∷ []) (L .a) (length (start .args .cursors .now)) (omega (arith, h, L .inv .1 .wide))) (L .inv .1) in
     let s = scatters-as (ap (λ (xs : List ℕ). (L .a, xs) ∷ []) head) (at-prepend .prepend .ensures) in
     (omega (arith, h, L .inv .1 .wide), scattering-more (bind (range (L .a + 1) (length (start .args .cursors .now))) (λ a. (a, headOf w a) ∷ [])) k s, λ u p q. other-cursor u (λ z. omega arith) (omega (arith, q, L .inv .1 .wide)) s ∙ L .inv .2 u (omega arith) q)
 
@@ -192,7 +186,7 @@ returns c =
     let at-shared-slice-known = at-loop .before .before .before .before .before in
     let start = at-shared-slice-known .before in
     let w = start .args .words .now in
-    scattering-all (range-end (λ a. (a, headOf w a) ∷ []) (at-loop .loop .a) (length (start .args .cursors .now)) (omega (arith, c .loop-test .left, at-loop .loop .inv .1 .wide))) (at-loop .loop .inv .1)
+    scattering-all (bind-end (λ a. (a, headOf w a) ∷ []) (at-loop .loop .a) (length (start .args .cursors .now)) (omega (arith, c .loop-test .left, at-loop .loop .inv .1 .wide))) (at-loop .loop .inv .1)
 
 pub put-heads-spec : {M : Type 1} → statement M
 put-heads-spec =

@@ -1,8 +1,7 @@
 -- `record_head` meets its contract.
-use mathlib.Core.Path.{_≡_, sym, ap, _∙_}
+use mathlib.Core.Path.{ap, _∙_}
 use mathlib.Core.Bool.{true, false}
 use native.Mathlib.Omega.{arith}
-use borrow.Author.Needs.{needs}
 use lib.ListN.{length}
 use Rattle.sir_analyses.proofs.allocation_liveness.Discovery.{sites-long}
 use Rattle.sir_analyses.proofs.allocation_liveness.PointerTables.{allocations-few}

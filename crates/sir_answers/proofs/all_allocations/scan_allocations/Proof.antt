@@ -1,8 +1,6 @@
 -- `scan_allocations` meets its contract.
-use mathlib.Core.Path.{_≡_, refl, sym, ap, _∙_}
-use Prim.Native.Nat.{ℕ, _+_, _-_, _*_, _^_, _≤_, _<_}
+use mathlib.Core.Path.{_≡_, refl, sym, _∙_}
 use native.Mathlib.Omega.{arith}
-use borrow.Author.Needs.{needs}
 use lib.ListN.{length}
 use Rattle.sir_answers.specs.inner.AllocationPieces.{visitedPieces, headPieces}
 use Rattle.sir_analyses.proofs.allocation_liveness.PointerTables.{allocations-few}

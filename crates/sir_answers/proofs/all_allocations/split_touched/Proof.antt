@@ -1,10 +1,9 @@
 -- `split_touched` meets its contract.
-use mathlib.Core.Path.{_≡_, refl, sym, ap, _∙_}
-use Prim.Native.Nat.{ℕ, _+_, _-_, _*_, _≤_, _<_}
+use mathlib.Core.Path.{refl, ap, _∙_}
 use native.Mathlib.Omega.{arith}
 use borrow.Author.Needs.{needs}
-use lib.ListN.{length, take, replicate}
-use Rattle.plank_core.specs.inner.DenseIndexSet.{contains, rowOf, rowUnion}
+use lib.ListN.{length, take}
+use Rattle.plank_core.specs.inner.DenseIndexSet.{contains}
 use Rattle.plank_core.specs.laws.DenseIndexSet.{length-row}
 use Rattle.sir_analyses.specs.inner.Stages.{readsIn, writesIn}
 use Rattle.sir_analyses.proofs.stages.Parts.{length-part}

@@ -1,25 +1,24 @@
 -- `sweep_block` meets its contract. The invariant: the pieces of the operations before o, and of the start, are to be put.
 use mathlib.Core.Path.{_≡_, refl, sym, ap, ap₂, _∙_}
 use mathlib.Core.List.{List, [], _∷_, _++_, reverse}
-use Prim.Native.Nat.{ℕ, _+_, _-_, _*_, _≤_, _<_}
+use Prim.Native.Nat.{ℕ, _+_, _-_, _≤_, _<_}
 use native.Mathlib.Omega.{arith}
-use borrow.Author.Needs.{needs}
-use lib.ListN.{length, take, replicate}
+use lib.ListN.{length, replicate}
 use Rattle.plank_core.specs.Lists.{bind, range}
 use Rattle.plank_core.specs.laws.Loops.{range-before, range-none}
-use Rattle.plank_core.specs.inner.DenseIndexSet.{members, rowOf}
+use Rattle.plank_core.specs.inner.DenseIndexSet.{rowOf}
 use Rattle.sir_data.specs.Records.{operations, blockWord, ops}
 use Rattle.sir_answers.specs.inner.Scatter.{backward, numberAt}
 use Rattle.sir_answers.specs.inner.IntervalPieces.{closedPieces}
 use Rattle.sir_answers.specs.inner.AllocationPieces.{SweptEnds, sweptPieces, openPieces, sweepPieces}
 use Rattle.sir_analyses.proofs.loading.Loads.{front-length}
-use Rattle.sir_answers.proofs.scatter.AllAnswers.{zero-at}
 use Rattle.sir_answers.proofs.scatter.Scattering.{Scattering, scattering-none, scattering-as, scattering-fits, scattering-more, scattering-all, scatters-as}
 use Rattle.sir_answers.proofs.all_intervals.OpenEnds.{listed-below, close-ready}
 use Rattle.sir_answers.proofs.all_allocations.AllocationPieces.{swept-below, open-below, sweptLeft, swept-next, swept-last}
 use Rattle.sir_answers.proofs.all_allocations.SweptEnds.{LiveBefore, live-none, swept-none, live-more, swept-closed, swept-more, open-closed}
 use Rattle.sir_answers.proofs.all_allocations.sweep_block.Statement.{statement}
 use Rattle.sir_answers.proofs.all_allocations.sweep_block.Tie as tie
+use Rattle.sir_analyses.proofs.Tables.{zero-at}
 
 abbrev Inv-loop : tie.InvT-loop
 Inv-loop words live owned b cursors₀ out₀ set₀ ids₀ till₀ n first o₀ cursors out set ids till o = (first ≤ o) × (o ≤ operations words) × (o ≤ o₀) × (length ids ≡ 512) × LiveBefore words (b .0) (range o o₀) set × SweptEnds words (b .0) (range o o₀) till × Scattering backward (sweepPieces words (b .0)) cursors₀ out₀ (sweptLeft words (b .0) first o) cursors out

@@ -1,12 +1,10 @@
 -- `sweep_blocks` meets its contract. The invariant: the pieces of the visited blocks below b are to be put.
-use mathlib.Core.Path.{_≡_, refl, sym, ap, _∙_}
+use mathlib.Core.Path.{_≡_, sym, ap, _∙_}
 use mathlib.Core.List.{[]}
-use Prim.Native.Nat.{ℕ, _+_, _-_, _*_, _≤_, _<_}
+use Prim.Native.Nat.{_-_, _≤_, _<_}
 use native.Mathlib.Omega.{arith}
-use borrow.Author.Needs.{needs}
-use lib.ListN.{length}
 use Rattle.sir_data.specs.Records.{blocks}
-use Rattle.sir_answers.specs.inner.Scatter.{Pieces, backward}
+use Rattle.sir_answers.specs.inner.Scatter.{backward}
 use Rattle.sir_answers.specs.inner.AllocationPieces.{sweepPieces, visitedPieces}
 use Rattle.sir_answers.proofs.scatter.Scattering.{Scattering, scattering-none, scattering-as, scattering-fits, scattering-more, scattering-all}
 use Rattle.sir_answers.proofs.all_allocations.AllocationPieces.{visitedTo, visited-next, visited-skip}

@@ -1,7 +1,6 @@
 -- `write_allocations` meets its contract.
 use mathlib.Core.Path.{_≡_}
 use native.Mathlib.Omega.{arith}
-use borrow.Author.Needs.{needs}
 use lib.ListN.{length}
 use Rattle.sir_analyses.specs.Allocation.{allocs}
 use Rattle.sir_answers.specs.inner.Scatter.{backward}

@@ -1,6 +1,6 @@
 -- `all_intervals_answer` meets its contract.
 use mathlib.Core.Path.{sym, _∙_}
-use Prim.Native.Nat.{ℕ, _≤_}
+use Prim.Native.Nat.{_≤_}
 use native.Mathlib.Omega.{arith}
 use borrow.Author.Needs.{needs}
 use Rattle.sir_answers.proofs.scatter.AllAnswers.{zero-long, zero-prefix}

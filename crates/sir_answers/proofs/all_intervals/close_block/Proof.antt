@@ -1,13 +1,10 @@
 -- `close_block` meets its contract.
-use mathlib.Core.Path.{_≡_, ap, _∙_}
-use Prim.Native.Nat.{ℕ, _+_, _-_, _*_, _≤_, _<_}
+use mathlib.Core.Path.{ap, _∙_}
 use native.Mathlib.Omega.{arith}
 use borrow.Author.Needs.{needs}
-use lib.ListN.{length, take}
-use Rattle.plank_core.specs.inner.DenseIndexSet.{members}
 use Rattle.plank_core.specs.laws.Members.{members-most}
 use Rattle.sir_answers.specs.inner.Scatter.{numberAt}
-use Rattle.sir_answers.specs.inner.IntervalPieces.{closedPieces, startPieces}
+use Rattle.sir_answers.specs.inner.IntervalPieces.{closedPieces}
 use Rattle.sir_analyses.proofs.loading.Loads.{front-length}
 use Rattle.sir_analyses.proofs.local_liveness.SetAnswers.{front-members}
 use Rattle.sir_answers.proofs.scatter.Scattering.{scatters-as}

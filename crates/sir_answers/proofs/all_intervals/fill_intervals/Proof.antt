@@ -1,17 +1,8 @@
 -- `fill_intervals` meets its contract.
-use mathlib.Core.Path.{sym, ap, _∙_}
-use Prim.Native.Nat.{ℕ}
 use native.Mathlib.Omega.{arith}
 use borrow.Author.Needs.{needs}
-use mathlib.Core.List.{List, _++_}
-use lib.ListN.{length, drop}
-use lib.Seq.{length-take-le}
-use Rattle.sir_data.specs.Records.{locals}
-use Rattle.sir_analyses.specs.Answers.{intervalsAnswer}
-use Rattle.sir_analyses.specs.Calls.{made}
-use Rattle.sir_answers.specs.inner.Scatter.{allOf}
 use Rattle.sir_answers.proofs.all_intervals.IntervalPieces.{intervals-small}
-use Rattle.sir_answers.proofs.scatter.AllAnswers.{counts-finished, counts-fit, not-answered, answer-room, whole-answered}
+use Rattle.sir_answers.proofs.scatter.AllAnswers.{counts-fit, not-answered, answer-room, whole-answered, lent-long, lent-words}
 use Rattle.sir_answers.proofs.all_intervals.fill_intervals.Statement.{statement}
 use Rattle.sir_answers.proofs.all_intervals.fill_intervals.Tie as tie
 
@@ -48,10 +39,7 @@ returns c =
     let at-count-intervals = at-total-words .before .before .before .before in
     let at-shared-slice-known2 = at-count-intervals .before .before .before .before .before in
     let start = at-shared-slice-known2 .before .before in
-    let w = start .args .words .now in
-    let counts = at-count-intervals .count-intervals .ensures in
-    let f = counts-finished counts (at-total-words .total-words .ensures) (at-finish .finish .ensures) in
-    not-answered (allOf (intervalsAnswer w) (locals w)) (start .args .out .now) f (c .if1 .taken)
+    not-answered (at-count-intervals .count-intervals .ensures) (start .args .out .now) (at-total-words .total-words .ensures) (at-finish .finish .ensures) (c .if1 .taken)
 
 slice-relend-prefix-write-intervals : tie.Need-slice-relend-prefix-write-intervals
 slice-relend-prefix-write-intervals c =
@@ -61,10 +49,7 @@ slice-relend-prefix-write-intervals c =
     let at-count-intervals = at-total-words .before .before .before .before in
     let at-shared-slice-known2 = at-count-intervals .before .before .before .before .before in
     let start = at-shared-slice-known2 .before .before in
-    let w = start .args .words .now in
-    let counts = at-count-intervals .count-intervals .ensures in
-    let f = counts-finished counts (at-total-words .total-words .ensures) (at-finish .finish .ensures) in
-    answer-room (allOf (intervalsAnswer w) (locals w)) (start .args .out .now) f (at-if1 .if1 .left) .1
+    answer-room (at-count-intervals .count-intervals .ensures) (start .args .out .now) (at-total-words .total-words .ensures) (at-finish .finish .ensures) (at-if1 .if1 .left)
 
 slice-aggregate-write-intervals : tie.Need-slice-aggregate-write-intervals
 slice-aggregate-write-intervals c =
@@ -74,10 +59,7 @@ slice-aggregate-write-intervals c =
     let at-count-intervals = at-total-words .before .before .before .before in
     let at-shared-slice-known2 = at-count-intervals .before .before .before .before .before in
     let start = at-shared-slice-known2 .before .before in
-    let w = start .args .words .now in
-    let counts = at-count-intervals .count-intervals .ensures in
-    let f = counts-finished counts (at-total-words .total-words .ensures) (at-finish .finish .ensures) in
-    sym (length-take-le (at-finish .finish .result .length) (start .args .out .now) (answer-room (allOf (intervalsAnswer w) (locals w)) (start .args .out .now) f (at-if1 .if1 .left) .1))
+    lent-long (at-count-intervals .count-intervals .ensures) (start .args .out .now) (at-total-words .total-words .ensures) (at-finish .finish .ensures) (at-if1 .if1 .left)
 
 write-intervals-requires : tie.Need-write-intervals-requires
 write-intervals-requires c κs =
@@ -87,11 +69,7 @@ write-intervals-requires c κs =
     let at-count-intervals = at-total-words .before .before .before .before in
     let at-shared-slice-known2 = at-count-intervals .before .before .before .before .before in
     let start = at-shared-slice-known2 .before .before in
-    let w = start .args .words .now in
-    let counts = at-count-intervals .count-intervals .ensures in
-    let f = counts-finished counts (at-total-words .total-words .ensures) (at-finish .finish .ensures) in
-    let r = answer-room (allOf (intervalsAnswer w) (locals w)) (start .args .out .now) f (at-if1 .if1 .left) in
-    (start .pre .0, (start .pre .1 .0, (counts, length-take-le (at-finish .finish .result .length) (start .args .out .now) (r .1) ∙ r .0)))
+    (start .pre .0, (start .pre .1 .0, (at-count-intervals .count-intervals .ensures, lent-words (at-count-intervals .count-intervals .ensures) (start .args .out .now) (at-total-words .total-words .ensures) (at-finish .finish .ensures) (at-if1 .if1 .left))))
 
 same-length-2 : tie.Need-same-length-2
 same-length-2 c =
@@ -112,12 +90,7 @@ returns-2 c =
     let at-count-intervals = at-total-words .before .before .before .before in
     let at-shared-slice-known2 = at-count-intervals .before .before .before .before .before in
     let start = at-shared-slice-known2 .before .before in
-    let w = start .args .words .now in
-    let counts = at-count-intervals .count-intervals .ensures in
-    let f = counts-finished counts (at-total-words .total-words .ensures) (at-finish .finish .ensures) in
-    let a = at-finish .finish .result in
-    ap (λ (l : List ℕ). made (a .number) (a .length) (l ++ drop (a .length) (start .args .out .now))) (at-write-intervals .write-intervals .ensures)
-    ∙ whole-answered (allOf (intervalsAnswer w) (locals w)) (start .args .out .now) f (at-if1 .if1 .left)
+    whole-answered (at-count-intervals .count-intervals .ensures) (start .args .out .now) (at-total-words .total-words .ensures) (at-finish .finish .ensures) (at-if1 .if1 .left) (at-write-intervals .write-intervals .ensures)
 
 pub fill-intervals-spec : {M : Type 1} → statement M
 fill-intervals-spec =

@@ -1,8 +1,8 @@
 -- `list_row` meets its contract.
-use mathlib.Core.Path.{_≡_, ap, _∙_}
+use mathlib.Core.Path.{ap, _∙_}
 use native.Mathlib.Omega.{arith}
 use lib.ListN.{length}
-use Rattle.plank_core.specs.inner.DenseIndexSet.{rowOf, members}
+use Rattle.plank_core.specs.inner.DenseIndexSet.{members}
 use Rattle.plank_core.specs.laws.DenseIndexSet.{length-row}
 use Rattle.plank_core.specs.laws.Members.{members-most}
 use Rattle.sir_analyses.proofs.local_liveness.SetAnswers.{front-members}

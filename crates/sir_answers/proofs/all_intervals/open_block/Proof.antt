@@ -1,11 +1,9 @@
 -- `open_block` meets its contract.
-use mathlib.Core.Path.{_≡_, sym, ap, _∙_}
-use Prim.Native.Nat.{ℕ, _+_, _-_, _*_, _≤_, _<_}
+use mathlib.Core.Path.{ap, _∙_}
 use native.Mathlib.Omega.{arith}
 use borrow.Author.Needs.{needs}
 use lib.ListN.{length}
 use Rattle.plank_core.specs.inner.DenseIndexSet.{members, rowOf}
-use Rattle.sir_answers.specs.inner.Scatter.{numberAt}
 use Rattle.sir_analyses.specs.inner.Stages.{exitsIn, endsIn}
 use Rattle.sir_analyses.proofs.stages.Parts.{length-part}
 use Rattle.sir_analyses.proofs.loading.Loads.{front-length}

@@ -1,9 +1,9 @@
 -- `open_ends` meets its contract. The invariant: what is left decides.
 use mathlib.Core.Path.{_≡_, refl, sym, _∙_}
 use mathlib.Core.Bool.{_&&_, cond}
-use Prim.Native.Nat.{ℕ, _+_, _-_, _≤_, _<_}
+use Prim.Native.Nat.{ℕ, _-_, _≤_, _<_}
 use native.Mathlib.Omega.{arith}
-use lib.ListN.{length, drop, getD, set, length-set}
+use lib.ListN.{length, drop, getD, length-set}
 use lib.Dec.{eqb}
 use Rattle.plank_core.specs.Lists.{mem}
 use Rattle.plank_core.specs.laws.Lists.{getD-mem}

@@ -1,7 +1,6 @@
 -- `scan_block` meets its contract.
-use mathlib.Core.Path.{_≡_, refl, sym, _∙_}
+use mathlib.Core.Path.{refl, sym, _∙_}
 use mathlib.Core.List.{[]}
-use Prim.Native.Nat.{ℕ, _+_, _-_, _*_, _≤_, _<_}
 use native.Mathlib.Omega.{arith}
 use borrow.Author.Needs.{needs}
 use Rattle.sir_answers.specs.inner.Scatter.{forward}
@@ -9,9 +8,9 @@ use Rattle.sir_answers.specs.inner.IntervalPieces.{OpenEnds, operationsP
 use Rattle.sir_answers.specs.laws.Scatter.{room-first}
 use Rattle.sir_answers.proofs.scatter.Scattering.{scattering-none, scattering-more, scatters-then}
 use Rattle.sir_answers.proofs.all_intervals.OpenEnds.{ends-none}
-use Rattle.sir_answers.proofs.scatter.AllAnswers.{zero-at}
 use Rattle.sir_answers.proofs.all_intervals.scan_block.Statement.{statement}
 use Rattle.sir_answers.proofs.all_intervals.scan_block.Tie as tie
+use Rattle.sir_analyses.proofs.Tables.{zero-at}
 
 slice-aggregate-open-block : tie.Need-slice-aggregate-open-block
 slice-aggregate-open-block c = search needs

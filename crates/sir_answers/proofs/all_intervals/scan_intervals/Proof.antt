@@ -1,19 +1,16 @@
 -- `scan_intervals` meets its contract. The invariant: the pieces of the blocks left are to be put.
-use mathlib.Core.Path.{_≡_, refl, sym, ap, _∙_}
-use mathlib.Core.List.{List, []}
-use Prim.Native.Nat.{ℕ, _+_, _-_, _*_, _≤_, _<_}
+use mathlib.Core.Path.{sym, ap, _∙_}
+use mathlib.Core.List.{List}
+use Prim.Native.Nat.{ℕ, _+_, _-_, _≤_}
 use native.Mathlib.Omega.{arith}
-use borrow.Author.Needs.{needs}
 use lib.ListN.{length, getD, drop}
 use Rattle.plank_core.specs.Lists.{bind}
 use Rattle.plank_core.specs.laws.Lists.{getD-mem}
-use Rattle.sir_data.specs.Records.{blocks}
-use Rattle.sir_analyses.specs.Order.{blocksRpo}
+use Rattle.plank_core.specs.laws.Loops.{bind-drop-step, bind-drop-end}
 use Rattle.sir_answers.specs.inner.Scatter.{forward}
 use Rattle.sir_answers.specs.inner.IntervalPieces.{blockPieces, localPieces}
 use Rattle.sir_analyses.proofs.claims.order.OrderLength.{rpo-below, blocks-most}
 use Rattle.sir_answers.proofs.scatter.Scattering.{Scattering, scattering-none, scattering-as, scattering-fits, scattering-more, scattering-all}
-use Rattle.sir_answers.proofs.all_intervals.IntervalPieces.{blocks-next, blocks-end}
 use Rattle.sir_answers.proofs.all_intervals.scan_intervals.Statement.{statement}
 use Rattle.sir_answers.proofs.all_intervals.scan_intervals.Tie as tie
 
@@ -62,7 +59,7 @@ scan-block-requires c κs =
     let b = getD order (L .i) 0 in
     let h = at-loop-test .loop-test .taken in
     let in-order = at-rpo .rpo .ensures ∙ start .pre .0 .rpo-is in
-    let k = scattering-as (blocks-next w order (L .i) h) (L .inv .1) in
+    let k = scattering-as (bind-drop-step (blockPieces w) order (L .i) h) (L .inv .1) in
     (start .pre .1 .0, (rpo-below w (start .pre .0 .well-formed) in-order b (getD-mem order (L .i) 0 h), (L .inv .1 .wide ∙ start .pre .1 .1 .0, scattering-fits (blockPieces w b) (bind (drop (L .i + 1) order) (blockPieces w)) k)))
 
 add-i : tie.Need-add-i Inv-loop μ-loop
@@ -92,10 +89,8 @@ loop-again c =
     let w = a .words .now in
     let L = at-loop .loop in
     let order = at-rpo .rpo .result .now in
-    let b = getD order (L .i) 0 in
     let h = at-loop-test .loop-test .taken in
-    let in-order = at-rpo .rpo .ensures ∙ start .pre .0 .rpo-is in
-    let k = scattering-as (blocks-next w order (L .i) h) (L .inv .1) in
+    let k = scattering-as (bind-drop-step (blockPieces w) order (L .i) h) (L .inv .1) in
     (omega (arith, h), scattering-more (bind (drop (L .i + 1) order) (blockPieces w)) k (at-scan-block .scan-block .ensures))
 
 same-length : tie.Need-same-length Inv-loop μ-loop
@@ -114,7 +109,7 @@ returns c =
     let at-rpo = at-loop .before in
     let at-shared-slice-known = at-rpo .before .before .before .before .before in
     let start = at-shared-slice-known .before in
-    scattering-all (blocks-end (start .args .words .now) (at-rpo .rpo .result .now) (at-loop .loop .i) (c .loop-test .left)) (at-loop .loop .inv .1)
+    scattering-all (bind-drop-end (blockPieces (start .args .words .now)) (at-rpo .rpo .result .now) (at-loop .loop .i) (c .loop-test .left)) (at-loop .loop .inv .1)
 
 pub scan-intervals-spec : {M : Type 1} → statement M
 scan-intervals-spec =

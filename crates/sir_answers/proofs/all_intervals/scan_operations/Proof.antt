@@ -1,20 +1,20 @@
 -- `scan_operations` meets its contract. The invariant: the pieces of the operations before o are to be put.
-use mathlib.Core.Path.{_≡_, refl, sym, ap, ap₂, _∙_}
+use mathlib.Core.Path.{_≡_, sym, ap, ap₂, _∙_}
 use mathlib.Core.List.{List, _∷_, reverse}
-use Prim.Native.Nat.{ℕ, _+_, _-_, _*_, _≤_, _<_}
+use Prim.Native.Nat.{ℕ, _+_, _-_, _≤_, _<_}
 use native.Mathlib.Omega.{arith}
 use borrow.Author.Needs.{needs}
-use lib.ListN.{length, take}
+use lib.ListN.{length}
 use Rattle.plank_core.specs.Lists.{bind, range}
-use Rattle.plank_core.specs.laws.Loops.{range-before, range-none}
+use Rattle.plank_core.specs.laws.Loops.{range-before, range-none, bind-back-step, bind-back-end}
 use Rattle.plank_core.specs.inner.DenseIndexSet.{members, rowOf}
 use Rattle.sir_data.specs.Records.{operations, blockWord, ops}
-use Rattle.sir_analyses.specs.inner.Stages.{readsIn, writesIn}
+use Rattle.sir_analyses.specs.inner.Stages.{writesIn}
 use Rattle.sir_answers.specs.inner.Scatter.{forward, numberAt}
 use Rattle.sir_answers.specs.inner.IntervalPieces.{closedPieces, OpenEnds, operationPieces, operationsPieces}
 use Rattle.sir_analyses.proofs.loading.Loads.{front-length}
 use Rattle.sir_answers.proofs.scatter.Scattering.{Scattering, scattering-none, scattering-as, scattering-fits, scattering-more, scattering-all, scatters-as}
-use Rattle.sir_answers.proofs.all_intervals.IntervalPieces.{operation-below, operations-next, operations-end}
+use Rattle.sir_answers.proofs.all_intervals.IntervalPieces.{operation-below}
 use Rattle.sir_answers.proofs.all_intervals.OpenEnds.{listed-below, operation-closed, ends-more, close-ready}
 use Rattle.sir_answers.proofs.all_intervals.scan_operations.Statement.{statement}
 use Rattle.sir_answers.proofs.all_intervals.scan_operations.Tie as tie
@@ -121,7 +121,7 @@ close-ends-requires c κs =
     let next : L .o ≡ o + 1 = omega (arith, at-loop-test .loop-test .taken) in
     let os : range (L .o) (span .result .end) ≡ range (o + 1) (blockWord w b 5) = ap₂ range next (span .ensures .1) in
     let e = ap (closedPieces b (o + 1) (numberAt (L .till))) listed ∙ operation-closed (start .pre .0) (start .pre .1 .0 .0) (L .inv .4) m os in
-    let k = scattering-as (operations-next w b (span .result .start) (L .o) (at-loop-test .loop-test .taken)) (L .inv .5) in
+    let k = scattering-as (bind-back-step (operationPieces w b) (span .result .start) (L .o) (at-loop-test .loop-test .taken)) (L .inv .5) in
     (listed-below (rowOf (writesIn (a .live .now)) o) (L .till) listed (L .inv .4 .long), close-ready e (L .inv .5 .wide ∙ start .pre .1 .1 .0) (operation-below (start .pre .0 .well-formed) (start .pre .1 .0 .0) o) (scattering-fits (operationPieces w b o) (bind (reverse (range (span .result .start) o)) (operationPieces w b)) k))
 
 array-share-prefix-ids-2 : tie.Need-array-share-prefix-ids-2 Inv-loop μ-loop
@@ -263,7 +263,7 @@ loop-again c =
     let next : L .o ≡ o + 1 = omega (arith, at-loop-test .loop-test .taken) in
     let os : range (L .o) (span .result .end) ≡ range (o + 1) (blockWord w b 5) = ap₂ range next (span .ensures .1) in
     let e = ap (closedPieces b (o + 1) (numberAt (L .till))) listed ∙ operation-closed (start .pre .0) (start .pre .1 .0 .0) (L .inv .4) m os in
-    let k = scattering-as (operations-next w b (span .result .start) (L .o) (at-loop-test .loop-test .taken)) (L .inv .5) in
+    let k = scattering-as (bind-back-step (operationPieces w b) (span .result .start) (L .o) (at-loop-test .loop-test .taken)) (L .inv .5) in
     let read = at-list-row2 .list-row2 .ensures .1 ∙ ap (λ t. members (rowOf t o)) (at-reads .reads .ensures) in
     let long : length (at-open-ends .open-ends .last .1 .1 .0) ≡ 512 = omega (arith, at-open-ends .open-ends .kept, at-set-ends .set-ends .kept, L .inv .4 .long) in
     let ends : OpenEnds w b (o ∷ range (L .o) (span .result .end)) (at-open-ends .open-ends .last .1 .1 .0) = ends-more (start .pre .0) (start .pre .1 .0 .0) (L .inv .4) m (at-set-ends .set-ends .last .1 .1 .0) long (rw listed at (at-set-ends .set-ends .ensures)) (rw read at (at-open-ends .open-ends .ensures)) in
@@ -300,7 +300,7 @@ returns c =
     let span = at-block-operations .block-operations in
     let first : L .o ≡ blockWord w b 4 = omega (arith, span .ensures, c .loop-test .left, L .inv .0) in
     let os : range (L .o) (span .result .end) ≡ ops w b = ap₂ range first (span .ensures .1) in
-    (rw os at (L .inv .4), scattering-all (operations-end w b (span .result .start) (L .o) (c .loop-test .left)) (L .inv .5))
+    (rw os at (L .inv .4), scattering-all (bind-back-end (operationPieces w b) (span .result .start) (L .o) (c .loop-test .left)) (L .inv .5))
 
 pub scan-operations-spec : {M : Type 1} → statement M
 scan-operations-spec =

@@ -1,9 +1,9 @@
 -- `set_ends` meets its contract. The invariant: what is left decides.
 use mathlib.Core.Path.{_≡_, refl, sym, _∙_}
 use mathlib.Core.Bool.{cond}
-use Prim.Native.Nat.{ℕ, _+_, _-_, _≤_, _<_}
+use Prim.Native.Nat.{ℕ, _-_, _≤_, _<_}
 use native.Mathlib.Omega.{arith}
-use lib.ListN.{length, drop, getD, set, length-set}
+use lib.ListN.{length, drop, getD, length-set}
 use Rattle.plank_core.specs.Lists.{mem}
 use Rattle.plank_core.specs.laws.Lists.{getD-mem}
 use Rattle.sir_answers.specs.inner.Scatter.{numberAt}
@@ -28,7 +28,6 @@ shared-slice-read-till c = omega arith
 
 cast-till : tie.Need-cast-till Inv-loop μ-loop
 cast-till c =
-    let start = c .before .before .before in
     omega (arith, c .shared-slice-known .given (c .before .before .loop .i))
 
 mul-till-2 : tie.Need-mul-till-2 Inv-loop μ-loop

@@ -1,7 +1,6 @@
 -- `write_intervals` meets its contract.
-use mathlib.Core.Path.{_≡_, _∙_}
+use mathlib.Core.Path.{_≡_}
 use native.Mathlib.Omega.{arith}
-use borrow.Author.Needs.{needs}
 use lib.ListN.{length}
 use Rattle.sir_data.specs.Records.{locals}
 use Rattle.sir_answers.specs.inner.Scatter.{forward}

@@ -1,17 +1,8 @@
 -- `fill_predecessors` meets its contract.
-use mathlib.Core.Path.{sym, ap, _∙_}
-use Prim.Native.Nat.{ℕ}
 use native.Mathlib.Omega.{arith}
 use borrow.Author.Needs.{needs}
-use mathlib.Core.List.{List, _++_}
-use lib.ListN.{length, drop}
-use lib.Seq.{length-take-le}
-use Rattle.sir_data.specs.Records.{blocks}
-use Rattle.sir_analyses.specs.Order.{predecessors}
-use Rattle.sir_analyses.specs.Calls.{made}
-use Rattle.sir_answers.specs.inner.Scatter.{allOf}
 use Rattle.sir_answers.proofs.all_predecessors.EdgePieces.{predecessors-small}
-use Rattle.sir_answers.proofs.scatter.AllAnswers.{counts-finished, counts-fit, not-answered, answer-room, whole-answered}
+use Rattle.sir_answers.proofs.scatter.AllAnswers.{counts-fit, not-answered, answer-room, whole-answered, lent-long, lent-words}
 use Rattle.sir_answers.proofs.all_predecessors.fill_predecessors.Statement.{statement}
 use Rattle.sir_answers.proofs.all_predecessors.fill_predecessors.Tie as tie
 
@@ -41,9 +32,7 @@ returns c =
     let at-count = at-finish .before .before .before .before .before in
     let past = at-count .before .before .before in
     let s = past .before .before .before in
-    let w = s .args .words .now in
-    let f = counts-finished (at-count .count-predecessors .ensures) (at-finish .before .total-words .ensures) (at-finish .finish .ensures) in
-    not-answered (allOf (predecessors w) (blocks w)) (s .args .out .now) f (c .if1 .taken)
+    not-answered (at-count .count-predecessors .ensures) (s .args .out .now) (at-finish .before .total-words .ensures) (at-finish .finish .ensures) (c .if1 .taken)
 
 slice-relend-prefix-write-predecessors : tie.Need-slice-relend-prefix-write-predecessors
 slice-relend-prefix-write-predecessors c =
@@ -51,9 +40,7 @@ slice-relend-prefix-write-predecessors c =
     let at-count = at-finish .before .before .before .before .before in
     let past = at-count .before .before .before in
     let s = past .before .before .before in
-    let w = s .args .words .now in
-    let f = counts-finished (at-count .count-predecessors .ensures) (at-finish .before .total-words .ensures) (at-finish .finish .ensures) in
-    answer-room (allOf (predecessors w) (blocks w)) (s .args .out .now) f (c .before .if1 .left) .1
+    answer-room (at-count .count-predecessors .ensures) (s .args .out .now) (at-finish .before .total-words .ensures) (at-finish .finish .ensures) (c .before .if1 .left)
 
 slice-aggregate-write-predecessors : tie.Need-slice-aggregate-write-predecessors
 slice-aggregate-write-predecessors c =
@@ -61,9 +48,7 @@ slice-aggregate-write-predecessors c =
     let at-count = at-finish .before .before .before .before .before in
     let past = at-count .before .before .before in
     let s = past .before .before .before in
-    let w = s .args .words .now in
-    let f = counts-finished (at-count .count-predecessors .ensures) (at-finish .before .total-words .ensures) (at-finish .finish .ensures) in
-    sym (length-take-le (at-finish .finish .result .length) (s .args .out .now) (answer-room (allOf (predecessors w) (blocks w)) (s .args .out .now) f (c .before .before .if1 .left) .1))
+    lent-long (at-count .count-predecessors .ensures) (s .args .out .now) (at-finish .before .total-words .ensures) (at-finish .finish .ensures) (c .before .before .if1 .left)
 
 write-predecessors-requires : tie.Need-write-predecessors-requires
 write-predecessors-requires c κs =
@@ -71,10 +56,7 @@ write-predecessors-requires c κs =
     let at-count = at-finish .before .before .before .before .before in
     let past = at-count .before .before .before in
     let s = past .before .before .before in
-    let w = s .args .words .now in
-    let k = at-count .count-predecessors .ensures in
-    let r = answer-room (allOf (predecessors w) (blocks w)) (s .args .out .now) (counts-finished k (at-finish .before .total-words .ensures) (at-finish .finish .ensures)) (c .before .before .if1 .left) in
-    (s .pre .0, (k, length-take-le (at-finish .finish .result .length) (s .args .out .now) (r .1) ∙ r .0))
+    (s .pre .0, (at-count .count-predecessors .ensures, lent-words (at-count .count-predecessors .ensures) (s .args .out .now) (at-finish .before .total-words .ensures) (at-finish .finish .ensures) (c .before .before .if1 .left)))
 
 same-length-2 : tie.Need-same-length-2
 same-length-2 c = search needs
@@ -89,11 +71,7 @@ returns-2 c =
     let at-count = at-finish .before .before .before .before .before in
     let past = at-count .before .before .before in
     let s = past .before .before .before in
-    let w = s .args .words .now in
-    let f = counts-finished (at-count .count-predecessors .ensures) (at-finish .before .total-words .ensures) (at-finish .finish .ensures) in
-    let a = at-finish .finish .result in
-    ap (λ (l : List ℕ). made (a .number) (a .length) (l ++ drop (a .length) (s .args .out .now))) (at-write .write-predecessors .ensures)
-    ∙ whole-answered (allOf (predecessors w) (blocks w)) (s .args .out .now) f (at-write .before .before .before .if1 .left)
+    whole-answered (at-count .count-predecessors .ensures) (s .args .out .now) (at-finish .before .total-words .ensures) (at-finish .finish .ensures) (at-write .before .before .before .if1 .left) (at-write .write-predecessors .ensures)
 
 pub fill-predecessors-spec : {M : Type 1} → statement M
 fill-predecessors-spec =

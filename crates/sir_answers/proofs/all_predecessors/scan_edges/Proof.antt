@@ -1,6 +1,6 @@
 -- `scan_edges` meets its contract. The invariant: the pieces of the successors left are to be put.
 use mathlib.Core.List.{_∷_, []}
-use Prim.Native.Nat.{_+_, _-_, _≤_, _<_}
+use Prim.Native.Nat.{_-_, _≤_, _<_}
 use native.Mathlib.Omega.{arith}
 use borrow.Author.Needs.{needs}
 use lib.ListN.{length, getD, drop}
@@ -8,10 +8,10 @@ use Rattle.plank_core.specs.laws.Lists.{getD-mem}
 use Rattle.sir_data.specs.Records.{blocks, successors}
 use Rattle.sir_answers.specs.inner.Scatter.{forward}
 use Rattle.sir_answers.specs.inner.Pieces.{piecesAt, edgePieces}
-use Rattle.sir_answers.proofs.scatter.Scattering.{Scattering, scattering-none, scattering-as, scattering-fits, scattering-more, scattering-all}
-use Rattle.sir_answers.proofs.scatter.PieceLaws.{piece-next, piece-end}
+use Rattle.sir_answers.proofs.scatter.Scattering.{Scattering, scattering-none}
 use Rattle.sir_answers.proofs.all_predecessors.scan_edges.Statement.{statement}
 use Rattle.sir_answers.proofs.all_predecessors.scan_edges.Tie as tie
+use Rattle.sir_answers.proofs.scatter.PieceLaws.{piece-fits, piece-more, piece-all}
 
 abbrev Inv-loop : tie.InvT-loop
 Inv-loop words p cursors₀ out₀ piece count i₀ cursors out i = (i ≤ count) × Scattering forward (edgePieces words (p .0)) cursors₀ out₀ (piecesAt (λ k. p .0 ∷ []) (drop i (successors words (p .0))) i) cursors out
@@ -45,9 +45,8 @@ append-requires c κs =
     let i = loop .loop .i in
     let h : i < length (successors w p) = omega (arith, count .successor-count .ensures) in
     let r = at-successor .successor .result .0 in
-    let e = piece-next (λ k. p ∷ []) (successors w p) i r h (at-successor .successor .ensures) in
     let l : r < blocks w = rw (at-successor .successor .ensures) (s .pre .0 .in-range .successor p (getD (successors w p) i 0) (s .pre .1 .0 .0) (getD-mem (successors w p) i 0 h)) in
-    (omega (arith, s .pre .1 .0 .1, loop .loop .inv .1 .wide), scattering-fits ((r, p ∷ []) ∷ []) (piecesAt (λ k. p ∷ []) (drop (i + 1) (successors w p)) (i + 1)) (scattering-as e (loop .loop .inv .1)))
+    (omega (arith, s .pre .1 .0 .1, loop .loop .inv .1 .wide), piece-fits (λ k. p ∷ []) (successors w p) (loop .loop .i) (loop .loop .inv .1) h (at-successor .successor .ensures))
 
 add-i : tie.Need-add-i Inv-loop μ-loop
 add-i c = omega arith
@@ -66,8 +65,7 @@ loop-again c =
     let p = s .args .p .0 in
     let i = loop .loop .i in
     let h : i < length (successors w p) = omega (arith, count .successor-count .ensures) in
-    let e = piece-next (λ k. p ∷ []) (successors w p) i (at-successor .successor .result .0) h (at-successor .successor .ensures) in
-    (omega arith, scattering-more (piecesAt (λ k. p ∷ []) (drop (i + 1) (successors w p)) (i + 1)) (scattering-as e (loop .loop .inv .1)) (at-append .append .ensures))
+    (omega arith, piece-more (λ k. p ∷ []) (successors w p) (loop .loop .i) (loop .loop .inv .1) h (at-successor .successor .ensures) (at-append .append .ensures))
 
 same-length : tie.Need-same-length Inv-loop μ-loop
 same-length c = c .before .loop .inv .1 .wide
@@ -79,7 +77,7 @@ returns : tie.Need-returns Inv-loop μ-loop
 returns c =
     let past = c .before .before .before in
     let a = past .before .before .before .args in
-    scattering-all (piece-end (λ k. a .p .0 ∷ []) (successors (a .words .now) (a .p .0)) (c .before .loop .i) (omega (arith, c .before .before .successor-count .ensures))) (c .before .loop .inv .1)
+    piece-all (λ k. a .p .0 ∷ []) (successors (a .words .now) (a .p .0)) (c .before .loop .i) (c .before .loop .inv .1) (omega (arith, c .before .before .successor-count .ensures))
 
 pub scan-edges-spec : {M : Type 1} → statement M
 scan-edges-spec =

@@ -7,9 +7,9 @@ use Rattle.plank_core.specs.Lists.{bind, range, upto}
 use Rattle.sir_data.specs.Records.{blocks}
 use Rattle.sir_analyses.specs.All.{all}
 use Rattle.sir_analyses.specs.Answers.{entryAnswer}
-use Rattle.sir_answers.proofs.all_sets.AllLaws.{left-all, left-next, left-none}
 use Rattle.sir_analyses.proofs.answers.Writing.{Putting, putting-none, putting-as, putting-more, putting-all}
 use native.Mathlib.Omega.{arith}
+use Rattle.plank_core.specs.laws.Loops.{bind-all, bind-step, bind-end}
 use Rattle.sir_answers.proofs.all_sets.put_entry_sets.Statement.{statement}
 use Rattle.sir_answers.proofs.all_sets.put_entry_sets.Tie as tie
 
@@ -27,7 +27,7 @@ block-count-requires c κs =
 loop-holds : tie.Need-loop-holds Inv-loop μ-loop
 loop-holds c =
     let start = c .before .before .before .before .before in
-    (omega arith, omega arith, putting-as (ap (λ (n : ℕ). bind (upto n) (λ i. length (entryAnswer (start .args .words .now) i) ∷ entryAnswer (start .args .words .now) i)) (sym (c .block-count .ensures)) ∙ left-all (λ i. length (entryAnswer (start .args .words .now) i) ∷ entryAnswer (start .args .words .now) i) (c .block-count .result)) putting-none)
+    (omega arith, omega arith, putting-as (ap (λ (n : ℕ). bind (upto n) (λ i. length (entryAnswer (start .args .words .now) i) ∷ entryAnswer (start .args .words .now) i)) (sym (c .block-count .ensures)) ∙ bind-all (λ i. length (entryAnswer (start .args .words .now) i) ∷ entryAnswer (start .args .words .now) i) (c .block-count .result)) putting-none)
 
 put-entry-set-requires : tie.Need-put-entry-set-requires Inv-loop μ-loop
 put-entry-set-requires c κs =
@@ -59,7 +59,7 @@ loop-again c =
     let at-block-count = at-loop .before in
     let start = at-block-count .before .before .before .before .before in
     let w = start .args .words .now in
-    (omega (arith, at-loop-test .loop-test .taken), omega (arith, at-put-entry-set .put-entry-set .ensures .0, at-loop .loop .inv .1), putting-more (putting-as (left-next (λ i. length (entryAnswer w i) ∷ entryAnswer w i) (at-loop .loop .b) (at-block-count .block-count .result) (at-loop-test .loop-test .taken)) (at-loop .loop .inv .2)) (at-put-entry-set .put-entry-set .ensures .1))
+    (omega (arith, at-loop-test .loop-test .taken), omega (arith, at-put-entry-set .put-entry-set .ensures .0, at-loop .loop .inv .1), putting-more (putting-as (bind-step (λ i. length (entryAnswer w i) ∷ entryAnswer w i) (at-loop .loop .b) (at-block-count .block-count .result) (at-loop-test .loop-test .taken)) (at-loop .loop .inv .2)) (at-put-entry-set .put-entry-set .ensures .1))
 
 same-length : tie.Need-same-length Inv-loop μ-loop
 same-length c = c .before .loop .inv .2 .long
@@ -69,7 +69,7 @@ returns c =
     let at-loop = c .before in
     let at-block-count = at-loop .before in
     let start = at-block-count .before .before .before .before .before in
-    (omega (arith, at-loop .loop .inv .0, at-loop .loop .inv .1, at-block-count .block-count .ensures, start .pre .0 .well-formed .sized .blocks-most), putting-all (left-none (λ i. length (entryAnswer (start .args .words .now) i) ∷ entryAnswer (start .args .words .now) i) (at-loop .loop .b) (at-block-count .block-count .result) (c .loop-test .left)) (at-loop .loop .inv .2))
+    (omega (arith, at-loop .loop .inv .0, at-loop .loop .inv .1, at-block-count .block-count .ensures, start .pre .0 .well-formed .sized .blocks-most), putting-all (bind-end (λ i. length (entryAnswer (start .args .words .now) i) ∷ entryAnswer (start .args .words .now) i) (at-loop .loop .b) (at-block-count .block-count .result) (c .loop-test .left)) (at-loop .loop .inv .2))
 
 pub put-entry-sets-spec : {M : Type 1} → statement M
 put-entry-sets-spec =

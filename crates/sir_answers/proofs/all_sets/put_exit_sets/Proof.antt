@@ -9,9 +9,9 @@ use Rattle.plank_core.specs.laws.DenseIndexSet.{length-row}
 use Rattle.sir_data.specs.Records.{blocks}
 use Rattle.sir_analyses.specs.All.{all}
 use Rattle.sir_analyses.specs.Answers.{exitAnswer}
-use Rattle.sir_answers.proofs.all_sets.AllLaws.{left-all, left-next, left-none}
 use Rattle.sir_analyses.proofs.answers.Writing.{Putting, putting-none, putting-as, putting-more, putting-all, puts-as}
 use native.Mathlib.Omega.{arith}
+use Rattle.plank_core.specs.laws.Loops.{bind-all, bind-step, bind-end}
 use Rattle.sir_answers.proofs.all_sets.put_exit_sets.Statement.{statement}
 use Rattle.sir_answers.proofs.all_sets.put_exit_sets.Tie as tie
 
@@ -32,7 +32,7 @@ block-count-requires c κs =
 loop-holds : tie.Need-loop-holds Inv-loop μ-loop
 loop-holds c =
     let start = c .before .before .before .before .before in
-    (omega arith, omega arith, putting-as (ap (λ (n : ℕ). bind (upto n) (λ i. length (exitAnswer (start .args .words .now) i) ∷ exitAnswer (start .args .words .now) i)) (sym (c .block-count .ensures)) ∙ left-all (λ i. length (exitAnswer (start .args .words .now) i) ∷ exitAnswer (start .args .words .now) i) (c .block-count .result)) putting-none)
+    (omega arith, omega arith, putting-as (ap (λ (n : ℕ). bind (upto n) (λ i. length (exitAnswer (start .args .words .now) i) ∷ exitAnswer (start .args .words .now) i)) (sym (c .block-count .ensures)) ∙ bind-all (λ i. length (exitAnswer (start .args .words .now) i) ∷ exitAnswer (start .args .words .now) i) (c .block-count .result)) putting-none)
 
 cast-row-of : tie.Need-cast-row-of Inv-loop μ-loop
 cast-row-of c =
@@ -81,7 +81,7 @@ loop-again c =
     let at-exits = at-block-count .before in
     let start = at-exits .before .before .before .before in
     let w = start .args .words .now in
-    (omega (arith, at-loop-test .loop-test .taken), omega (arith, at-put-set .put-set .ensures .0, at-loop .loop .inv .1), putting-more (putting-as (left-next (λ i. length (exitAnswer w i) ∷ exitAnswer w i) (at-loop .loop .b) (at-block-count .block-count .result) (at-loop-test .loop-test .taken)) (at-loop .loop .inv .2)) (puts-as (ap (λ (l : List ℕ). length l ∷ l) (ap members (at-row-of .row-of .ensures ∙ ap (λ (t : List ℕ). rowOf t (at-loop .loop .b)) (at-exits .exits .ensures)) ∙ start .pre .sets .exit-is (at-loop .loop .b) (omega (arith, at-loop-test .loop-test .taken, at-block-count .block-count .ensures)))) (at-put-set .put-set .ensures .1)))
+    (omega (arith, at-loop-test .loop-test .taken), omega (arith, at-put-set .put-set .ensures .0, at-loop .loop .inv .1), putting-more (putting-as (bind-step (λ i. length (exitAnswer w i) ∷ exitAnswer w i) (at-loop .loop .b) (at-block-count .block-count .result) (at-loop-test .loop-test .taken)) (at-loop .loop .inv .2)) (puts-as (ap (λ (l : List ℕ). length l ∷ l) (ap members (at-row-of .row-of .ensures ∙ ap (λ (t : List ℕ). rowOf t (at-loop .loop .b)) (at-exits .exits .ensures)) ∙ start .pre .sets .exit-is (at-loop .loop .b) (omega (arith, at-loop-test .loop-test .taken, at-block-count .block-count .ensures)))) (at-put-set .put-set .ensures .1)))
 
 same-length : tie.Need-same-length Inv-loop μ-loop
 same-length c = c .before .loop .inv .2 .long
@@ -91,7 +91,7 @@ returns c =
     let at-loop = c .before in
     let at-block-count = at-loop .before in
     let start = at-block-count .before .before .before .before .before in
-    (omega (arith, at-loop .loop .inv .0, at-loop .loop .inv .1, at-block-count .block-count .ensures, start .pre .well-formed .sized .blocks-most), putting-all (left-none (λ i. length (exitAnswer (start .args .words .now) i) ∷ exitAnswer (start .args .words .now) i) (at-loop .loop .b) (at-block-count .block-count .result) (c .loop-test .left)) (at-loop .loop .inv .2))
+    (omega (arith, at-loop .loop .inv .0, at-loop .loop .inv .1, at-block-count .block-count .ensures, start .pre .well-formed .sized .blocks-most), putting-all (bind-end (λ i. length (exitAnswer (start .args .words .now) i) ∷ exitAnswer (start .args .words .now) i) (at-loop .loop .b) (at-block-count .block-count .result) (c .loop-test .left)) (at-loop .loop .inv .2))
 
 pub put-exit-sets-spec : {M : Type 1} → statement M
 put-exit-sets-spec =

@@ -7,10 +7,10 @@ use Rattle.plank_core.specs.Lists.{bind, range, upto}
 use Rattle.sir_data.specs.Records.{locals}
 use Rattle.sir_analyses.specs.All.{all}
 use Rattle.sir_analyses.specs.Answers.{ownerAnswer}
-use Rattle.sir_answers.proofs.all_sets.AllLaws.{left-all, left-next, left-none}
 use Rattle.sir_analyses.proofs.answers.Writing.{Putting, putting-none, putting-as, putting-more, putting-all, puts-as}
 use borrow.Author.Needs.{needs}
 use native.Mathlib.Omega.{arith}
+use Rattle.plank_core.specs.laws.Loops.{bind-all, bind-step, bind-end}
 use Rattle.sir_answers.proofs.all_sets.put_owners.Statement.{statement}
 use Rattle.sir_answers.proofs.all_sets.put_owners.Tie as tie
 
@@ -26,7 +26,7 @@ local-count-requires c κs = omega (arith, c .before .before .before .pre .well-
 loop-holds : tie.Need-loop-holds Inv-loop μ-loop
 loop-holds c =
     let start = c .before .before .before .before in
-    (omega arith, omega arith, putting-as (ap (λ (n : ℕ). bind (upto n) (λ i. length (ownerAnswer (start .args .words .now) i) ∷ ownerAnswer (start .args .words .now) i)) (sym (c .local-count .ensures)) ∙ left-all (λ i. length (ownerAnswer (start .args .words .now) i) ∷ ownerAnswer (start .args .words .now) i) (c .local-count .result)) putting-none)
+    (omega arith, omega arith, putting-as (ap (λ (n : ℕ). bind (upto n) (λ i. length (ownerAnswer (start .args .words .now) i) ∷ ownerAnswer (start .args .words .now) i)) (sym (c .local-count .ensures)) ∙ bind-all (λ i. length (ownerAnswer (start .args .words .now) i) ∷ ownerAnswer (start .args .words .now) i) (c .local-count .result)) putting-none)
 
 owner-of-requires : tie.Need-owner-of-requires Inv-loop μ-loop
 owner-of-requires c κs =
@@ -70,7 +70,7 @@ loop-again c =
     let at-local-count = at-loop .before in
     let start = at-local-count .before .before .before .before in
     let w = start .args .words .now in
-    (omega (arith, at-loop-test .loop-test .taken), omega (arith, at-put-words .put-words .ensures .next, at-loop .loop .inv .1), putting-more (putting-as (left-next (λ i. length (ownerAnswer w i) ∷ ownerAnswer w i) (at-loop .loop .v) (at-local-count .local-count .result) (at-loop-test .loop-test .taken)) (at-loop .loop .inv .2)) (puts-as (ap (λ (o : ℕ). 1 ∷ o ∷ []) (at-owner-of .owner-of .ensures ∙ start .pre .discovered .owner-is (at-loop .loop .v) (omega (arith, at-loop-test .loop-test .taken, at-local-count .local-count .ensures)))) (at-put-words .put-words .ensures)))
+    (omega (arith, at-loop-test .loop-test .taken), omega (arith, at-put-words .put-words .ensures .next, at-loop .loop .inv .1), putting-more (putting-as (bind-step (λ i. length (ownerAnswer w i) ∷ ownerAnswer w i) (at-loop .loop .v) (at-local-count .local-count .result) (at-loop-test .loop-test .taken)) (at-loop .loop .inv .2)) (puts-as (ap (λ (o : ℕ). 1 ∷ o ∷ []) (at-owner-of .owner-of .ensures ∙ start .pre .discovered .owner-is (at-loop .loop .v) (omega (arith, at-loop-test .loop-test .taken, at-local-count .local-count .ensures)))) (at-put-words .put-words .ensures)))
 
 same-length : tie.Need-same-length Inv-loop μ-loop
 same-length c = c .before .loop .inv .2 .long
@@ -80,7 +80,7 @@ returns c =
     let at-loop = c .before in
     let at-local-count = at-loop .before in
     let start = at-local-count .before .before .before .before in
-    (omega (arith, at-loop .loop .inv .0, at-loop .loop .inv .1, at-local-count .local-count .ensures, start .pre .well-formed .sized .locals-most), putting-all (left-none (λ i. length (ownerAnswer (start .args .words .now) i) ∷ ownerAnswer (start .args .words .now) i) (at-loop .loop .v) (at-local-count .local-count .result) (c .loop-test .left)) (at-loop .loop .inv .2))
+    (omega (arith, at-loop .loop .inv .0, at-loop .loop .inv .1, at-local-count .local-count .ensures, start .pre .well-formed .sized .locals-most), putting-all (bind-end (λ i. length (ownerAnswer (start .args .words .now) i) ∷ ownerAnswer (start .args .words .now) i) (at-loop .loop .v) (at-local-count .local-count .result) (c .loop-test .left)) (at-loop .loop .inv .2))
 
 pub put-owners-spec : {M : Type 1} → statement M
 put-owners-spec =

@@ -5,12 +5,11 @@ use Prim.Native.Nat.{ℕ, _+_, _-_, _*_, _≤_, _<_}
 use native.Mathlib.Omega.{arith}
 use lib.ListN.{getD}
 use Rattle.plank_core.specs.Lists.{bind, range}
-use Rattle.plank_core.specs.laws.Loops.{range-all}
+use Rattle.plank_core.specs.laws.Loops.{range-all, bind-step, bind-end}
 use Rattle.sir_data.specs.Records.{operations, ins}
 use Rattle.sir_answers.specs.inner.Scatter.{forward, Pieces}
 use Rattle.sir_answers.specs.inner.Pieces.{piecesAt, blanks, inputPieces}
 use Rattle.sir_answers.proofs.scatter.Scattering.{Scattering, scattering-none, scattering-as, scattering-fits, scattering-more, scattering-all, scatters-as, fits-as}
-use Rattle.sir_answers.proofs.scatter.PieceLaws.{range-step, range-end}
 use Rattle.sir_answers.proofs.all_uses.UsePieces.{ones-most}
 use Rattle.sir_answers.proofs.all_uses.count_inputs.Statement.{statement}
 use Rattle.sir_answers.proofs.all_uses.count_inputs.Tie as tie
@@ -70,7 +69,7 @@ advance-each-requires c κs =
     let g : ℕ → Pieces = λ o. piecesAt (λ k. blanks (3 * getD (s .args .times .now) o 0)) (ins w o) 0 in
     let h : o < operations w = omega (arith, count .operation-count .ensures, test .loop-test .taken) in (
       λ v m. omega (arith, s .pre .1 .0 .1, loop .loop .inv .1 .wide, s .pre .0 .in-range .read o v h (rw is at m)),
-      fits-as (ap (λ (l : List ℕ). piecesAt (λ k. blanks n) l 0) (sym is)) (scattering-fits (g o) (bind (range (o + 1) last) g) (scattering-as (range-step g o last (test .loop-test .taken)) (loop .loop .inv .1))),
+      fits-as (ap (λ (l : List ℕ). piecesAt (λ k. blanks n) l 0) (sym is)) (scattering-fits (g o) (bind (range (o + 1) last) g) (scattering-as (bind-step g o last (test .loop-test .taken)) (loop .loop .inv .1))),
     )
 
 add-o : tie.Need-add-o Inv-loop μ-loop
@@ -91,7 +90,7 @@ loop-again c =
     let n = 3 * getD (s .args .times .now) o 0 in
     let last = count .operation-count .result in
     let g : ℕ → Pieces = λ o. piecesAt (λ k. blanks (3 * getD (s .args .times .now) o 0)) (ins (s .args .words .now) o) 0 in
-    (omega arith, scattering-more (bind (range (o + 1) last) g) (scattering-as (range-step g o last (test .loop-test .taken)) (loop .loop .inv .1)) (scatters-as (ap (λ (l : List ℕ). piecesAt (λ k. blanks n) l 0) is) (at-advance .advance-each .ensures)))
+    (omega arith, scattering-more (bind (range (o + 1) last) g) (scattering-as (bind-step g o last (test .loop-test .taken)) (loop .loop .inv .1)) (scatters-as (ap (λ (l : List ℕ). piecesAt (λ k. blanks n) l 0) is) (at-advance .advance-each .ensures)))
 
 same-length : tie.Need-same-length Inv-loop μ-loop
 same-length c = c .before .loop .inv .1 .wide
@@ -101,7 +100,7 @@ returns c =
     let past = c .before .before .before in
     let a = past .before .before .before .args in
     let g : ℕ → Pieces = λ o. piecesAt (λ k. blanks (3 * getD (a .times .now) o 0)) (ins (a .words .now) o) 0 in
-    scattering-all (range-end g (c .before .loop .o) (c .before .before .operation-count .result) (c .loop-test .left)) (c .before .loop .inv .1)
+    scattering-all (bind-end g (c .before .loop .o) (c .before .before .operation-count .result) (c .loop-test .left)) (c .before .loop .inv .1)
 
 pub count-inputs-spec : {M : Type 1} → statement M
 count-inputs-spec =

@@ -7,9 +7,10 @@ use Rattle.sir_analyses.specs.Order.{blocksRpo}
 use Rattle.sir_answers.specs.inner.Pieces.{endPieces, inputPieces}
 use Rattle.sir_answers.proofs.scatter.Scattering.{scatters-then, fits-first, fits-rest}
 use Rattle.sir_answers.proofs.all_uses.UsePieces.{uses-small, uses-counted}
-use Rattle.sir_answers.proofs.scatter.AllAnswers.{zero-fits, zero-at, counted-all}
+use Rattle.sir_answers.proofs.scatter.AllAnswers.{zero-fits, counted-all}
 use Rattle.sir_answers.proofs.all_uses.count_uses.Statement.{statement}
 use Rattle.sir_answers.proofs.all_uses.count_uses.Tie as tie
+use Rattle.sir_analyses.proofs.Tables.{zero-at}
 
 slice-aggregate-operation-times : tie.Need-slice-aggregate-operation-times
 slice-aggregate-operation-times c = search needs

@@ -6,11 +6,11 @@ use native.Mathlib.Omega.{arith}
 use lib.ListN.{length, getD, drop}
 use Rattle.plank_core.specs.Lists.{bind}
 use Rattle.plank_core.specs.laws.Lists.{getD-mem}
+use Rattle.plank_core.specs.laws.Loops.{bind-drop-step, bind-drop-end}
 use Rattle.sir_answers.specs.inner.Scatter.{forward}
 use Rattle.sir_answers.specs.inner.Pieces.{onePieces}
 use Rattle.sir_answers.proofs.scatter.Scattering.{Scattering, scattering-none, scattering-as, scattering-fits, scattering-more, scattering-all, scatters-as, fits-as}
 use Rattle.sir_analyses.proofs.claims.order.OrderLength.{rpo-below}
-use Rattle.sir_analyses.proofs.def_use.UseWords.{block-next, block-end}
 use Rattle.sir_answers.proofs.all_uses.UsePieces.{ones-most}
 use Rattle.sir_answers.proofs.scatter.AllAnswers.{scatters-cursor, zero-room}
 use Rattle.sir_answers.proofs.all_uses.operation_times.Statement.{statement}
@@ -51,7 +51,7 @@ count-operations-requires c κs =
     let i = loop .loop .i in
     let b = getD order i 0 in
     let h = test .loop-test .taken in
-    (good, ((rpo-below w good (at-rpo .rpo .ensures ∙ s .pre .0 .rpo-is) b (getD-mem order i 0 h), loop .loop .inv .1 .wide ∙ s .pre .1 .0), scattering-fits (onePieces w b) (bind (drop (i + 1) order) (onePieces w)) (scattering-as (block-next (onePieces w) order i h) (loop .loop .inv .1))))
+    (good, ((rpo-below w good (at-rpo .rpo .ensures ∙ s .pre .0 .rpo-is) b (getD-mem order i 0 h), loop .loop .inv .1 .wide ∙ s .pre .1 .0), scattering-fits (onePieces w b) (bind (drop (i + 1) order) (onePieces w)) (scattering-as (bind-drop-step (onePieces w) order i h) (loop .loop .inv .1))))
 
 add-i : tie.Need-add-i Inv-loop μ-loop
 add-i c = omega arith
@@ -68,7 +68,7 @@ loop-again c =
     let w = at-rpo .before .before .before .before .args .words .now in
     let order = at-rpo .rpo .result .now in
     let i = loop .loop .i in
-    (omega arith, scattering-more (bind (drop (i + 1) order) (onePieces w)) (scattering-as (block-next (onePieces w) order i (test .loop-test .taken)) (loop .loop .inv .1)) (at-count .count-operations .ensures))
+    (omega arith, scattering-more (bind (drop (i + 1) order) (onePieces w)) (scattering-as (bind-drop-step (onePieces w) order i (test .loop-test .taken)) (loop .loop .inv .1)) (at-count .count-operations .ensures))
 
 same-length : tie.Need-same-length Inv-loop μ-loop
 same-length c = c .before .loop .inv .1 .wide
@@ -79,7 +79,7 @@ returns c =
     let s = at-rpo .before .before .before .before in
     let g = onePieces (s .args .words .now) in
     let e = ap (λ (l : List ℕ). bind l g) (at-rpo .rpo .ensures ∙ s .pre .0 .rpo-is) in
-    let p = scatters-as e (scattering-all (block-end g (at-rpo .rpo .result .now) (c .before .loop .i) (c .loop-test .left)) (c .before .loop .inv .1)) in
+    let p = scatters-as e (scattering-all (bind-drop-end g (at-rpo .rpo .result .now) (c .before .loop .i) (c .loop-test .left)) (c .before .loop .inv .1)) in
     record {
       wide = c .before .loop .inv .1 .wide ∙ s .pre .1 .0;
       times-is = λ o h. scatters-cursor o (omega (arith, s .pre .1 .0, s .pre .0 .well-formed .sized .operations-most)) p ∙ omega (arith, s .pre .1 .1 o);

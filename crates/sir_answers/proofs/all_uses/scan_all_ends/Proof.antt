@@ -6,11 +6,11 @@ use native.Mathlib.Omega.{arith}
 use lib.ListN.{length, getD, drop}
 use Rattle.plank_core.specs.Lists.{bind}
 use Rattle.plank_core.specs.laws.Lists.{getD-mem}
+use Rattle.plank_core.specs.laws.Loops.{bind-drop-step, bind-drop-end}
 use Rattle.sir_answers.specs.inner.Scatter.{forward}
 use Rattle.sir_answers.specs.inner.Pieces.{endPieces}
 use Rattle.sir_answers.proofs.scatter.Scattering.{Scattering, scattering-none, scattering-as, scattering-fits, scattering-more, scattering-all, scatters-as, fits-as}
 use Rattle.sir_analyses.proofs.claims.order.OrderLength.{rpo-below}
-use Rattle.sir_analyses.proofs.def_use.UseWords.{block-next, block-end}
 use Rattle.sir_answers.proofs.all_uses.scan_all_ends.Statement.{statement}
 use Rattle.sir_answers.proofs.all_uses.scan_all_ends.Tie as tie
 
@@ -48,7 +48,7 @@ scan-ends-requires c κs =
     let i = loop .loop .i in
     let b = getD order i 0 in
     let h = test .loop-test .taken in
-    (good, ((rpo-below w good (at-rpo .rpo .ensures ∙ s .pre .0 .rpo-is) b (getD-mem order i 0 h), loop .loop .inv .1 .wide ∙ s .pre .1 .0), scattering-fits (endPieces w b) (bind (drop (i + 1) order) (endPieces w)) (scattering-as (block-next (endPieces w) order i h) (loop .loop .inv .1))))
+    (good, ((rpo-below w good (at-rpo .rpo .ensures ∙ s .pre .0 .rpo-is) b (getD-mem order i 0 h), loop .loop .inv .1 .wide ∙ s .pre .1 .0), scattering-fits (endPieces w b) (bind (drop (i + 1) order) (endPieces w)) (scattering-as (bind-drop-step (endPieces w) order i h) (loop .loop .inv .1))))
 
 add-i : tie.Need-add-i Inv-loop μ-loop
 add-i c = omega arith
@@ -65,7 +65,7 @@ loop-again c =
     let w = at-rpo .before .before .before .before .before .args .words .now in
     let order = at-rpo .rpo .result .now in
     let i = loop .loop .i in
-    (omega arith, scattering-more (bind (drop (i + 1) order) (endPieces w)) (scattering-as (block-next (endPieces w) order i (test .loop-test .taken)) (loop .loop .inv .1)) (at-scan .scan-ends .ensures))
+    (omega arith, scattering-more (bind (drop (i + 1) order) (endPieces w)) (scattering-as (bind-drop-step (endPieces w) order i (test .loop-test .taken)) (loop .loop .inv .1)) (at-scan .scan-ends .ensures))
 
 same-length : tie.Need-same-length Inv-loop μ-loop
 same-length c = c .before .loop .inv .1 .wide
@@ -78,7 +78,7 @@ returns c =
     let at-rpo = c .before .before in
     let s = at-rpo .before .before .before .before .before in
     let g = endPieces (s .args .words .now) in
-    scatters-as (ap (λ (l : List ℕ). bind l g) (at-rpo .rpo .ensures ∙ s .pre .0 .rpo-is)) (scattering-all (block-end g (at-rpo .rpo .result .now) (c .before .loop .i) (c .loop-test .left)) (c .before .loop .inv .1))
+    scatters-as (ap (λ (l : List ℕ). bind l g) (at-rpo .rpo .ensures ∙ s .pre .0 .rpo-is)) (scattering-all (bind-drop-end g (at-rpo .rpo .result .now) (c .before .loop .i) (c .loop-test .left)) (c .before .loop .inv .1))
 
 pub scan-all-ends-spec : {M : Type 1} → statement M
 scan-all-ends-spec =

@@ -5,11 +5,11 @@ use Prim.Native.Nat.{ℕ, _+_, _-_, _<_}
 use borrow.Author.Needs.{needs}
 use native.Mathlib.Omega.{arith}
 use Rattle.plank_core.specs.Lists.{bind, range}
+use Rattle.plank_core.specs.laws.Loops.{bind-step, bind-end}
 use Rattle.sir_data.specs.Records.{operations, ins}
 use Rattle.sir_answers.specs.inner.Scatter.{forward, Pieces}
 use Rattle.sir_answers.specs.inner.Pieces.{piecesAt}
 use Rattle.sir_answers.proofs.scatter.Scattering.{Scattering, scattering-none, scattering-as, scattering-fits, scattering-more, scattering-all, scatters-as, fits-as}
-use Rattle.sir_answers.proofs.scatter.PieceLaws.{range-step, range-end}
 use Rattle.sir_answers.proofs.all_uses.scan_operations.Statement.{statement}
 use Rattle.sir_answers.proofs.all_uses.scan_operations.Tie as tie
 
@@ -52,7 +52,7 @@ append-each-requires c κs =
     let r = s .pre .0 .in-range .ops-range b (s .pre .1 .0 .0) in
     let h : o < operations w = omega (arith, r .1, span .ensures .1, test .loop-test .taken) in (
       λ v m. omega (arith, s .pre .1 .0 .1, loop .loop .inv .wide, s .pre .0 .in-range .read o v h (rw is at m)),
-      fits-as (ap (λ (l : List ℕ). piecesAt (λ k. b ∷ 0 ∷ o ∷ []) l 0) (sym is)) (scattering-fits (g o) (bind (range (o + 1) (span .result .end)) g) (scattering-as (range-step g o (span .result .end) (test .loop-test .taken)) (loop .loop .inv))),
+      fits-as (ap (λ (l : List ℕ). piecesAt (λ k. b ∷ 0 ∷ o ∷ []) l 0) (sym is)) (scattering-fits (g o) (bind (range (o + 1) (span .result .end)) g) (scattering-as (bind-step g o (span .result .end) (test .loop-test .taken)) (loop .loop .inv))),
     )
 
 add-o : tie.Need-add-o Inv-loop μ-loop
@@ -72,7 +72,7 @@ loop-again c =
     let b = s .args .b .0 in
     let o = loop .loop .o in
     let g : ℕ → Pieces = λ o. piecesAt (λ k. b ∷ 0 ∷ o ∷ []) (ins (s .args .words .now) o) 0 in
-    scattering-more (bind (range (o + 1) last) g) (scattering-as (range-step g o last (test .loop-test .taken)) (loop .loop .inv)) (scatters-as (ap (λ (l : List ℕ). piecesAt (λ k. b ∷ 0 ∷ o ∷ []) l 0) is) (at-append .append-each .ensures))
+    scattering-more (bind (range (o + 1) last) g) (scattering-as (bind-step g o last (test .loop-test .taken)) (loop .loop .inv)) (scatters-as (ap (λ (l : List ℕ). piecesAt (λ k. b ∷ 0 ∷ o ∷ []) l 0) is) (at-append .append-each .ensures))
 
 same-length : tie.Need-same-length Inv-loop μ-loop
 same-length c = c .before .loop .inv .wide
@@ -86,7 +86,7 @@ returns c =
     let past = c .before .before .before in
     let a = past .before .before .before .args in
     let g : ℕ → Pieces = λ o. piecesAt (λ k. a .b .0 ∷ 0 ∷ o ∷ []) (ins (a .words .now) o) 0 in
-    scatters-as (rw (span .ensures .0, span .ensures .1)) (scattering-all (range-end g (c .before .loop .o) (span .result .end) (c .loop-test .left)) (c .before .loop .inv))
+    scatters-as (rw (span .ensures .0, span .ensures .1)) (scattering-all (bind-end g (c .before .loop .o) (span .result .end) (c .loop-test .left)) (c .before .loop .inv))
 
 pub scan-operations-spec : {M : Type 1} → statement M
 scan-operations-spec =

@@ -1,7 +1,7 @@
 -- `scan_outputs` meets its contract. The invariant: the pieces of the outputs left are to be put.
 use mathlib.Core.Path.{refl, sym, ap, subst}
 use mathlib.Core.List.{List, _∷_, []}
-use Prim.Native.Nat.{ℕ, _+_, _-_, _≤_, _<_}
+use Prim.Native.Nat.{ℕ, _-_, _≤_, _<_}
 use borrow.Author.Needs.{needs}
 use native.Mathlib.Omega.{arith}
 use lib.ListN.{length, getD, drop}
@@ -10,11 +10,11 @@ use Rattle.plank_core.specs.laws.Lists.{getD-mem}
 use Rattle.sir_data.specs.Records.{outputs}
 use Rattle.sir_answers.specs.inner.Scatter.{forward}
 use Rattle.sir_answers.specs.inner.Pieces.{piecesAt}
-use Rattle.sir_answers.proofs.scatter.Scattering.{Scattering, scattering-none, scattering-as, scattering-fits, scattering-more, scattering-all, scatters-as, fits-as}
-use Rattle.sir_answers.proofs.scatter.PieceLaws.{piece-next, piece-end}
+use Rattle.sir_answers.proofs.scatter.Scattering.{Scattering, scattering-none, scatters-as, fits-as}
 use Rattle.sir_analyses.proofs.def_use.UseWords.{outputs-most}
 use Rattle.sir_answers.proofs.all_uses.scan_outputs.Statement.{statement}
 use Rattle.sir_answers.proofs.all_uses.scan_outputs.Tie as tie
+use Rattle.sir_answers.proofs.scatter.PieceLaws.{piece-fits, piece-more, piece-all}
 
 abbrev Inv-loop : tie.InvT-loop
 Inv-loop words b cursors₀ out₀ run k₀ cursors out k = (k ≤ length run) × Scattering forward (piecesAt (λ k. b .0 ∷ 2 ∷ k ∷ []) run 0) cursors₀ out₀ (piecesAt (λ k. b .0 ∷ 2 ∷ k ∷ []) (drop k run) k) cursors out
@@ -57,7 +57,7 @@ append-requires c κs =
     let g : ℕ → List ℕ = λ k. b ∷ 2 ∷ k ∷ [] in
     let h : k < length run = test .loop-test .taken in
     let m : getD run k 0 ∈ outputs (s .args .words .now) b = subst (λ (l : List ℕ). getD run k 0 ∈ l) (at-outputs .outputs .ensures) (getD-mem run k 0 h) in
-    (omega (arith, s .pre .1 .0 .1, s .pre .0 .in-range .output b (getD run k 0) (s .pre .1 .0 .0) m, loop .loop .inv .1 .wide), scattering-fits ((getD run k 0, g k) ∷ []) (piecesAt g (drop (k + 1) run) (k + 1)) (scattering-as (piece-next g run k (getD run k 0) h refl) (loop .loop .inv .1)))
+    (omega (arith, s .pre .1 .0 .1, s .pre .0 .in-range .output b (getD run k 0) (s .pre .1 .0 .0) m, loop .loop .inv .1 .wide), piece-fits g run (loop .loop .k) (loop .loop .inv .1) h refl)
 
 add-k : tie.Need-add-k Inv-loop μ-loop
 add-k c =
@@ -77,9 +77,8 @@ loop-again c =
     let loop = test .before in
     let s = loop .before .before .before .before .before in
     let run = loop .before .outputs .result .now in
-    let k = loop .loop .k in
     let g : ℕ → List ℕ = λ k. s .args .b .0 ∷ 2 ∷ k ∷ [] in
-    (omega arith, scattering-more (piecesAt g (drop (k + 1) run) (k + 1)) (scattering-as (piece-next g run k (getD run k 0) (test .loop-test .taken) refl) (loop .loop .inv .1)) (at-append .append .ensures))
+    (omega arith, piece-more g run (loop .loop .k) (loop .loop .inv .1) (test .loop-test .taken) refl (at-append .append .ensures))
 
 same-length : tie.Need-same-length Inv-loop μ-loop
 same-length c = c .before .loop .inv .1 .wide
@@ -92,7 +91,7 @@ returns c =
     let at-outputs = c .before .before in
     let b = at-outputs .before .before .before .before .args .b .0 in
     let g : ℕ → List ℕ = λ k. b ∷ 2 ∷ k ∷ [] in
-    scatters-as (ap (λ (l : List ℕ). piecesAt g l 0) (at-outputs .outputs .ensures)) (scattering-all (piece-end g (at-outputs .outputs .result .now) (c .before .loop .k) (c .loop-test .left)) (c .before .loop .inv .1))
+    scatters-as (ap (λ (l : List ℕ). piecesAt g l 0) (at-outputs .outputs .ensures)) (piece-all g (at-outputs .outputs .result .now) (c .before .loop .k) (c .before .loop .inv .1) (c .loop-test .left))
 
 pub scan-outputs-spec : {M : Type 1} → statement M
 scan-outputs-spec =

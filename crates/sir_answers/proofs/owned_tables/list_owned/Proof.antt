@@ -1,9 +1,6 @@
 -- `list_owned` meets its contract.
-use mathlib.Core.Path.{_≡_, sym, ap, _∙_}
-use Prim.Native.Nat.{ℕ, _≤_}
 use native.Mathlib.Omega.{arith}
 use borrow.Author.Needs.{needs}
-use lib.ListN.{length}
 use Rattle.plank_core.specs.laws.Members.{members-most}
 use Rattle.sir_analyses.specs.inner.Stages.{part}
 use Rattle.sir_analyses.proofs.stages.Parts.{length-part}

@@ -1,11 +1,8 @@
 -- `own_rows` meets its contract. The invariant: the locals below v are in their rows.
-use mathlib.Core.Path.{_≡_, refl, sym, ap, _∙_}
-use Prim.Native.Nat.{ℕ, _+_, _-_, _*_, _≤_, _<_}
+use mathlib.Core.Path.{_≡_, refl}
+use Prim.Native.Nat.{_-_, _≤_, _<_}
 use native.Mathlib.Omega.{arith}
-use borrow.Author.Needs.{needs}
 use lib.ListN.{length}
-use lib.Dec.{eqb, ltb}
-use mathlib.Core.Bool.{_&&_}
 use Rattle.sir_data.specs.Records.{locals}
 use Rattle.sir_analyses.specs.inner.Tables.{Adds}
 use Rattle.sir_answers.specs.inner.AllocationPieces.{unmarkedOwner}

@@ -1,9 +1,7 @@
 -- `owned_tables` meets its contract.
-use mathlib.Core.Path.{_≡_, sym, ap, _∙_}
-use Prim.Native.Nat.{ℕ, _+_, _-_, _*_, _≤_, _<_}
+use mathlib.Core.Path.{sym, _∙_}
 use native.Mathlib.Omega.{arith}
 use borrow.Author.Needs.{needs}
-use lib.ListN.{length}
 use Rattle.sir_analyses.specs.inner.Stages.{part}
 use Rattle.sir_analyses.proofs.Tables.{cleared-long}
 use Rattle.sir_analyses.proofs.stages.Parts.{length-part, putBack, put-long}

@@ -1,13 +1,12 @@
 -- `split_owners` meets its contract. The invariant: the owners of the locals before i are in their rows.
-use mathlib.Core.Path.{_≡_, refl, sym, ap, _∙_}
-use Prim.Native.Nat.{ℕ, _+_, _-_, _*_, _≤_, _<_}
+use mathlib.Core.Path.{_≡_, refl, sym, _∙_}
+use Prim.Native.Nat.{_+_, _-_, _≤_, _<_}
 use native.Mathlib.Omega.{arith}
-use borrow.Author.Needs.{needs}
 use lib.ListN.{length, getD}
 use borrow.Author.Tests.{eq-eqb}
 use Rattle.plank_core.specs.laws.Lists.{getD-mem}
 use Rattle.sir_analyses.specs.inner.Tables.{Adds}
-use Rattle.sir_answers.specs.inner.AllocationPieces.{ownerIn, side}
+use Rattle.sir_answers.specs.inner.AllocationPieces.{ownerIn}
 use Rattle.sir_answers.proofs.owned_tables.OwnedTables.{splitTo, split-none, split-more, split-skip, split-all, owner-read, side-most}
 use Rattle.sir_answers.proofs.owned_tables.split_owners.Statement.{statement}
 use Rattle.sir_answers.proofs.owned_tables.split_owners.Tie as tie

@@ -1,6 +1,5 @@
 -- `unmarked_owner` meets its contract.
-use mathlib.Core.Path.{_≡_, sym, ap, _∙_}
-use Prim.Native.Nat.{ℕ, _-_}
+use mathlib.Core.Path.{sym, _∙_}
 use native.Mathlib.Omega.{arith}
 use borrow.Author.Needs.{needs}
 use Rattle.sir_answers.proofs.owned_tables.OwnedTables.{unowned, owned-marked, owned-unmarked}

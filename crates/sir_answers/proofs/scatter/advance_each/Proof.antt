@@ -1,16 +1,16 @@
 -- `advance_each` meets its contract. The invariant: the cursors of the ids left are to be moved.
 use mathlib.Core.Path.{refl}
-use mathlib.Core.List.{List, _∷_, []}
-use Prim.Native.Nat.{ℕ, _+_, _-_, _≤_, _<_}
+use mathlib.Core.List.{List, []}
+use Prim.Native.Nat.{ℕ, _-_, _≤_, _<_}
 use native.Mathlib.Omega.{arith}
 use lib.ListN.{length, getD, drop}
 use Rattle.plank_core.specs.laws.Lists.{getD-mem}
 use Rattle.sir_answers.specs.inner.Scatter.{forward}
 use Rattle.sir_answers.specs.inner.Pieces.{piecesAt, blanks}
-use Rattle.sir_answers.proofs.scatter.Scattering.{Scattering, scattering-none, scattering-as, scattering-fits, scattering-more, scattering-all}
-use Rattle.sir_answers.proofs.scatter.PieceLaws.{piece-next, piece-end}
+use Rattle.sir_answers.proofs.scatter.Scattering.{Scattering, scattering-none}
 use Rattle.sir_answers.proofs.scatter.advance_each.Statement.{statement}
 use Rattle.sir_answers.proofs.scatter.advance_each.Tie as tie
+use Rattle.sir_answers.proofs.scatter.PieceLaws.{piece-fits, piece-more, piece-all}
 
 abbrev Inv-loop : tie.InvT-loop
 Inv-loop cursors₀ ids n i₀ cursors i = (i ≤ length ids) × Scattering forward (piecesAt (λ k. blanks n) ids 0) cursors₀ [] (piecesAt (λ k. blanks n) (drop i ids) i) cursors []
@@ -35,8 +35,7 @@ advance-requires c κs =
     let i = loop .loop .i in
     let g : ℕ → List ℕ = λ k. blanks (s .args .n) in
     let h : i < length ids = omega arith in
-    let e = piece-next g ids i (getD ids i 0) h refl in
-    (omega (arith, s .pre .0 (getD ids i 0) (getD-mem ids i 0 h), loop .loop .inv .1 .wide), scattering-fits ((getD ids i 0, g i) ∷ []) (piecesAt g (drop (i + 1) ids) (i + 1)) (scattering-as e (loop .loop .inv .1)))
+    (omega (arith, s .pre .0 (getD ids i 0) (getD-mem ids i 0 h), loop .loop .inv .1 .wide), piece-fits g ids (loop .loop .i) (loop .loop .inv .1) h refl)
 
 add-i : tie.Need-add-i Inv-loop μ-loop
 add-i c = omega arith
@@ -50,10 +49,8 @@ loop-again c =
     let loop = at-advance .before .before .before .before in
     let s = loop .before .before .before in
     let ids = s .args .ids .now in
-    let i = loop .loop .i in
     let g : ℕ → List ℕ = λ k. blanks (s .args .n) in
-    let e = piece-next g ids i (getD ids i 0) (omega arith) refl in
-    (omega arith, scattering-more (piecesAt g (drop (i + 1) ids) (i + 1)) (scattering-as e (loop .loop .inv .1)) (at-advance .advance .ensures))
+    (omega arith, piece-more g ids (loop .loop .i) (loop .loop .inv .1) (omega arith) refl (at-advance .advance .ensures))
 
 same-length : tie.Need-same-length Inv-loop μ-loop
 same-length c = c .before .loop .inv .1 .wide
@@ -61,7 +58,7 @@ same-length c = c .before .loop .inv .1 .wide
 returns : tie.Need-returns Inv-loop μ-loop
 returns c =
     let a = c .before .before .before .before .args in
-    scattering-all (piece-end (λ k. blanks (a .n)) (a .ids .now) (c .before .loop .i) (omega arith)) (c .before .loop .inv .1)
+    piece-all (λ k. blanks (a .n)) (a .ids .now) (c .before .loop .i) (c .before .loop .inv .1) (omega arith)
 
 pub advance-each-spec : {M : Type 1} → statement M
 advance-each-spec =

@@ -1,2 +1,0 @@
--- What the proofs of the functions of `all_sets` share.
-pub mod AllLaws
