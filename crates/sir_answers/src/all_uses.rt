@@ -31,7 +31,7 @@ ghost use Rattle.sir_analyses.specs.All.{all};
 ghost use Rattle.sir_analyses.specs.Answers.{usesAnswer};
 ghost use Rattle.sir_analyses.specs.Calls.{made, answered};
 ghost use Rattle.sir_analyses.specs.Order.{blocksRpo};
-ghost use Rattle.sir_answers.specs.inner.Pieces.{operationPieces, conditionPieces, outputPieces, endPieces, blockPieces, onePieces, OperationTimes, inputPieces};
+ghost use Rattle.sir_answers.specs.inner.Pieces.{inputUsePieces, conditionPieces, outputPieces, endPieces, blockUsePieces, onePieces, OperationTimes, inputPieces};
 ghost use Rattle.sir_analyses.specs.inner.Stages.{VisitStage};
 ghost use Rattle.sir_answers.specs.inner.Scatter.{forward, Fits, Scatters, Counts};
 
@@ -39,8 +39,8 @@ ghost use Rattle.sir_answers.specs.inner.Scatter.{forward, Fits, Scatter
 fn scan_operations(words: &[u32], b: BlockId, cursors: &mut [usize], out: &mut [u8])
     requires { ⌜ WellFormed (now words) ⌝ }
     requires { ⌜ (b .0 < blocks (now words)) × (length (now cursors) ≡ locals (now words)) ⌝ }
-    requires { ⌜ Fits forward (operationPieces (now words) (b .0)) (now cursors) ⌝ }
-    ensures { λ _. ⌜ Scatters forward (operationPieces (now (words .entry)) (b .0)) (now (cursors .entry)) (now (out .entry)) (now (cursors .exit)) (now (out .exit)) ⌝ }
+    requires { ⌜ Fits forward (inputUsePieces (now words) (b .0)) (now cursors) ⌝ }
+    ensures { λ _. ⌜ Scatters forward (inputUsePieces (now (words .entry)) (b .0)) (now (cursors .entry)) (now (out .entry)) (now (cursors .exit)) (now (out .exit)) ⌝ }
 {
     let span = operations(words, b);
     let last = span.end;
@@ -97,8 +97,8 @@ fn scan_ends(words: &[u32], b: BlockId, cursors: &mut [usize], out: &mut [u8])
 fn scan_block(words: &[u32], b: BlockId, cursors: &mut [usize], out: &mut [u8])
     requires { ⌜ WellFormed (now words) ⌝ }
     requires { ⌜ (b .0 < blocks (now words)) × (length (now cursors) ≡ locals (now words)) ⌝ }
-    requires { ⌜ Fits forward (blockPieces (now words) (b .0)) (now cursors) ⌝ }
-    ensures { λ _. ⌜ Scatters forward (blockPieces (now (words .entry)) (b .0)) (now (cursors .entry)) (now (out .entry)) (now (cursors .exit)) (now (out .exit)) ⌝ }
+    requires { ⌜ Fits forward (blockUsePieces (now words) (b .0)) (now cursors) ⌝ }
+    ensures { λ _. ⌜ Scatters forward (blockUsePieces (now (words .entry)) (b .0)) (now (cursors .entry)) (now (out .entry)) (now (cursors .exit)) (now (out .exit)) ⌝ }
 {
     scan_operations(words, b, cursors, out);
     scan_ends(words, b, cursors, out);
@@ -123,8 +123,8 @@ fn scan_all_ends(words: &[u32], visit: &[u32], cursors: &mut [usize], out: &mut 
 fn scan_uses(words: &[u32], visit: &[u32], cursors: &mut [usize], out: &mut [u8])
     requires { ⌜ VisitStage (now words) (now visit) ⌝ }
     requires { ⌜ length (now cursors) ≡ locals (now words) ⌝ }
-    requires { ⌜ Fits forward (bind (blocksRpo (now words)) (blockPieces (now words))) (now cursors) ⌝ }
-    ensures { λ _. ⌜ Scatters forward (bind (blocksRpo (now (words .entry))) (blockPieces (now (words .entry)))) (now (cursors .entry)) (now (out .entry)) (now (cursors .exit)) (now (out .exit)) ⌝ }
+    requires { ⌜ Fits forward (bind (blocksRpo (now words)) (blockUsePieces (now words))) (now cursors) ⌝ }
+    ensures { λ _. ⌜ Scatters forward (bind (blocksRpo (now (words .entry))) (blockUsePieces (now (words .entry)))) (now (cursors .entry)) (now (out .entry)) (now (cursors .exit)) (now (out .exit)) ⌝ }
 {
     let order = rpo(visit);
     let mut i: usize = 0;

@@ -16,7 +16,7 @@ use Rattle.sir_analyses.specs.Liveness.{positions}
 use Rattle.sir_analyses.specs.Answers.{usesAnswer}
 use Rattle.sir_analyses.specs.inner.Uses.{InputCounts, conditionUses, outputUses}
 use Rattle.sir_answers.specs.inner.Scatter.{Pieces, piecesOf, Below}
-use Rattle.sir_answers.specs.inner.Pieces.{piecesAt, blanks, operationPieces, conditionPieces, outputPieces, endPieces, blockPieces, usePieces, onePieces, OperationTimes, inputPieces}
+use Rattle.sir_answers.specs.inner.Pieces.{piecesAt, blanks, inputUsePieces, conditionPieces, outputPieces, endPieces, blockUsePieces, usePieces, onePieces, OperationTimes, inputPieces}
 use Rattle.sir_answers.specs.laws.Scatter.{pieces-append}
 use Rattle.sir_analyses.proofs.claims.order.OrderProof.{blocks-below}
 use Rattle.sir_analyses.proofs.claims.order.OrderLength.{blocks-most}
@@ -28,15 +28,15 @@ use Rattle.sir_answers.proofs.scatter.PieceLaws.{pieces-at, below-at, b
 use Rattle.sir_analyses.proofs.Accepted.{ops-few}
 
 module _ (w : List ℕ) (v : ℕ) where
-  operation-pieces : (b : ℕ) → piecesOf v (operationPieces w b) ≡ operationWords w v b
+  operation-pieces : (b : ℕ) → piecesOf v (inputUsePieces w b) ≡ operationWords w v b
   operation-pieces b =
       pieces-bind v (λ o. piecesAt (λ k. b ∷ 0 ∷ o ∷ []) (ins w o) 0) (ops w b)
       ∙ bind-same (λ o. piecesOf v (piecesAt (λ k. b ∷ 0 ∷ o ∷ []) (ins w o) 0)) (λ o. bind (positions v (ins w o) 0) (λ k. b ∷ 0 ∷ o ∷ [])) (ops w b)
       (λ o. pieces-at v (λ k. b ∷ 0 ∷ o ∷ []) (ins w o) 0)
 
-  block-pieces : (b : ℕ) → piecesOf v (blockPieces w b) ≡ operationWords w v b ++ conditionUses w v b ++ outputUses w v b
+  block-pieces : (b : ℕ) → piecesOf v (blockUsePieces w b) ≡ operationWords w v b ++ conditionUses w v b ++ outputUses w v b
   block-pieces b =
-      pieces-append v (operationPieces w b) (endPieces w b)
+      pieces-append v (inputUsePieces w b) (endPieces w b)
       ∙ ap₂ (λ x y. x ++ y) (operation-pieces b)
       (pieces-append v (conditionPieces w b) (outputPieces w b)
       ∙ ap₂ (λ x y. x ++ y) (pieces-at v (λ k. b ∷ 1 ∷ 0 ∷ []) (condition w b) 0) (pieces-at v (λ k. b ∷ 2 ∷ k ∷ []) (outputs w b) 0))
@@ -44,18 +44,18 @@ module _ (w : List ℕ) (v : ℕ) where
 
   pub use-pieces : piecesOf v (usePieces w) ≡ usesAnswer w v
   use-pieces =
-      pieces-bind v (blockPieces w) (blocksRpo w)
-      ∙ bind-same (λ b. piecesOf v (blockPieces w b)) (λ b. operationWords w v b ++ conditionUses w v b ++ outputUses w v b) (blocksRpo w) block-pieces
+      pieces-bind v (blockUsePieces w) (blocksRpo w)
+      ∙ bind-same (λ b. piecesOf v (blockUsePieces w b)) (λ b. operationWords w v b ++ conditionUses w v b ++ outputUses w v b) (blocksRpo w) block-pieces
       ∙ sym (answer-blocks w v)
 
 module _ (w : List ℕ) (good : WellFormed w) where
   -- every piece is for a local
   pub uses-below : Below (locals w) (usePieces w)
   uses-below =
-      below-bind (locals w) (blockPieces w) (blocksRpo w)
+      below-bind (locals w) (blockUsePieces w) (blocksRpo w)
       (λ b m.
       let l : b < blocks w = blocks-below w good b m in
-      below-append (locals w) (operationPieces w b) (endPieces w b)
+      below-append (locals w) (inputUsePieces w b) (endPieces w b)
       (below-bind (locals w) (λ o. piecesAt (λ k. b ∷ 0 ∷ o ∷ []) (ins w o) 0) (ops w b) (λ o n. below-at (locals w) (λ k. b ∷ 0 ∷ o ∷ []) (ins w o) 0 (λ v i. good .in-range .read o v (good .in-range .op b o l n) i)))
       (below-append (locals w) (conditionPieces w b) (outputPieces w b)
       (below-at (locals w) (λ k. b ∷ 1 ∷ 0 ∷ []) (condition w b) 0 (λ v i. good .in-range .tested b v l i))
@@ -114,11 +114,11 @@ module _ (w : List ℕ) (v : ℕ) where
       ∙ length-append (piecesOf v (piecesAt (λ k. c o) (ins w o) 0)) (piecesOf v (bind os (λ o. piecesAt (λ k. c o) (ins w o) 0)))
       ∙ ap₂ _+_ e (pieces-sum c n h os)
 
-  operations-sum : (bs : List ℕ) → length (piecesOf v (bind bs (operationPieces w))) ≡ sum (map (λ o. 3 * reads o) (bind bs (ops w)))
+  operations-sum : (bs : List ℕ) → length (piecesOf v (bind bs (inputUsePieces w))) ≡ sum (map (λ o. 3 * reads o) (bind bs (ops w)))
   operations-sum [] = refl
   operations-sum (b ∷ bs) =
-      ap length (pieces-append v (operationPieces w b) (bind bs (operationPieces w)))
-      ∙ length-append (piecesOf v (operationPieces w b)) (piecesOf v (bind bs (operationPieces w)))
+      ap length (pieces-append v (inputUsePieces w b) (bind bs (inputUsePieces w)))
+      ∙ length-append (piecesOf v (inputUsePieces w b)) (piecesOf v (bind bs (inputUsePieces w)))
       ∙ ap₂ _+_ (pieces-sum (λ o. b ∷ 0 ∷ o ∷ []) (λ o. 3) (λ o. refl) (ops w b)) (operations-sum bs)
       ∙ sym (ap sum (map-append (λ o. 3 * reads o) (ops w b) (bind bs (ops w))) ∙ sum-append (map (λ o. 3 * reads o) (ops w b)) (map (λ o. 3 * reads o) (bind bs (ops w))))
 
@@ -127,7 +127,7 @@ ones-times : (w : List ℕ) (o : ℕ) → length (piecesOf o (bind (blocksRpo w)
 ones-times w o = sym (ap (λ (ps : Pieces). length (piecesOf o ps)) (bind-bind (ops w) (λ x. (x, blanks 1) ∷ []) (blocksRpo w))) ∙ one-times o (bind (blocksRpo w) (ops w))
 
 module _ (w : List ℕ) (good : WellFormed w) {often : List ℕ} (k : OperationTimes w often) (v : ℕ) where
-  inputs-counted : length (piecesOf v (inputPieces w often)) ≡ length (piecesOf v (bind (blocksRpo w) (operationPieces w)))
+  inputs-counted : length (piecesOf v (inputPieces w often)) ≡ length (piecesOf v (bind (blocksRpo w) (inputUsePieces w)))
   inputs-counted =
       let os : List ℕ = bind (blocksRpo w) (ops w) in
       pieces-sum w v (λ o. blanks (3 * getD often o 0)) (λ o. 3 * getD often o 0) (λ o. length-replicate (3 * getD often o 0) 0) (upto (operations w))
@@ -147,7 +147,7 @@ module _ (w : List ℕ) (good : WellFormed w) {often : List ℕ} (k : OperationT
         ap length (pieces-append v (inputPieces w often) (bind (blocksRpo w) (endPieces w))),
         length-append (piecesOf v (inputPieces w often)) (piecesOf v (bind (blocksRpo w) (endPieces w))),
         inputs-counted,
-        apart v (operationPieces w) (endPieces w) (blocksRpo w),
+        apart v (inputUsePieces w) (endPieces w) (blocksRpo w),
         ap length (use-pieces w v),
       )
 

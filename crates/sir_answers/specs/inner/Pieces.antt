@@ -34,8 +34,8 @@ predecessorPieces w = bind (keep (isVisited w) (upto (blocks w))) (edgePieces w)
 -- ---- uses
 
 -- block b, kind 0 and each of its operations in turn, for each input
-abbrev pub operationPieces : List ℕ → ℕ → Pieces
-operationPieces w b = bind (ops w b) (λ o. piecesAt (λ k. b ∷ 0 ∷ o ∷ []) (ins w o) 0)
+abbrev pub inputUsePieces : List ℕ → ℕ → Pieces
+inputUsePieces w b = bind (ops w b) (λ o. piecesAt (λ k. b ∷ 0 ∷ o ∷ []) (ins w o) 0)
 
 -- block b and kind 1, for its condition
 abbrev pub conditionPieces : List ℕ → ℕ → Pieces
@@ -50,12 +50,12 @@ abbrev pub endPieces : List ℕ → ℕ → Pieces
 endPieces w b = conditionPieces w b ++ outputPieces w b
 
 -- block b
-abbrev pub blockPieces : List ℕ → ℕ → Pieces
-blockPieces w b = operationPieces w b ++ endPieces w b
+abbrev pub blockUsePieces : List ℕ → ℕ → Pieces
+blockUsePieces w b = inputUsePieces w b ++ endPieces w b
 
 -- all blocks in the sequence of the order
 abbrev pub usePieces : List ℕ → Pieces
-usePieces w = bind (blocksRpo w) (blockPieces w)
+usePieces w = bind (blocksRpo w) (blockUsePieces w)
 
 -- ---- uses, counted: operations may lie in many blocks, so the inputs of each are counted once, by how often it lies in a block
 

@@ -1,7 +1,7 @@
 -- `scan_block` meets its contract.
 use borrow.Author.Needs.{needs}
 use native.Mathlib.Omega.{arith}
-use Rattle.sir_answers.specs.inner.Pieces.{operationPieces, endPieces}
+use Rattle.sir_answers.specs.inner.Pieces.{inputUsePieces, endPieces}
 use Rattle.sir_answers.proofs.scatter.Scattering.{scatters-then, fits-first, fits-rest}
 use Rattle.sir_answers.proofs.all_uses.scan_block.Statement.{statement}
 use Rattle.sir_answers.proofs.all_uses.scan_block.Tie as tie
@@ -11,7 +11,7 @@ scan-operations-requires c κs =
     let s = c .before .before .before .before .before in
     let w = s .args .words .now in
     let b = s .args .b .0 in
-    (s .pre .0, (s .pre .1 .0, fits-first (operationPieces w b) (endPieces w b) (s .pre .1 .1)))
+    (s .pre .0, (s .pre .1 .0, fits-first (inputUsePieces w b) (endPieces w b) (s .pre .1 .1)))
 
 scan-ends-requires : tie.Need-scan-ends-requires
 scan-ends-requires c κs =

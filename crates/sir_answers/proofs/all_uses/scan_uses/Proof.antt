@@ -8,14 +8,14 @@ use Rattle.plank_core.specs.Lists.{bind}
 use Rattle.plank_core.specs.laws.Lists.{getD-mem}
 use Rattle.plank_core.specs.laws.Loops.{bind-drop-step, bind-drop-end}
 use Rattle.sir_answers.specs.inner.Scatter.{forward}
-use Rattle.sir_answers.specs.inner.Pieces.{blockPieces}
+use Rattle.sir_answers.specs.inner.Pieces.{blockUsePieces}
 use Rattle.sir_answers.proofs.scatter.Scattering.{Scattering, scattering-none, scattering-as, scattering-fits, scattering-more, scattering-all, scatters-as, fits-as}
 use Rattle.sir_analyses.proofs.claims.order.OrderLength.{rpo-below}
 use Rattle.sir_answers.proofs.all_uses.scan_uses.Statement.{statement}
 use Rattle.sir_answers.proofs.all_uses.scan_uses.Tie as tie
 
 abbrev Inv-loop : tie.InvT-loop
-Inv-loop words visit cursors₀ out₀ order i₀ cursors out i = (i ≤ length order) × Scattering forward (bind order (blockPieces words)) cursors₀ out₀ (bind (drop i order) (blockPieces words)) cursors out
+Inv-loop words visit cursors₀ out₀ order i₀ cursors out i = (i ≤ length order) × Scattering forward (bind order (blockUsePieces words)) cursors₀ out₀ (bind (drop i order) (blockUsePieces words)) cursors out
 
 abbrev μ-loop : tie.MeasureT-loop
 μ-loop words visit cursors₀ out₀ order i₀ cursors out i = length order - i
@@ -28,7 +28,7 @@ rpo-requires c κs =
 loop-holds : tie.Need-loop-holds Inv-loop μ-loop
 loop-holds c =
     let s = c .before .before .before .before .before in
-    (omega arith, scattering-none (fits-as (ap (λ (l : List ℕ). bind l (blockPieces (s .args .words .now))) (sym (c .rpo .ensures ∙ s .pre .0 .rpo-is))) (s .pre .1 .1)))
+    (omega arith, scattering-none (fits-as (ap (λ (l : List ℕ). bind l (blockUsePieces (s .args .words .now))) (sym (c .rpo .ensures ∙ s .pre .0 .rpo-is))) (s .pre .1 .1)))
 
 mul-t7 : tie.Need-mul-t7 Inv-loop μ-loop
 mul-t7 c = omega arith
@@ -48,7 +48,7 @@ scan-block-requires c κs =
     let i = loop .loop .i in
     let b = getD order i 0 in
     let h = test .loop-test .taken in
-    (good, ((rpo-below w good (at-rpo .rpo .ensures ∙ s .pre .0 .rpo-is) b (getD-mem order i 0 h), loop .loop .inv .1 .wide ∙ s .pre .1 .0), scattering-fits (blockPieces w b) (bind (drop (i + 1) order) (blockPieces w)) (scattering-as (bind-drop-step (blockPieces w) order i h) (loop .loop .inv .1))))
+    (good, ((rpo-below w good (at-rpo .rpo .ensures ∙ s .pre .0 .rpo-is) b (getD-mem order i 0 h), loop .loop .inv .1 .wide ∙ s .pre .1 .0), scattering-fits (blockUsePieces w b) (bind (drop (i + 1) order) (blockUsePieces w)) (scattering-as (bind-drop-step (blockUsePieces w) order i h) (loop .loop .inv .1))))
 
 add-i : tie.Need-add-i Inv-loop μ-loop
 add-i c = omega arith
@@ -65,7 +65,7 @@ loop-again c =
     let w = at-rpo .before .before .before .before .before .args .words .now in
     let order = at-rpo .rpo .result .now in
     let i = loop .loop .i in
-    (omega arith, scattering-more (bind (drop (i + 1) order) (blockPieces w)) (scattering-as (bind-drop-step (blockPieces w) order i (test .loop-test .taken)) (loop .loop .inv .1)) (at-scan .scan-block .ensures))
+    (omega arith, scattering-more (bind (drop (i + 1) order) (blockUsePieces w)) (scattering-as (bind-drop-step (blockUsePieces w) order i (test .loop-test .taken)) (loop .loop .inv .1)) (at-scan .scan-block .ensures))
 
 same-length : tie.Need-same-length Inv-loop μ-loop
 same-length c = c .before .loop .inv .1 .wide
@@ -77,7 +77,7 @@ returns : tie.Need-returns Inv-loop μ-loop
 returns c =
     let at-rpo = c .before .before in
     let s = at-rpo .before .before .before .before .before in
-    let g = blockPieces (s .args .words .now) in
+    let g = blockUsePieces (s .args .words .now) in
     scatters-as (ap (λ (l : List ℕ). bind l g) (at-rpo .rpo .ensures ∙ s .pre .0 .rpo-is)) (scattering-all (bind-drop-end g (at-rpo .rpo .result .now) (c .before .loop .i) (c .loop-test .left)) (c .before .loop .inv .1))
 
 pub scan-uses-spec : {M : Type 1} → statement M
