@@ -32,10 +32,10 @@ ghost use lib.ListN.{length, take, replicate};
 ghost use lib.Dec.{eqb};
 ghost use Rattle.plank_core.specs.Lists.{range, mem, _∈_};
 ghost use Rattle.plank_core.specs.inner.DenseIndexSet.{contains};
-ghost use Rattle.sir_data.specs.Records.{blocks, ops, successors, condition};
+ghost use Rattle.sir_data.specs.Records.{blocks, operations, ops, successors, condition};
 ghost use Rattle.sir_data.specs.inner.WellFormed.{WellFormed};
 ghost use Rattle.sir_analyses.specs.Liveness.{has, endReads, useSet};
-ghost use Rattle.sir_analyses.specs.inner.Stages.{VisitStage, readsIn, writesIn, usesIn, defsIn, Emptied, BlockAdded};
+ghost use Rattle.sir_analyses.specs.inner.Stages.{VisitStage, readsIn, writesIn, usesIn, defsIn, Emptied, OperandsAdded, BlockAdded};
 ghost use Rattle.sir_analyses.specs.inner.Tables.{Adds, EndRows, OperandRows, RangeSets, BlockRows, PredecessorRows};
 
 // Adds the locals of a run to a row.
@@ -51,6 +51,17 @@ pub fn add_run(table: &mut [u64], row: usize, run: &[u32])
     }
 }
 
+// Adds what operation o reads and writes to its rows.
+fn operand_rows(words: &[u32], o: OpIdx, live: &mut [u64])
+    requires { ⌜ WellFormed (now words) ⌝ }
+    requires { ⌜ (o .0 < operations (now words)) × (length (now live) ≡ 24576) ⌝ }
+    ensures { λ _. ⌜ OperandsAdded (now (words .entry)) (o .0) (now (live .entry)) (now (live .exit)) ⌝ }
+{
+    let row = o.0 as usize;
+    add_run(&mut live[READS..WRITES], row, op_inputs(words, o));
+    add_run(&mut live[WRITES..USES], row, op_outputs(words, o));
+}
+
 // What each operation reads and writes: each operand is looked at once.
 pub fn operand_sets(words: &[u32], live: &mut [u64])
     requires { ⌜ WellFormed (now words) ⌝ }
@@ -60,16 +71,7 @@ pub fn operand_sets(words: &[u32], live: &mut [u64])
     let count = operation_count(words);
     let mut o: u32 = 0;
     while o < count {
-        add_run(
-            &mut live[READS..WRITES],
-            o as usize,
-            op_inputs(words, OpIdx(o)),
-        );
-        add_run(
-            &mut live[WRITES..USES],
-            o as usize,
-            op_outputs(words, OpIdx(o)),
-        );
+        operand_rows(words, OpIdx(o), live);
         o += 1;
     }
 }

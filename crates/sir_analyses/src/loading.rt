@@ -5,7 +5,8 @@ use crate::reverse_post_order::compute_visit;
 use sir_data::image::read_image;
 ghost use mathlib.Core.Path.{_≡_};
 ghost use lib.ListN.{length, replicate};
-ghost use Rattle.sir_analyses.specs.inner.Loading.{Loaded};
+ghost use Rattle.sir_data.specs.inner.WellFormed.{WellFormed};
+ghost use Rattle.sir_analyses.specs.inner.Loading.{VisitLoaded, Loaded};
 
 // The refusal of the image, or 0 and how many words, finished functions and blocks, and allocations stand in the arrays.
 pub struct Sizes {
@@ -26,6 +27,28 @@ fn no_sizes(number: u32) -> Sizes
     }
 }
 
+// The visit and the allocations of an image's words: 12, since rule 12 is the last one, or 0 and how many stand in the arrays.
+fn load_visit(words: &[u32], postorder: &mut [u32], visit: &mut [u32], sites: &mut [u32]) -> Sizes
+    requires { ⌜ WellFormed (now words) × (length (now postorder) ≡ 320) ⌝ }
+    requires { ⌜ (now visit ≡ replicate 513 0) × (length (now sites) ≡ 512) ⌝ }
+    ensures { λ r. ⌜ VisitLoaded (now (words .entry)) (now (postorder .exit)) (now (visit .exit)) (now (sites .exit)) (r .number) (r .words) (r .finished) (r .allocations) ⌝ }
+{
+    let finished = compute_visit(words, postorder, visit);
+    let allocations = find_allocations(words, visit, sites);
+    if allocations > sites.len() {
+        return no_sizes(12);
+    }
+    if rule_12(words, &sites[..allocations]) {
+        return no_sizes(12);
+    }
+    Sizes {
+        number: 0,
+        words: words.len(),
+        finished,
+        allocations,
+    }
+}
+
 pub fn load(
     image: &[u8],
     words: &mut [u32],
@@ -42,18 +65,5 @@ pub fn load(
         return no_sizes(number);
     }
     let n = 126 * (image.len() / 512);
-    let finished = compute_visit(&words[..n], postorder, visit);
-    let allocations = find_allocations(&words[..n], visit, sites);
-    if allocations > sites.len() {
-        return no_sizes(12);
-    }
-    if rule_12(&words[..n], &sites[..allocations]) {
-        return no_sizes(12);
-    }
-    Sizes {
-        number: 0,
-        words: n,
-        finished,
-        allocations,
-    }
+    load_visit(&words[..n], postorder, visit, sites)
 }

@@ -30,8 +30,8 @@ ghost use Rattle.plank_core.specs.Lists.{mem, _∈_};
 ghost use Rattle.sir_data.specs.Records.{blocks, outputs};
 ghost use Rattle.sir_data.specs.inner.WellFormed.{WellFormed};
 ghost use Rattle.sir_analyses.specs.Liveness.{back, pass, rounds};
-ghost use Rattle.sir_analyses.specs.inner.Stages.{VisitStage, LivenessStage, usesIn, defsIn, exitsIn, Emptied, Passing, PassStep, ExitsFound};
-ghost use Rattle.sir_analyses.specs.inner.Tables.{BlockRows, EntryWords, TakenInputs, outputsAt, arrives, Sends};
+ghost use Rattle.sir_analyses.specs.inner.Stages.{VisitStage, LivenessStage, usesIn, defsIn, exitsIn, Emptied, ExitsEmpty, Passing, PassStep, ExitsFound};
+ghost use Rattle.sir_analyses.specs.inner.Tables.{BlockRows, PredecessorRows, EntryWords, Unsent, TakenInputs, outputsAt, arrives, Sends, SentToPredecessors};
 
 // A block's entry set from its exit set: use ∪ (exit − def).
 pub fn compute_liveness_at_block_entry(live: &[u64], b: BlockId) -> DenseIndexSet
@@ -119,63 +119,84 @@ fn send_all(words: &[u32], ids: &[u32], set: &[u64], moved: &[u32], exits: &mut 
     grew
 }
 
-// The tables that a pass goes by: the predecessors of each block, and what each block has sent.
-const PREDS: usize = 0;
+// Sends what is new at the entry of block b to its predecessors, its inputs by their positions. Whether an exit grew.
+fn send_to_predecessors(
+    words: &[u32],
+    b: BlockId,
+    preds: &[u64],
+    new: DenseIndexSet,
+    exits: &mut [u64],
+) -> bool
+    requires { ⌜ WellFormed (now words) × PredecessorRows (now words) (now preds) ⌝ }
+    requires { ⌜ (b .0 < blocks (now words)) × (length (new .words) ≡ 8) × (length (now exits) ≡ 2048) ⌝ }
+    ensures { λ r. ⌜ SentToPredecessors (now (words .entry)) (b .0) (new .words) (now (exits .entry)) (now (exits .exit)) r ⌝ }
+{
+    let mut passing = new.words;
+    let mut moved = [0u32; 512];
+    let n = take_block_inputs(words, b, &mut passing, &mut moved);
+    let mut ids = [0u32; 512];
+    let count = list(row_of(preds, b.0 as usize), &mut ids);
+    send_all(words, &ids[..count], &passing, &moved[..n], exits)
+}
 
-const SENT: usize = 2048;
-
-const PASS: usize = 4096;
+// What the entry set of block b has and was not sent before.
+fn unsent(live: &[u64], b: BlockId, sent: &[u64]) -> DenseIndexSet
+    requires { ⌜ (length (now live) ≡ 24576) × (b .0 < 256) × (length (now sent) ≡ 2048) ⌝ }
+    ensures { λ r. ⌜ (length (r .words) ≡ 8) × Unsent (usesIn (now (live .entry))) (defsIn (now (live .entry))) (exitsIn (now (live .entry))) (now (sent .entry)) (b .0) (r .words) ⌝ }
+{
+    let entry = compute_liveness_at_block_entry(live, b);
+    let mut words = entry.words;
+    row_difference_with(&mut words, 0, row_of(sent, b.0 as usize));
+    DenseIndexSet { words }
+}
 
 // One block of a pass: what its entry set has and was not sent before goes to its predecessors' exits. Whether one grew.
 fn propagate_liveness_to_predecessors(
     words: &[u32],
     b: BlockId,
+    preds: &[u64],
     live: &mut [u64],
-    tables: &mut [u64],
+    sent: &mut [u64],
 ) -> bool
     requires { ⌜ WellFormed (now words) ⌝ }
     requires { ⌜ b .0 < blocks (now words) ⌝ }
-    requires { ⌜ Passing (now words) (now live) (now tables) ⌝ }
-    ensures { λ r. ⌜ PassStep (now (words .entry)) (λ e. back (now (words .entry)) e (b .0)) (now (live .entry)) (now (tables .entry)) (now (live .exit)) (now (tables .exit)) r ⌝ }
+    requires { ⌜ Passing (now words) (now preds) (now live) (now sent) ⌝ }
+    ensures { λ r. ⌜ PassStep (now (words .entry)) (λ e. back (now (words .entry)) e (b .0)) (now (live .entry)) (now (live .exit)) (now (sent .exit)) r ⌝ }
 {
-    let row = b.0 as usize;
-    let all = compute_liveness_at_block_entry(live, b);
-    let mut new = all.words;
-    row_difference_with(&mut new, 0, row_of(&tables[SENT..PASS], row));
-    if is_empty(&new) {
+    let new = unsent(live, b, sent);
+    if is_empty(&new.words) {
         return false;
     }
-    row_union_with(&mut tables[SENT..PASS], row, &new);
-    let mut moved = [0u32; 512];
-    let n = take_block_inputs(words, b, &mut new, &mut moved);
-    let mut ids = [0u32; 512];
-    let count = list(row_of(&tables[PREDS..SENT], row), &mut ids);
-    send_all(
-        words,
-        &ids[0..count],
-        &new,
-        &moved[0..n],
-        &mut live[EXITS..LIVE],
-    )
+    row_union_with(sent, b.0 as usize, &new.words);
+    send_to_predecessors(words, b, preds, new, &mut live[EXITS..LIVE])
 }
 
 // A pass: the blocks of the order, backwards. Whether an exit grew.
-fn pass_back(words: &[u32], visit: &[u32], live: &mut [u64], tables: &mut [u64]) -> bool
+fn pass_back(
+    words: &[u32],
+    visit: &[u32],
+    preds: &[u64],
+    live: &mut [u64],
+    sent: &mut [u64],
+) -> bool
     requires { ⌜ VisitStage (now words) (now visit) ⌝ }
-    requires { ⌜ Passing (now words) (now live) (now tables) ⌝ }
-    ensures { λ r. ⌜ PassStep (now (words .entry)) (pass (now (words .entry))) (now (live .entry)) (now (tables .entry)) (now (live .exit)) (now (tables .exit)) r ⌝ }
+    requires { ⌜ Passing (now words) (now preds) (now live) (now sent) ⌝ }
+    ensures { λ r. ⌜ PassStep (now (words .entry)) (pass (now (words .entry))) (now (live .entry)) (now (live .exit)) (now (sent .exit)) r ⌝ }
 {
     let order = rpo(visit);
     let mut grew = false;
     let mut k = order.len();
     while 0 < k {
         k -= 1;
-        if propagate_liveness_to_predecessors(words, BlockId(order[k]), live, tables) {
+        if propagate_liveness_to_predecessors(words, BlockId(order[k]), preds, live, sent) {
             grew = true;
         }
     }
     grew
 }
+
+// The words of a table with a row for each block.
+const BLOCK_ROWS: usize = 2048;
 
 // Passes until one adds nothing: how many, that one counted. The exits, empty at first, are then the exit sets.
 fn fixpoint(words: &[u32], visit: &[u32], live: &mut [u64]) -> u32
@@ -183,16 +204,28 @@ fn fixpoint(words: &[u32], visit: &[u32], live: &mut [u64]) -> u32
     requires { ⌜ BlockRows (now words) (usesIn (now live)) (defsIn (now live)) × Emptied 22528 (now live) ⌝ }
     ensures { λ r. ⌜ (r ≡ rounds (now (words .entry))) × ExitsFound (now (words .entry)) (now (live .entry)) (now (live .exit)) ⌝ }
 {
-    let mut tables = [0u64; PASS];
-    predecessor_sets(words, visit, &mut tables[PREDS..SENT]);
+    let mut preds = [0u64; BLOCK_ROWS];
+    predecessor_sets(words, visit, &mut preds);
+    let mut sent = [0u64; BLOCK_ROWS];
     let mut done: u32 = 0;
     loop {
-        let grew = pass_back(words, visit, live, &mut tables);
+        let grew = pass_back(words, visit, &preds, live, &mut sent);
         done += 1;
         if !grew {
             return done;
         }
     }
+}
+
+// All tables of liveness but the exits, to an array that is empty at first.
+fn sets_before_passes(words: &[u32], live: &mut [u64])
+    requires { ⌜ WellFormed (now words) ⌝ }
+    requires { ⌜ now live ≡ replicate 24576 0 ⌝ }
+    ensures { λ _. ⌜ ExitsEmpty (now (words .entry)) (now (live .exit)) ⌝ }
+{
+    operand_sets(words, live);
+    block_sets(words, live);
+    end_sets(words, &mut live[ENDS..EXITS]);
 }
 
 // All tables of liveness, to an array that is empty at first, and the number of passes.
@@ -201,8 +234,6 @@ pub fn compute_liveness(words: &[u32], visit: &[u32], live: &mut [u64]) -> u32
     requires { ⌜ now live ≡ replicate 24576 0 ⌝ }
     ensures { λ r. ⌜ (r ≡ rounds (now (words .entry))) × LivenessStage (now (words .entry)) (now (live .exit)) ⌝ }
 {
-    operand_sets(words, live);
-    block_sets(words, live);
-    end_sets(words, &mut live[ENDS..EXITS]);
+    sets_before_passes(words, live);
     fixpoint(words, visit, live)
 }

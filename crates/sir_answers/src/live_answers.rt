@@ -24,6 +24,7 @@ ghost use Rattle.plank_core.specs.inner.DenseIndexSet.{members};
 ghost use Rattle.sir_data.specs.Pages.{bytesOf};
 ghost use Rattle.sir_data.specs.Records.{blocks, locals};
 ghost use Rattle.sir_data.specs.Rules.{first};
+ghost use Rattle.sir_analyses.specs.Liveness.{rounds};
 ghost use Rattle.sir_analyses.specs.Answers.{entryAnswer, intervalsAnswer};
 ghost use Rattle.sir_analyses.specs.Calls.{made, answered, inWords};
 ghost use Rattle.sir_answers.specs.inner.Questions.{ownRules, answerWords};
@@ -72,6 +73,31 @@ fn intervals_answer(
     answer
 }
 
+// The answer to a question on liveness, from the sets and the number of passes.
+fn answer_from_sets(
+    words: &[u32],
+    visit: &[u32],
+    live: &[u64],
+    done: u32,
+    question: LiveQuestion,
+    out: &mut [u8],
+) -> Answer
+    requires { ⌜ VisitStage (now words) (now visit) ⌝ }
+    requires { ⌜ LivenessStage (now words) (now live) × (done ≡ rounds (now words)) ⌝ }
+    requires { ⌜ first (ownRules (Question.OfLiveness question) (now words)) ≡ 0 ⌝ }
+    ensures { λ r. ⌜ made (r .number) (r .length) (now (out .exit)) ≡ answered (inWords (answerWords (Question.OfLiveness question)) (now (words .entry))) (now (out .entry)) ⌝ }
+{
+    match question {
+        LiveQuestion::EntrySet(b) => entry_answer(words, visit, live, b, out),
+        LiveQuestion::ExitSet(b) => set_answer(row_of(exits(live), b.0 as usize), out),
+        LiveQuestion::Intervals(v) => intervals_answer(words, visit, live, v, out),
+        LiveQuestion::Rounds => words_answer(&[done], out),
+        LiveQuestion::AllEntrySets => all_entry_sets_answer(words, visit, live, out),
+        LiveQuestion::AllExitSets => all_exit_sets_answer(words, live, out),
+        LiveQuestion::AllIntervals => all_intervals_answer(words, visit, live, out),
+    }
+}
+
 // The answer to a question on liveness: makes the sets, and answers from them.
 pub fn live_answer(words: &[u32], visit: &[u32], question: LiveQuestion, out: &mut [u8]) -> Answer
     requires { ⌜ VisitStage (now words) (now visit) ⌝ }
@@ -80,13 +106,5 @@ pub fn live_answer(words: &[u32], visit: &[u32], question: LiveQuestion, out: &m
 {
     let mut live = [0u64; LIVE];
     let done = compute_liveness(words, visit, &mut live);
-    match question {
-        LiveQuestion::EntrySet(b) => entry_answer(words, visit, &live, b, out),
-        LiveQuestion::ExitSet(b) => set_answer(row_of(exits(&live), b.0 as usize), out),
-        LiveQuestion::Intervals(v) => intervals_answer(words, visit, &live, v, out),
-        LiveQuestion::Rounds => words_answer(&[done], out),
-        LiveQuestion::AllEntrySets => all_entry_sets_answer(words, visit, &live, out),
-        LiveQuestion::AllExitSets => all_exit_sets_answer(words, &live, out),
-        LiveQuestion::AllIntervals => all_intervals_answer(words, visit, &live, out),
-    }
+    answer_from_sets(words, visit, &live, done, question, out)
 }

@@ -4,10 +4,11 @@ use mathlib.Core.Bool.{Bool, false, _||_, cond}
 use mathlib.Core.List.{List, [], _∷_, _++_, append-nil}
 use Prim.Native.Nat.{ℕ, zero, suc, _+_, _-_, _*_, _≤_, _<_}
 use native.Mathlib.Omega.{arith}
-use lib.ListN.{length, take, drop, replicate}
+use lib.ListN.{length, take, drop, replicate, length-replicate}
 use lib.Seq.{take-at}
 use Rattle.plank_core.specs.Lists.{count, upto, keep}
 use Rattle.plank_core.specs.laws.Loops.{count-add, keep-append}
+use Rattle.plank_core.specs.laws.Members.{members-most}
 use Rattle.plank_core.specs.inner.DenseIndexSet.{contains}
 use Rattle.plank_core.specs.inner.DenseIndexSet as Words
 use Rattle.plank_core.specs.laws.DenseIndexSet.{contains-row, contains-cleared, length-row}
@@ -63,10 +64,16 @@ module _ {w : List ℕ} (good : WellFormed w) (b : ℕ) (l : b < blocks w) (exit
 
 -- ---- what the questions on sets put
 
+pub members-fit : (s ids : List ℕ) {r : ℕ} → r ≡ length (Words.members s) → length ids ≡ length (replicate {A = ℕ} 512 0) → r ≤ length ids
+members-fit s ids l h = omega (arith, members-most s, length-replicate {A = ℕ} 512 0)
+
 pub front-members : (s out : List ℕ) {out′ : List ℕ} {n : ℕ} → n ≡ length (Words.members s) → out′ ≡ Words.members s ++ drop n out → take n out′ ≡ Words.members s
 front-members s out {n = n} l e = ap (take n) e ∙ take-at (Words.members s) (drop n out) n (sym l)
 
 module _ {w : List ℕ} (good : WellFormed w) {uses defs exits : List ℕ} (t : LiveRows w uses defs exits) {b : ℕ} (l : b < blocks w) where
+  pub exit-row-fits : {table : List ℕ} → table ≡ exits → 8 * b + 8 ≤ length table
+  exit-row-fits e = omega (arith, ap length e, t .exits-long, good .sized .blocks-most)
+
   pub row-answer : {set : List ℕ} → set ≡ Words.rowOf exits b → (length set ≡ 8) × (Words.members set ≡ exitAnswer w b)
   row-answer e = (ap length e ∙ length-row exits b (omega (arith, t .exits-long, good .sized .blocks-most)), ap Words.members e ∙ t .exit-is b l)
 

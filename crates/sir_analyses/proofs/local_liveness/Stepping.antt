@@ -1,26 +1,25 @@
 -- One block of a pass over tables is one step of the definition, though it sends only what it did not send before.
-use mathlib.Core.Path.{_≡_, refl, sym, ap, ap₂, subst, _∙_}
+use mathlib.Core.Path.{_≡_, refl, sym, ap, subst, _∙_}
 use mathlib.Core.Logic.{⊎-elim}
 use mathlib.Core.Bool.{Bool, true, false, not, _&&_, _||_, or-false, and-false}
-use mathlib.Core.List.{List, [], _∷_, _++_, map, List·Memᴰ·head, List·Memᴰ·tail, Memᴰ·cast, Memᴰ·map, Memᴰ·of-map}
-use Prim.Native.Nat.{ℕ, _+_, _-_, _*_, _≤_, _<_}
+use mathlib.Core.List.{List, [], _∷_, map, List·Memᴰ·head, List·Memᴰ·tail, Memᴰ·cast, Memᴰ·map, Memᴰ·of-map}
+use Prim.Native.Nat.{ℕ, _+_, _*_, _≤_, _<_}
 use native.Mathlib.Omega.{arith}
 use native.Mathlib.Nat.{le-refl}
-use lib.ListN.{length, set, take, drop, length-set}
-use lib.Seq.{take-append-seam}
+use lib.ListN.{length, set, length-set}
 use lib.Dec.{eqb}
 use borrow.Author.Tests.{eqb-true, eqb-false}
 use Rattle.plank_core.specs.Lists.{upto, foldl, mem, _∈_}
 use Rattle.plank_core.specs.laws.Lists.{and-true-left, and-true-right, both-true, or-true-left, or-true-right, or-cases, refuted, same-tests, none, split, mem-upto, keep-out, mem-in, in-mem, foldl-keeps}
 use Rattle.plank_core.specs.inner.DenseIndexSet.{contains, rowUnion, rowDifference, isEmpty}
 use Rattle.plank_core.specs.inner.DenseIndexSet as Words
-use Rattle.plank_core.specs.laws.DenseIndexSet.{contains-row, set-difference, empty-none}
+use Rattle.plank_core.specs.laws.DenseIndexSet.{contains-row, length-difference, set-difference, empty-none}
 use Rattle.plank_core.specs.laws.Members.{member-in, member-is}
 use Rattle.sir_data.specs.Records.{blocks, locals, inputs, outputs}
 use Rattle.sir_data.specs.inner.WellFormed.{WellFormed}
 use Rattle.sir_analyses.specs.Order.{predecessors}
 use Rattle.sir_analyses.specs.Liveness.{Set, has, addAll, members, entryFrom, renamed, rowOf, back}
-use Rattle.sir_analyses.specs.inner.Tables.{Same, Adds, grew, BlockRows, PredecessorRows, EntryWords, TakenInputs, arrives, Sends, Shown, SentOn, Stepped}
+use Rattle.sir_analyses.specs.inner.Tables.{Same, Adds, grew, BlockRows, PredecessorRows, EntryWords, Unsent, TakenInputs, arrives, Sends, SentToPredecessors, Shown, SentOn, Stepped}
 use Rattle.sir_analyses.proofs.SetLaws.{has-less, has-addAll, length-addAll, members-in, members-out}
 use Rattle.sir_analyses.proofs.claims.liveness.RowLaws.{Shape}
 use Rattle.sir_analyses.proofs.claims.liveness.FlowLaws.{row-same, row-other}
@@ -81,10 +80,6 @@ module _ (f : ℕ → List ℕ) (B L : ℕ) where
 
 -- ---- one block
 
--- what a block has to send: its entry set less what it sent before
-pub record Unsent (sent : List ℕ) (b : ℕ) (ent new : List ℕ) : Type 0 where
-  pub fresh : (v : ℕ) → v < 512 → contains new v ≡ (contains ent v && not (contains sent (512 * b + v)))
-
 module _ {w : List ℕ} (good : WellFormed w) (b : ℕ) (l : b < blocks w) where
   shape : {exits : List ℕ} {e : List Set} → Shown w exits e → Shape (blocks w) (locals w) e
   shape s = record { tall = s .tall; wide = s .wide }
@@ -98,13 +93,13 @@ module _ {w : List ℕ} (good : WellFormed w) (b : ℕ) (l : b < blocks w) where
   abbrev names : List Set → ℕ → List ℕ
   names e p = map (renamed w p b) (members (entryFrom w b (rowOf e b)))
 
-  module _ {exits sent ent new exits′ : List ℕ} {A : ℕ → ℕ → Bool}
-      (long : length exits ≡ 2048) (un : Unsent sent b ent new) (on : SentOn w exits sent) (arr : Arrivals w b new A)
+  module _ {uses defs exits sent new exits′ : List ℕ} {A : ℕ → ℕ → Bool}
+      (long : length exits ≡ 2048) (un : Unsent uses defs exits sent b new) (on : SentOn w exits sent) (arr : Arrivals w b new A)
       (put : Adds exits (λ q i. mem q (predecessors w b) && A q i) exits′) where
     below : (p : ℕ) → p ∈ predecessors w b → p < blocks w
     below p m = predecessor-below good p b m
 
-    module _ {e : List Set} (s : Shown w exits e) (same : Same ent (entryFrom w b (rowOf e b))) where
+    module _ {e : List Set} (s : Shown w exits e) (same : Same (un .entry) (entryFrom w b (rowOf e b))) where
       entry-small : (v : ℕ) → has (entryFrom w b (rowOf e b)) v ≡ true → v < locals w
       entry-small v t =
           let k : length (rowOf e b) ≡ locals w = s .wide b (omega (arith, s .tall)) in
@@ -115,7 +110,7 @@ module _ {w : List ℕ} (good : WellFormed w) (b : ℕ) (l : b < blocks w) where
       came q i m h t =
           let r = arr .only q i m h t in
           let v : ℕ = r .0 in
-          (v, sym (same v (r .1)) ∙ and-true-left (contains ent v) (not (contains sent (512 * b + v))) (sym (un .fresh v (r .1)) ∙ r .2), r .3)
+          (v, sym (same v (r .1)) ∙ and-true-left (contains (un .entry) v) (not (contains sent (512 * b + v))) (sym (un .fresh v (r .1)) ∙ r .2), r .3)
 
       -- a name that the definition sends is there, or arrives
       goes : (q i : ℕ) → q ∈ predecessors w b → i ∈ names e q → (has (rowOf e q) i || (mem q (predecessors w b) && A q i)) ≡ true
@@ -141,7 +136,7 @@ module _ {w : List ℕ} (good : WellFormed w) (b : ℕ) (l : b < blocks w) where
               let y : has (rowOf e q) (renamed w q b v) ≡ true = sym (s .rows q (renamed w q b v) (below q m) name) ∙ on b q v l m small d in
               or-true-left (has (rowOf e q) i) (mem q (predecessors w b) && A q i) (subst (λ (j : ℕ). has (rowOf e q) j ≡ true) (r .2) y)
           go false d =
-              let y : contains new v ≡ true = un .fresh v small ∙ both-true (contains ent v) (not (contains sent (512 * b + v))) (same v small ∙ t) (ap not d) in
+              let y : contains new v ≡ true = un .fresh v small ∙ both-true (contains (un .entry) v) (not (contains sent (512 * b + v))) (same v small ∙ t) (ap not d) in
               let z : A q i ≡ true = subst (λ (j : ℕ). A q j ≡ true) (r .2) (arr .all q v m small y) in
               or-true-right (has (rowOf e q) i) (mem q (predecessors w b) && A q i) (both-true (mem q (predecessors w b)) (A q i) (in-mem q m) z)
 
@@ -202,12 +197,12 @@ module _ {w : List ℕ} (good : WellFormed w) (b : ℕ) (l : b < blocks w) where
         or-true-right (contains exits (512 * p + renamed w p c v)) (mem p (predecessors w b) && A p (renamed w p c v)) (both-true (mem p (predecessors w b)) (A p (renamed w p c v)) (in-mem p mb) y))
         (or-cases (contains sent (512 * c + v)) (eqb c b && contains new v) (sym (add .same c v (omega (arith, good .sized .blocks-most)) h) ∙ t))
 
-    pub stepped : {uses defs sent′ : List ℕ} {told : Bool} → BlockRows w uses defs → EntryWords uses defs exits b ent → length sent ≡ 2048
+    pub stepped : {sent′ : List ℕ} {told : Bool} → BlockRows w uses defs → length sent ≡ 2048
         → Adds sent (λ r v. eqb r b && contains new v) sent′ → told ≡ grew (blocks w) exits exits′ → Stepped w (λ e. back w e b) exits exits′ sent′ told
-    stepped rows words wide add t = record {
+    stepped rows wide add t = record {
       exits-long = put .long ∙ long;
       sent-long = add .long ∙ wide;
-      same = λ e s. step-shown s (entry-shows ent exits (rowOf e b) rows words (s .wide b (omega (arith, s .tall))) (λ v h. s .rows b v l h));
+      same = λ e s. step-shown s (entry-shows (un .entry) exits (rowOf e b) rows (un .entry-words) (s .wide b (omega (arith, s .tall))) (λ v h. s .rows b v l h));
       sent-on = step-sent wide add;
       more = adds-more (blocks w) put (omega (arith, good .sized .blocks-most));
       tells = t;
@@ -215,10 +210,27 @@ module _ {w : List ℕ} (good : WellFormed w) (b : ℕ) (l : b < blocks w) where
 
 -- ---- the step as the code has it
 
-pub unsent : {sent : List ℕ} {b : ℕ} {ent new : List ℕ} → length ent ≡ 8 → new ≡ rowDifference ent 0 (Words.rowOf sent b) → Unsent sent b ent new
-unsent {sent} {b} {ent} l e = record {
-  fresh = λ v h. ap (λ (ws : List ℕ). contains ws v) e ∙ set-difference ent (Words.rowOf sent b) v h (omega arith) ∙ ap (λ (t : Bool). contains ent v && not t) (contains-row sent b v h);
-}
+-- row b is in a table of 256 rows
+pub row-fits : {b : ℕ} (t : List ℕ) → b < 256 → length t ≡ 2048 → 8 * b + 8 ≤ length t
+row-fits t l h = omega arith
+
+-- a set is a table of one row
+pub set-fits : (s : List ℕ) → length s ≡ 8 → 8 * 0 + 8 ≤ length s
+set-fits s h = omega arith
+
+pub block-small : {w : List ℕ} → WellFormed w → {b : ℕ} → b < blocks w → b < 256
+block-small good l = omega (arith, good .sized .blocks-most)
+
+pub unsent : {uses defs exits sent new : List ℕ} {b : ℕ} (ent : List ℕ) → length ent ≡ 8 → EntryWords uses defs exits b ent → new ≡ rowDifference ent 0 (Words.rowOf sent b)
+    → (length new ≡ 8) × Unsent uses defs exits sent b new
+unsent {sent = sent} {b = b} ent l ws e = (
+  ap length e ∙ length-difference ent 0 (Words.rowOf sent b) ∙ l,
+  record {
+    entry = ent;
+    entry-words = ws;
+    fresh = λ v h. ap (λ (ws : List ℕ). contains ws v) e ∙ set-difference ent (Words.rowOf sent b) v h (omega arith) ∙ ap (λ (t : Bool). contains ent v && not t) (contains-row sent b v h);
+  },
+)
 
 -- the members of a row of predecessors are the predecessors
 pub preds-listed : {w : List ℕ} → WellFormed w → (b : ℕ) → b < blocks w → {preds : List ℕ} → PredecessorRows w preds → (q : ℕ) → mem q (Words.members (Words.rowOf preds b)) ≡ mem q (predecessors w b)
@@ -229,10 +241,6 @@ preds-listed {w} good b l {preds} rows q = same-tests (mem q (Words.members (Wor
     (λ t.
     let h : q < 512 = omega (arith, predecessor-below good q b (mem-in q (predecessors w b) t), good .sized .blocks-most) in
     in-mem q (member-in (Words.rowOf preds b) q h (contains-row preds b q h ∙ rows .preceded b q l h ∙ t)))
-
--- the members of a set as they stand at the front of an array, and as a part of it
-pub listed : (s rest : List ℕ) {ids : List ℕ} {r : ℕ} → r ≡ length (Words.members s) → ids ≡ Words.members s ++ rest → take (r - 0) (drop 0 ids) ≡ Words.members s
-listed s rest {r = r} l e = let z : r - 0 ≡ length (Words.members s) = omega arith in ap₂ (λ (n : ℕ) (xs : List ℕ). take n xs) z e ∙ take-append-seam (Words.members s) rest
 
 module _ {w : List ℕ} (good : WellFormed w) (b : ℕ) (l : b < blocks w) {preds : List ℕ} (rows : PredecessorRows w preds) (p : ℕ) (m : p ∈ Words.members (Words.rowOf preds b)) where
   listed-in : p ∈ predecessors w b
@@ -247,21 +255,31 @@ module _ {w : List ℕ} (good : WellFormed w) (b : ℕ) (l : b < blocks w) {pred
       let i : k ∈ upto (length (inputs w b)) = keep-out _ (upto (length (inputs w b))) (subst (λ (xs : List ℕ). k ∈ xs) (parts .moves) n) .0 in
       omega (arith, mem-upto k (length (inputs w b)) i, edge-length good p b listed-in)
 
-module _ {w : List ℕ} (good : WellFormed w) (b : ℕ) (l : b < blocks w) {exits sent ent new : List ℕ}
-    (long : length exits ≡ 2048) (wide : length sent ≡ 2048) (on : SentOn w exits sent) (un : Unsent sent b ent new)
-    {uses defs : List ℕ} (rows : BlockRows w uses defs) (words : EntryWords uses defs exits b ent) where
+-- a set is sent to the listed predecessors
+pub sent-to : {w : List ℕ} → WellFormed w → (b : ℕ) → b < blocks w → {preds : List ℕ} → PredecessorRows w preds → {set passing moved ids exits exits′ : List ℕ} {told : Bool}
+    → ids ≡ Words.members (Words.rowOf preds b) → TakenInputs w b set passing moved → Sends (blocks w) exits (λ q i. mem q ids && arrives w passing moved q i) exits′ told
+    → SentToPredecessors w b set exits exits′ told
+sent-to {w} good b l rows {passing = passing} {moved = moved} e parts s = record {
+  passing = passing;
+  moved = moved;
+  taken = parts;
+  sends = record {
+    adds = adds-as (λ q i h. ap (λ (t : Bool). t && arrives w passing moved q i) (ap (mem q) e ∙ preds-listed good b l rows q)) (s .adds);
+    tells = s .tells;
+  };
+}
+
+module _ {w : List ℕ} (good : WellFormed w) (b : ℕ) (l : b < blocks w) {uses defs exits sent new : List ℕ}
+    (long : length exits ≡ 2048) (wide : length sent ≡ 2048) (on : SentOn w exits sent) (un : Unsent uses defs exits sent b new) (rows : BlockRows w uses defs) where
   -- nothing is new
   pub stepped-empty : isEmpty new ≡ true → Stepped w (λ e. back w e b) exits exits sent false
   stepped-empty e =
       let z = empty-none new e in
       let nothing : Arrivals w b new (λ q i. false) = record { all = λ p v m h t. none (contains new v) t (z v h); only = λ p i m h t. none false t refl } in
       stepped good b l long un on nothing
-      (adds-none (λ q i h. and-false (mem q (predecessors w b)))) rows words wide
+      (adds-none (λ q i h. and-false (mem q (predecessors w b)))) rows wide
       (adds-none (λ r v h. ap (λ (t : Bool). eqb r b && t) (z v h) ∙ and-false (eqb r b)))
       (sym (same-grew (blocks w) exits exits (λ k h. refl)))
 
-  pub stepped-sent : {passing moved sent′ exits′ : List ℕ} {told : Bool} (ids : List ℕ) → TakenInputs w b new passing moved → ((q : ℕ) → mem q ids ≡ mem q (predecessors w b))
-      → sent′ ≡ rowUnion sent b new → Sends (blocks w) exits (λ q i. mem q ids && arrives w passing moved q i) exits′ told → Stepped w (λ e. back w e b) exits exits′ sent′ told
-  stepped-sent {passing} {moved} ids parts same e s =
-      stepped good b l long un on (arrivals good l parts) (adds-as (λ q i h. ap (λ (t : Bool). t && arrives w passing moved q i) (same q)) (s .adds)) rows words wide
-      (rw e (adds-union sent b new)) (s .tells)
+  pub stepped-sent : {sent′ exits′ : List ℕ} {told : Bool} → sent′ ≡ rowUnion sent b new → SentToPredecessors w b new exits exits′ told → Stepped w (λ e. back w e b) exits exits′ sent′ told
+  stepped-sent e s = stepped good b l long un on (arrivals good l (s .taken)) (s .sends .adds) rows wide (rw e (adds-union sent b new)) (s .sends .tells)

@@ -6,7 +6,8 @@ use mathlib.Core.List.{List}
 use Prim.Native.Nat.{ℕ, _+_, _-_, _≤_, _<_}
 use lib.ListN.{length, getD, take, drop, replicate}
 use lib.Dec.{eqb}
-use Rattle.sir_data.specs.Records.{blocks}
+use Rattle.plank_core.specs.Lists.{mem}
+use Rattle.sir_data.specs.Records.{blocks, ins, outs}
 use Rattle.sir_data.specs.inner.WellFormed.{WellFormed}
 use Rattle.sir_analyses.specs.Order.{blocksRpo, isVisited}
 use Rattle.sir_analyses.specs.inner.Visiting.{orderIn}
@@ -104,6 +105,13 @@ pub record Emptied (from : ℕ) (live : List ℕ) : Type 0 where
   pub long : length live ≡ 24576
   pub empty : drop from live ≡ replicate (24576 - from) 0
 
+-- what operation o reads and writes is added, and all from the use sets on is as it was
+pub record OperandsAdded (w : List ℕ) (o : ℕ) (live live′ : List ℕ) : Type 0 where
+  pub long : length live′ ≡ length live
+  pub read : Adds (readsIn live) (λ r v. eqb r o && mem v (ins w o)) (readsIn live′)
+  pub written : Adds (writesIn live) (λ r v. eqb r o && mem v (outs w o)) (writesIn live′)
+  pub after : drop 16384 live′ ≡ drop 16384 live
+
 -- the use and def sets of block b are added, and all else is as it was
 pub record BlockAdded (w : List ℕ) (b : ℕ) (live live′ : List ℕ) : Type 0 where
   pub long : length live′ ≡ length live
@@ -112,28 +120,26 @@ pub record BlockAdded (w : List ℕ) (b : ℕ) (live live′ : List ℕ) : Type 
   pub before : take 16384 live′ ≡ take 16384 live
   pub after : drop 20480 live′ ≡ drop 20480 live
 
--- the predecessors of each block, and what each block has sent to them
-abbrev pub predsIn : List ℕ → List ℕ
-predsIn tables = part 0 2048 tables
-
-abbrev pub sentIn : List ℕ → List ℕ
-sentIn tables = part 2048 2048 tables
-
--- between two steps of a pass
-pub record Passing (w live tables : List ℕ) : Type 0 where
-  pub long : length live ≡ 24576
-  pub tables-long : length tables ≡ 4096
+-- all tables are filled but the exits, which are empty
+pub record ExitsEmpty (w live : List ℕ) : Type 0 where
+  pub operands : OperandRows w (readsIn live) (writesIn live)
   pub block-rows : BlockRows w (usesIn live) (defsIn live)
-  pub preds : PredecessorRows w (predsIn tables)
-  pub sent-on : SentOn w (exitsIn live) (sentIn tables)
+  pub ends : EndRows w (endsIn live)
+  pub emptied : Emptied 22528 live
+
+-- between two steps of a pass: the predecessors of each block, the tables of liveness, and what each block has sent
+pub record Passing (w preds live sent : List ℕ) : Type 0 where
+  pub preds-rows : PredecessorRows w preds
+  pub long : length live ≡ 24576
+  pub sent-long : length sent ≡ 2048
+  pub block-rows : BlockRows w (usesIn live) (defsIn live)
+  pub sent-on : SentOn w (exitsIn live) sent
 
 -- one step of a pass: the exits and what was sent went on, and all else is as it was
-pub record PassStep (w : List ℕ) (step : List Set → List Set) (live tables live′ tables′ : List ℕ) (told : Bool) : Type 0 where
-  pub stepped : Stepped w step (exitsIn live) (exitsIn live′) (sentIn tables′) told
+pub record PassStep (w : List ℕ) (step : List Set → List Set) (live live′ sent′ : List ℕ) (told : Bool) : Type 0 where
+  pub stepped : Stepped w step (exitsIn live) (exitsIn live′) sent′ told
   pub long : length live′ ≡ length live
-  pub tables-long : length tables′ ≡ length tables
   pub before : take 22528 live′ ≡ take 22528 live
-  pub preds : predsIn tables′ ≡ predsIn tables
 
 -- the exits are the exit sets, and all else is as it was
 pub record ExitsFound (w live live′ : List ℕ) : Type 0 where

@@ -73,6 +73,12 @@ pub record PredecessorRows (w preds : List ℕ) : Type 0 where
 abbrev pub EntryWords : List ℕ → List ℕ → List ℕ → ℕ → List ℕ → Type 0
 EntryWords uses defs exits b ws = (v : ℕ) → v < 512 → contains ws v ≡ (contains uses (512 * b + v) || (contains exits (512 * b + v) && not (contains defs (512 * b + v))))
 
+-- what a block has to send: words that show its entry set, less what row b of `sent` has
+pub record Unsent (uses defs exits sent : List ℕ) (b : ℕ) (new : List ℕ) : Type 0 where
+  pub entry : List ℕ
+  pub entry-words : EntryWords uses defs exits b entry
+  pub fresh : (v : ℕ) → v < 512 → contains new v ≡ (contains entry v && not (contains sent (512 * b + v)))
+
 -- the inputs of block b taken out of a set: the members that are left, and the positions of the inputs that it had
 pub record TakenInputs (w : List ℕ) (b : ℕ) (set passing moved : List ℕ) : Type 0 where
   pub passes : (v : ℕ) → v < 512 → contains passing v ≡ (contains set v && not (mem v (inputs w b)))
@@ -90,6 +96,13 @@ arrives w passing moved p i = contains passing i || mem i (outputsAt w p moved)
 pub record Sends (n : ℕ) (t : List ℕ) (p : ℕ → ℕ → Bool) (t′ : List ℕ) (told : Bool) : Type 0 where
   pub adds : Adds t p t′
   pub tells : told ≡ grew n t t′
+
+-- a set was sent to the predecessors of block b: what is left of it without the inputs of b, and each input by its position
+pub record SentToPredecessors (w : List ℕ) (b : ℕ) (set exits exits′ : List ℕ) (told : Bool) : Type 0 where
+  pub passing : List ℕ
+  pub moved : List ℕ
+  pub taken : TakenInputs w b set passing moved
+  pub sends : Sends (blocks w) exits (λ p i. mem p (predecessors w b) && arrives w passing moved p i) exits′ told
 
 -- the exits, a row for each block, show a table of sets
 pub record Shown (w exits : List ℕ) (e : List Set) : Type 0 where
