@@ -263,8 +263,8 @@ calls-first = (orderAnswer callsAndGoes, 0 ∷ 2 ∷ 0 ∷ 1 ∷ 2 ∷ 1 ∷ 3 �
 
 -- ---- all rows
 
--- each row: what is computed, and what it must be. So says document 01, but for the rows on predecessors, v3, uses, owner of v2 and
--- outcomes of `report`, those on `looping`, and those by the source's own steps, which are our own
+-- each row: what is computed, and what it must be. So says document 01, but for these, which are our own: the first row, `calls-first`, the
+-- rows on predecessors, v3, uses, owner of v2 and outcomes of `report`, those on `looping`, and those by the source's own steps
 abbrev table : List Row
 table =
     -- rules 4 to 12 refuse none of the images
