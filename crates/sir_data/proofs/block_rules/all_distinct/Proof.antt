@@ -39,8 +39,9 @@ row-add-requires c κs =
 
 returns : tie.Need-returns Inv-loop μ-loop
 returns c =
-    let l = c .before .before .before .before .before .before .loop in
-    let e = not-false _ (rw zero-add at (sym (c .before .before .row-add .ensures .0)) ∙ not-true _ (c .if1 .taken)) in
+    let at-row-add = c .before .before in
+    let l = at-row-add .before .before .before .before .loop in
+    let e = not-false _ (rw zero-add at (sym (at-row-add .row-add .ensures .0)) ∙ not-true _ (c .if1 .taken)) in
     sym (fresh-stop (l .seen) (l .i) _ (omega arith) e) ∙ l .inv .2
 
 add-i : tie.Need-add-i Inv-loop μ-loop
@@ -51,11 +52,13 @@ loop-less c = omega arith
 
 loop-again : tie.Need-loop-again Inv-loop μ-loop
 loop-again c =
-    let start = c .before .before .before .before .before .before .before .before in
-    let l = c .before .before .before .before .before .before .loop in
-    let e = not-true _ (rw zero-add at (sym (c .before .before .row-add .ensures .0)) ∙ not-false _ (c .if1 .left)) in
+    let at-row-add = c .before .before in
+    let at-loop = at-row-add .before .before .before .before in
+    let start = at-loop .before .before in
+    let l = at-loop .loop in
+    let e = not-true _ (rw zero-add at (sym (at-row-add .row-add .ensures .0)) ∙ not-false _ (c .if1 .left)) in
     let below = fresh-step (l .seen) (l .i) (start .args .run .now) (omega arith) (λ v m. omega (arith, start .pre v m)) e in
-    (omega arith, omega arith, rw (rw zero-add at (c .before .before .row-add .ensures .1)) below ∙ l .inv .2)
+    (omega arith, omega arith, rw (rw zero-add at (at-row-add .row-add .ensures .1)) below ∙ l .inv .2)
 
 returns-2 : tie.Need-returns-2 Inv-loop μ-loop
 returns-2 c =

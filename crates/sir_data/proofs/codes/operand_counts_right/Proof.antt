@@ -35,8 +35,8 @@ wide-requires c κs = search needs
 
 shared-slice-read-wide-2 : tie.Need-shared-slice-read-wide-2
 shared-slice-read-wide-2 c =
-    let at-wide = c .before .before in
-    let start = at-wide .before .before .before .before .before .before in
+    let at-if2 = c .before .before .before .before in
+    let start = at-if2 .before .before .before .before in
     omega (arith, start .pre .1, table-length (λ k. arity k .1) (start .pre .0 .1))
 
 wide-requires-2 : tie.Need-wide-requires-2

@@ -40,11 +40,12 @@ loop-less c = omega arith
 
 loop-again : tie.Need-loop-again Inv-loop μ-loop
 loop-again c =
-    let start = c .before .before .before .before .before .before in
-    let at-loop = c .before .before .before .before .loop in
+    let at-loop = c .before .before .before .before in
+    let start = at-loop .before .before in
+    let l = at-loop .loop in
     let w = pageWord (start .args .image .now) (start .args .page) in
-    let ea = turn-a w (at-loop .i) (at-loop .inv .1) (c .before .before .word-at .ensures) (c .before .wrapping-add-u32 .ensures) in
-    (omega arith, ea, turn-b w (at-loop .i) (at-loop .inv .2) ea (c .wrapping-add-u322 .ensures))
+    let ea = turn-a w (l .i) (l .inv .1) (c .before .before .word-at .ensures) (c .before .wrapping-add-u32 .ensures) in
+    (omega arith, ea, turn-b w (l .i) (l .inv .2) ea (c .wrapping-add-u322 .ensures))
 
 wrapping-add-u32-requires-3 : tie.Need-wrapping-add-u32-requires-3 Inv-loop μ-loop
 wrapping-add-u32-requires-3 c κs = search needs
