@@ -15,7 +15,7 @@ use Rattle.sir_analyses.specs.Allocation.{allocs, allocAt, base, marked, merged
 use Rattle.sir_analyses.specs.Answers.{intervalWords, intervalsAnswer, allocationAnswer}
 use Rattle.sir_analyses.specs.Kinds.{kindOf, kindWords}
 use Rattle.sir_analyses.specs.declared.allocation_words.AllocKind.{AllocKind}
-use Rattle.sir_analyses.specs.laws.Writing.{length-bytes}
+use Rattle.sir_analyses.specs.laws.Writing.{length-bytes, interval-count}
 use Rattle.report_lines.specs.Lines.{ascii, named, intervalText, interval, localText, allocationText}
 use Rattle.report_lines.specs.inner.Putting.{Words, intervalAt, intervalsAt, EndsSome, localLine, mark, allocationHead, allocationLine}
 use Rattle.report_lines.proofs.Fields.{Good, Goods, intervals-good, merged-good, alloc-small, base-small}
@@ -83,10 +83,6 @@ ends-from {xs} (i ∷ is) (suc k) front e g l =
     let z : length (front ++ three i) + 3 * k + 2 ≡ length front + 3 * suc k + 2 = omega (arith, length-append front (three i)) in
     rw (sym z) (ends-from is k (front ++ three i) (next-is front i is e (g .0)) (g .1) (omega arith))
 
-pub length-words : (is : List Interval) → length (intervalWords is) ≡ 3 * length is
-length-words [] = refl
-length-words (i ∷ is) = let h = length-words is in omega arith
-
 -- a kind is three words
 three-words : (k : AllocKind) → kindWords k ≡ getD (kindWords k) 0 0 ∷ getD (kindWords k) 1 0 ∷ getD (kindWords k) 2 0 ∷ []
 three-words (AllocKind.Static size id) = refl
@@ -96,7 +92,7 @@ module _ (w : List ℕ) (small : Words w) (seq : Words (blocksRpo w)) where
   -- ---- the line of a local
 
   local-count : (v : ℕ) → length (bind (intervalsAnswer w v) bytesOf) / 12 ≡ length (intervals w v)
-  local-count v = omega (arith, length-bytes (intervalsAnswer w v), length-words (intervals w v))
+  local-count v = omega (arith, length-bytes (intervalsAnswer w v), interval-count (intervals w v))
 
   pub local-ends : (v : ℕ) → EndsSome (bind (intervalsAnswer w v) bytesOf) 0 (length (bind (intervalsAnswer w v) bytesOf) / 12)
   local-ends v k l = ends-from (intervals w v) k [] refl (intervals-good w small seq v) (omega (arith, local-count v))
@@ -104,7 +100,7 @@ module _ (w : List ℕ) (small : Words w) (seq : Words (blocksRpo w)) where
   pub local-as : (v : ℕ) → ¬ (length (intervalsAnswer w v) ≡ 0) → localLine v (bind (intervalsAnswer w v) bytesOf) ≡ localText w v
   unfolding localText
   local-as v n =
-      let m : ¬ (length (intervals w v) ≡ 0) = λ e. n (omega (arith, length-words (intervals w v))) in
+      let m : ¬ (length (intervals w v) ≡ 0) = λ e. n (omega (arith, interval-count (intervals w v))) in
       ap (λ (n : ℕ). named (ascii "v") v ++ intervalsAt (bind (intervalsAnswer w v) bytesOf) 0 n ++ ascii "\n") (local-count v)
       ∙ ap (λ (t : List ℕ). named (ascii "v") v ++ t ++ ascii "\n") (texts-from 0 (intervals w v) 0 [] refl (omega arith) (intervals-good w small seq v))
       ∙ rw (ne-eqb (length (intervals w v)) 0 m) refl
@@ -130,7 +126,7 @@ module _ (w : List ℕ) (small : Words w) (seq : Words (blocksRpo w)) where
         (sym (three-words (kindOf w (allocAt w a .op))))
 
     allocation-count : (length (bind answer bytesOf) - 32) / 12 ≡ length (merged w a)
-    allocation-count = omega (arith, length-bytes answer, length-words (merged w a))
+    allocation-count = omega (arith, length-bytes answer, interval-count (merged w a))
 
     answer-ends : EndsSome (bind answer bytesOf) 8 ((length (bind answer bytesOf) - 32) / 12)
     answer-ends k h = ends-from (merged w a) k front refl (merged-good w small seq a) (omega (arith, allocation-count))

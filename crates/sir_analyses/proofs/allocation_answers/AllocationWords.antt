@@ -13,7 +13,6 @@ use Rattle.plank_core.specs.inner.DenseIndexSet.{contains, added}
 use Rattle.plank_core.specs.laws.DenseIndexSet.{contains-added, contains-cleared}
 use Rattle.plank_core.specs.laws.Prefixes as Prefixes
 use Rattle.plank_core.specs.laws.Lists.{oneIf-told}
-use Rattle.plank_core.specs.laws.Folds.{bind-long}
 use Rattle.sir_data.specs.Records.{blocks, operations, locals, code, outs}
 use Rattle.sir_data.specs.Codes.{isAlloc}
 use Rattle.sir_data.specs.inner.WellFormed.{WellFormed}
@@ -26,6 +25,7 @@ use Rattle.sir_analyses.specs.inner.Tables.{Same}
 use Rattle.sir_analyses.specs.inner.Discovery.{allocSites, Discovered, Site, Unmarked, headWords}
 use Rattle.sir_analyses.specs.inner.Sweep.{sweepFrom}
 use Rattle.sir_analyses.specs.inner.Writing.{Puts}
+use Rattle.sir_analyses.specs.laws.Writing.{interval-count}
 use Rattle.sir_analyses.proofs.claims.liveness.GenKill.{beyond}
 use Rattle.sir_analyses.proofs.claims.marks.Marks.{reach-length}
 use Rattle.sir_analyses.proofs.merged_intervals.SweepProof.{sweep-merged}
@@ -72,9 +72,6 @@ module _ {w owner marks : List ℕ} (good : WellFormed w) (d : Discovered w owne
 -- the array of marks tells
 pub mark-told : {w owner marks : List ℕ} → Discovered w owner marks → {a : ℕ} → a < length (allocs w) → {told t : Bool} → told ≡ not (eqb (getD marks a 0) 0) → told ≡ t → marked w a ≡ t
 mark-told {w} d {a} l p q = sym (oneIf-told (marked w a)) ∙ ap (λ (k : ℕ). not (eqb k 0)) (sym (d .mark-is a l)) ∙ sym p ∙ q
-
-pub interval-count : (is : List Interval) → length (intervalWords is) ≡ 3 * length is
-interval-count is = bind-long (λ i. i .block ∷ i .from ∷ i .to ∷ []) 3 is (λ i. refl)
 
 -- ---- the answer: its head, then the intervals
 

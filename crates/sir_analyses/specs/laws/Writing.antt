@@ -11,10 +11,16 @@ use borrow.Author.Tests.{le-leb, lt-leb, leb-true}
 use Rattle.plank_core.specs.Lists.{bind}
 use Rattle.plank_core.specs.laws.Folds.{bind-long}
 use Rattle.sir_data.specs.Pages.{bytesOf}
+use Rattle.sir_analyses.specs.Liveness.{Interval}
+use Rattle.sir_analyses.specs.Answers.{intervalWords}
 use Rattle.sir_analyses.specs.inner.Writing.{wordPut, wordsPut}
 
 pub length-bytes : (xs : List ℕ) → length (bind xs bytesOf) ≡ 4 * length xs
 length-bytes xs = bind-long bytesOf 4 xs (λ x. refl)
+
+-- an interval is three words
+pub interval-count : (is : List Interval) → length (intervalWords is) ≡ 3 * length is
+interval-count is = bind-long (λ i. i .block ∷ i .from ∷ i .to ∷ []) 3 is (λ i. refl)
 
 put-past : (limit n x : ℕ) (out : List ℕ) → limit < 4 * n + 4 → wordPut limit n x out ≡ out
 unfolding wordPut

@@ -11,7 +11,8 @@ use Rattle.report_lines.specs.Lines.{localText}
 use Rattle.report_lines.specs.inner.Putting.{localLine}
 use Rattle.report_lines.proofs.Putting.{put-as, put-nothing}
 use Rattle.report_lines.proofs.TooLong.{short, stands, take-most, rpo-small}
-use Rattle.report_lines.proofs.AnswerText.{length-words, local-ends, local-as, local-ends-as}
+use Rattle.sir_analyses.specs.laws.Writing.{interval-count}
+use Rattle.report_lines.proofs.AnswerText.{local-ends, local-as, local-ends-as}
 use borrow.Author.Needs.{needs}
 use Rattle.report_lines.proofs.printing.local_text.Statement.{statement}
 use Rattle.report_lines.proofs.printing.local_text.Tie as tie
@@ -32,7 +33,7 @@ returns c =
     let at-shared-slice-known2 = at-compute-intervals .before .before .before .before .before in
     let start = at-shared-slice-known2 .before .before in
     let w = start .args .words .now in
-    let z : length (intervals w (start .args .v .0)) ≡ 0 = omega (arith, at-compute-intervals .compute-intervals .ensures .1 .next, c .if1 .taken, length-words (intervals w (start .args .v .0))) in
+    let z : length (intervals w (start .args .v .0)) ≡ 0 = omega (arith, at-compute-intervals .compute-intervals .ensures .1 .next, c .if1 .taken, interval-count (intervals w (start .args .v .0))) in
     put-as (rw (eq-eqb _ _ z) refl) (put-nothing (omega arith))
 
 mul-end : tie.Need-mul-end

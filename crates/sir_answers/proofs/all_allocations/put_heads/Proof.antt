@@ -10,7 +10,7 @@ use Rattle.sir_analyses.specs.Allocation.{allocs, merged}
 use Rattle.sir_answers.specs.inner.Scatter.{backward, numberAt}
 use Rattle.sir_answers.specs.inner.AllocationPieces.{headOf, headPieces}
 use Rattle.sir_analyses.proofs.allocation_liveness.PointerTables.{allocations-few}
-use Rattle.sir_analyses.proofs.allocation_answers.AllocationWords.{interval-count}
+use Rattle.sir_analyses.specs.laws.Writing.{interval-count}
 use Rattle.sir_answers.proofs.all_allocations.AllocationPieces.{merged-few, other-cursor}
 use Rattle.sir_answers.proofs.scatter.Scattering.{Scattering, scattering-none, scattering-as, scattering-fits, scattering-more, scattering-all, fits-as, scatters-as}
 use Rattle.sir_answers.proofs.all_allocations.put_heads.Statement.{statement}
