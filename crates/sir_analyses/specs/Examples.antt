@@ -1,164 +1,48 @@
 -- The examples of document 01, "Paths and joins", and some of our own, as one table that one proof computes; and a walk through a loop.
 use mathlib.Core.Path.{_≡_, refl}
-use mathlib.Core.Bool.{Bool, true, false, _&&_}
+use mathlib.Core.Bool.{true, false}
 use mathlib.Core.List.{List, [], _∷_, _++_, map, List·Memᴰ·head, List·Memᴰ·tail, List·Memᴰ·eq-of-singleton}
-use Prim.Native.Nat.{ℕ, _+_, _-_, _≤_}
+use Prim.Native.Nat.{ℕ, _≤_}
 use native.Mathlib.Omega.{arith}
-use lib.ListN.{length, replicate}
-use lib.Dec.{eqb}
+use lib.ListN.{replicate}
 use Rattle.plank_core.specs.Lists.{all, bind, oneIf, _∈_}
-use Rattle.sir_data.specs.Pages.{pageWord, checkOf, payload, bytesOf}
+use Rattle.sir_data.specs.Pages.{pageWord, checkOf, payload}
 use Rattle.sir_data.specs.Records.{blocks, ins}
 use Rattle.sir_data.specs.Rules.{first, recordRules, rule4, rule5, rule6, rule7, rule8, rule9, rule10, rule11}
-use Rattle.sir_analyses.specs.Liveness.{has, Interval, blockEnd}
+use Rattle.sir_analyses.specs.Liveness.{has, blockEnd}
 use Rattle.sir_analyses.specs.Allocation.{rule12, sort, merge, marked}
 use Rattle.sir_analyses.specs.SourceUses.{sourcePredecessors, sourceUses}
 use Rattle.sir_analyses.specs.SourceLiveness.{sourceLive, sourceLocalIntervals}
 use Rattle.sir_analyses.specs.Source.{sourceState, sourceMarked}
 use Rattle.sir_analyses.specs.SourceIntervals.{mergeIntervals, sourceIntervals}
 use Rattle.sir_analyses.specs.Answers.{orderAnswer, predecessorsAnswer, entryAnswer, exitAnswer, usesAnswer, intervalsAnswer, intervalWords, allocationAnswer, ownerAnswer, roundsAnswer}
-use Rattle.sir_analyses.specs.Calls.{Outcome, asked, noRules, known, inWords}
+use Rattle.sir_analyses.specs.Calls.{asked, noRules, known, inWords}
 use Rattle.sir_analyses.specs.Walk.{Event, op, edge, Walk, enter, step, follow, Holds, given, kept, moved, Executed, now, before}
-
--- ---- images of one page, written as blocks with their operations
-
--- an operation: its code, what it reads and defines, its two extras
-record Op : Type 0 where
-  code : ℕ
-  reads : List ℕ
-  defines : List ℕ
-  extras : ℕ × ℕ
-
--- a block; its control is the kind, then four fields
-record Block : Type 0 where
-  inputs : List ℕ
-  ops : List Op
-  outputs : List ℕ
-  control : List ℕ
-
--- the operand words of an operation
-abbrev opOperands : Op → List ℕ
-opOperands o = o .reads ++ o .defines
-
--- the operand words of a block: those of its operations, then its inputs, then its outputs
-abbrev blockOperands : Block → List ℕ
-blockOperands b = bind (b .ops) opOperands ++ b .inputs ++ b .outputs
-
--- seven words for each operation of a block; v: operand words before
-abbrev opWords : ℕ → List Op → List ℕ
-opWords v [] = []
-opWords v (o ∷ os) =
-    let i = v + length (o .reads) in
-    let e = i + length (o .defines) in
-    o .code ∷ v ∷ i ∷ i ∷ e ∷ o .extras .0 ∷ o .extras .1 ∷ opWords e os
-
--- the words of the operations of all blocks; v: operand words before
-abbrev opsWords : ℕ → List Block → List ℕ
-opsWords v [] = []
-opsWords v (b ∷ bs) = opWords v (b .ops) ++ opsWords (v + length (blockOperands b)) bs
-
--- eleven words for each block; p: operations before, v: operand words before
-abbrev blockWords : ℕ → ℕ → List Block → List ℕ
-blockWords p v [] = []
-blockWords p v (b ∷ bs) =
-    let q = p + length (b .ops) in
-    let i = v + length (bind (b .ops) opOperands) in
-    let m = i + length (b .inputs) in
-    let e = m + length (b .outputs) in
-    i ∷ m ∷ m ∷ e ∷ p ∷ q ∷ (b .control ++ blockWords q e bs)
-
--- the payload words, padded to one page: edition 1, init function 0, no main, no case targets
-abbrev imageWords : ℕ → List ℕ → List Block → List ℕ
-imageWords locals entries bs =
-    let words : List ℕ =
-    1 ∷ length entries ∷ length bs ∷ length (bind bs (λ b. b .ops)) ∷ length (bind bs blockOperands) ∷ 0 ∷ locals ∷ 0 ∷ 0
-    ∷ (entries ++ blockWords 0 0 bs ++ opsWords 0 bs ++ bind bs blockOperands)
-    in
-    words ++ replicate (126 - length words) 0
-
--- the bytes of page 0 with these payload words
-abbrev pageBytes : List ℕ → List ℕ
-pageBytes w =
-    let words : List ℕ = 0 ∷ w in
-    bind words bytesOf ++ bytesOf (checkOf (pageWord (bind words bytesOf) 0))
-
--- ---- operations, by what they define and read, and controls
-
--- an operation of code c without extras
-abbrev plain : ℕ → List ℕ → List ℕ → Op
-plain c defines reads = record { code = c; reads = reads; defines = defines; extras = (0, 0) }
-
--- `SetSmallConst`
-abbrev setConst : ℕ → Op
-setConst v = plain 86 (v ∷ []) []
-
--- `StaticAllocZeroed` of 32 bytes with id 0
-abbrev alloc : ℕ → Op
-alloc v = record { code = 82; reads = []; defines = v ∷ []; extras = (32, 0) }
-
--- `Add`
-abbrev add : ℕ → ℕ → ℕ → Op
-add v x y = plain 27 (v ∷ []) (x ∷ y ∷ [])
-
--- `MemoryLoad`
-abbrev load : ℕ → ℕ → Op
-load v address = plain 84 (v ∷ []) (address ∷ [])
-
--- `MemoryStore`
-abbrev store : ℕ → ℕ → Op
-store address v = plain 24 [] (address ∷ v ∷ [])
-
--- `InternalCall` without operands
-abbrev call : ℕ → Op
-call f = record { code = 25; reads = []; defines = []; extras = (f, 0) }
-
--- `Stop`
-abbrev stop : Op
-stop = plain 77 [] []
-
--- `LastOpTerminates`
-abbrev ends : List ℕ
-ends = 0 ∷ 0 ∷ 0 ∷ 0 ∷ 0 ∷ []
-
--- `ContinuesTo`
-abbrev continues : ℕ → List ℕ
-continues b = 2 ∷ b ∷ 0 ∷ 0 ∷ 0 ∷ []
-
--- `Branches`: condition, non-zero target, zero target
-abbrev branches : ℕ → ℕ → ℕ → List ℕ
-branches v b c = 3 ∷ v ∷ b ∷ c ∷ 0 ∷ []
-
--- a block by its parts
-abbrev block : List ℕ → List Op → List ℕ → List ℕ → Block
-block inputs ops outputs control = record { inputs = inputs; ops = ops; outputs = outputs; control = control }
+use Rattle.sir_analyses.specs.ExampleImages.{wordsOfBlocks, pageBytes, setConst, alloc, add, load, store, callOp, stop, ends, continues, branches, block, Op, straight, interval, outcomeWords, Row, same}
 
 -- ---- the images
 
 -- the image of `report`
 abbrev report : List ℕ
 report =
-    imageWords 4 (0 ∷ [])
+    wordsOfBlocks 4 (0 ∷ [])
     (block [] (setConst 0 ∷ alloc 1 ∷ store 1 0 ∷ []) (1 ∷ []) (continues 1)
     ∷ block (2 ∷ []) (load 3 2 ∷ stop ∷ []) [] ends ∷ [])
 
 -- function 0 calls 1 and 1 calls 0
 abbrev calls : List ℕ
-calls = imageWords 1 (0 ∷ 1 ∷ []) (block [] (call 1 ∷ []) [] ends ∷ block [] (call 0 ∷ []) [] ends ∷ [])
+calls = wordsOfBlocks 1 (0 ∷ 1 ∷ []) (block [] (callOp 1 ∷ []) [] ends ∷ block [] (callOp 0 ∷ []) [] ends ∷ [])
 
 -- block 0 of function 0 calls function 1, which is block 2, and goes on to block 1, which calls function 2, which is block 3
 abbrev callsAndGoes : List ℕ
 callsAndGoes =
-    imageWords 1 (0 ∷ 2 ∷ 3 ∷ [])
-    (block [] (call 1 ∷ []) [] (continues 1) ∷ block [] (call 2 ∷ []) [] ends
+    wordsOfBlocks 1 (0 ∷ 2 ∷ 3 ∷ [])
+    (block [] (callOp 1 ∷ []) [] (continues 1) ∷ block [] (callOp 2 ∷ []) [] ends
     ∷ block [] (stop ∷ []) [] ends ∷ block [] (stop ∷ []) [] ends ∷ [])
 
 -- a branch on v0 to b and c, of blocks 1 and 2
 abbrev branching : ℕ → ℕ → List ℕ
-branching b c = imageWords 1 (0 ∷ []) (block [] (setConst 0 ∷ []) [] (branches 0 b c) ∷ block [] (stop ∷ []) [] ends ∷ block [] (stop ∷ []) [] ends ∷ [])
-
--- one block of these operations
-abbrev straight : ℕ → List Op → List ℕ
-straight locals os = imageWords locals (0 ∷ []) (block [] (os ++ (stop ∷ [])) [] ends ∷ [])
+branching b c = wordsOfBlocks 1 (0 ∷ []) (block [] (setConst 0 ∷ []) [] (branches 0 b c) ∷ block [] (stop ∷ []) [] ends ∷ block [] (stop ∷ []) [] ends ∷ [])
 
 -- the pointer v1 is stored where it points
 abbrev storesItself : List ℕ
@@ -174,7 +58,7 @@ added = straight 4 (alloc 1 ∷ alloc 2 ∷ add 3 1 2 ∷ [])
 
 -- a branch on the pointer v0
 abbrev tested : List ℕ
-tested = imageWords 1 (0 ∷ []) (block [] (alloc 0 ∷ []) [] (branches 0 1 2) ∷ block [] (stop ∷ []) [] ends ∷ block [] (stop ∷ []) [] ends ∷ [])
+tested = wordsOfBlocks 1 (0 ∷ []) (block [] (alloc 0 ∷ []) [] (branches 0 1 2) ∷ block [] (stop ∷ []) [] ends ∷ block [] (stop ∷ []) [] ends ∷ [])
 
 -- the pointer v0 is not used
 abbrev unused : List ℕ
@@ -187,7 +71,7 @@ increments = straight 1 (add 0 0 0 ∷ [])
 -- the pointer v0 of block 0 is v1 in block 1, which reads it and goes on to 2 or 3; it is v3 in block 2, which goes back to 1
 abbrev looping : List ℕ
 looping =
-    imageWords 5 (0 ∷ [])
+    wordsOfBlocks 5 (0 ∷ [])
     (block [] (alloc 0 ∷ []) (0 ∷ []) (continues 1)
     ∷ block (1 ∷ []) (load 2 1 ∷ []) (1 ∷ []) (branches 2 2 3)
     ∷ block (3 ∷ []) [] (3 ∷ []) (continues 1)
@@ -199,21 +83,9 @@ images = report ∷ calls ∷ callsAndGoes ∷ branching 1 1 ∷ branching 1 2 �
 
 -- ---- the table
 
--- an interval by its block, start and end
-abbrev interval : ℕ → ℕ → ℕ → Interval
-interval b s e = record { block = b; from = s; to = e }
-
 -- a page of zeros but for word 1, which is 1
 abbrev pageOne : List ℕ
 pageOne = replicate 4 0 ++ (1 ∷ replicate 507 0)
-
--- an outcome as one list
-abbrev outcomeWords : Outcome → List ℕ
-outcomeWords o = o .number ∷ o .len ∷ o .result
-
--- a row of the table: what is computed, and what it must be
-abbrev Row : Type 0
-Row = List ℕ × List ℕ
 
 -- ---- rows with names: for each of these .ci/edits has a wrong definition, under which it is proved that the row does not hold
 
@@ -344,13 +216,6 @@ table =
     ∷ (intervalWords (sourceIntervals looping 0), 0 ∷ 1 ∷ blockEnd ∷ 1 ∷ 0 ∷ blockEnd ∷ 2 ∷ 0 ∷ blockEnd ∷ [])
     ∷ (allocationAnswer looping 0, 0 ∷ 0 ∷ 0 ∷ 0 ∷ 32 ∷ 0 ∷ 0 ∷ 3 ∷ 0 ∷ 1 ∷ blockEnd ∷ 1 ∷ 0 ∷ blockEnd ∷ 2 ∷ 0 ∷ blockEnd ∷ [])
     ∷ []
-
--- are two lists the same?
-abbrev same : List ℕ → List ℕ → Bool
-same [] [] = true
-same [] (y ∷ ys) = false
-same (x ∷ xs) [] = false
-same (x ∷ xs) (y ∷ ys) = eqb x y && same xs ys
 
 -- every row holds
 pub examples : all (λ r. same (r .0) (r .1)) table ≡ true

@@ -12,7 +12,10 @@ pub mod All
 pub mod Calls
 pub mod Claims
 pub mod Walk
+pub mod Open
 pub mod Promise
 pub mod inner
+pub mod ExampleImages
 pub mod Examples
+pub mod OpenExamples
 pub mod laws

@@ -3,6 +3,7 @@ use mathlib.Core.List.{List}
 use Prim.Native.Nat.{ℕ}
 use Rattle.sir_analyses.specs.Claims.{OrderRule, LivenessRule, MarkRule, SourceRule}
 use Rattle.sir_analyses.specs.Walk.{Lifetimes}
+use Rattle.sir_analyses.specs.Open.{OpenRule, CrossingRule}
 
 -- what holds of the answers about the payload words of an accepted image
 pub record Promise (w : List ℕ) : Type 0 where
@@ -16,3 +17,6 @@ pub record Promise (w : List ℕ) : Type 0 where
   pub source : SourceRule w
   -- on whole walks, what is read lies in the answered intervals
   pub lifetimes : Lifetimes w
+  -- what is open at an operation, and which two cross where, are told by these intervals
+  pub opens : OpenRule w
+  pub crossings : CrossingRule w

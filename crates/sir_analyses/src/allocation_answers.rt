@@ -33,7 +33,7 @@ ghost use Rattle.sir_analyses.specs.inner.Discovery.{Site, Unmarked};
 ghost use Rattle.sir_analyses.specs.inner.Stages.{VisitStage, AcceptedStage, LivenessStage, PointerStage, ownersIn};
 
 // Adds the locals that allocation a owns to an empty set.
-fn owned_locals(words: &[u32], pointers: &[u32], a: AllocId, set: &mut [u64])
+pub fn owned_locals(words: &[u32], pointers: &[u32], a: AllocId, set: &mut [u64])
     requires { ⌜ WellFormed (now words) ⌝ }
     requires { ⌜ (length (now pointers) ≡ 2051) × (a .0 < 512) × (now set ≡ replicate 8 0) ⌝ }
     ensures { λ _. ⌜ (length (now (set .exit)) ≡ 8) × ((v : ℕ) → v < 512 → contains (now (set .exit)) v ≡ (ltb v (locals (now (words .entry))) && eqb (getD (ownersIn (now (pointers .entry))) v 0) (a .0 + 1))) ⌝ }

@@ -1,2 +1,3 @@
 -- What the proofs of the functions of `questions` share.
 pub mod Asked
+pub mod OpenRules

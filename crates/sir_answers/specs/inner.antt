@@ -4,3 +4,4 @@ pub mod Pieces
 pub mod Questions
 pub mod IntervalPieces
 pub mod AllocationPieces
+pub mod LiveAround

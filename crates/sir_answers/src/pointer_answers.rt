@@ -1,6 +1,9 @@
-// The answers that need pointers: the record of an allocation, the owner of a local, and both for all ids.
+// The answers that need pointers: the record of an allocation, the owner of a local, and both for all ids; what is open at an operation,
+// and whether two allocations cross.
 use crate::all_allocations::all_allocations_answer;
 use crate::all_sets::all_owners_answer;
+use crate::crossing::crossing_answer;
+use crate::open_allocations::open_answer;
 use crate::questions::PointerQuestion;
 use plank_core::index::AllocId;
 use sir_analyses::allocation_answers::allocation_answer;
@@ -79,5 +82,9 @@ pub fn pointer_answer(
         PointerQuestion::Owner(v) => words_answer(&[owner_of(&pointers, v)], out),
         PointerQuestion::AllAllocations => every_allocation(words, visit, &pointers, out),
         PointerQuestion::AllOwners => all_owners_answer(words, &pointers, out),
+        PointerQuestion::Open(b, o) => open_answer(words, visit, &pointers, b, o, out),
+        PointerQuestion::Crossing(one, other) => {
+            crossing_answer(words, visit, &pointers, one, other, out)
+        }
     }
 }

@@ -131,6 +131,11 @@ module _ {A : Type 0} where
       go true e k (List·Memᴰ·tail h) = (List·Memᴰ·tail (k h .0), k h .1)
       go false e k h = (List·Memᴰ·tail (k h .0), k h .1)
 
+  -- two tests that agree on the members keep the same
+  pub keep-alike : (p q : A → Bool) (xs : List A) → ((x : A) → List·Memᴰ x xs → p x ≡ q x) → keep p xs ≡ keep q xs
+  keep-alike p q [] h = refl
+  keep-alike p q (x ∷ xs) h = rw (h x (List·Memᴰ·head refl), keep-alike p q xs (λ y m. h y (List·Memᴰ·tail m)))
+
   reverse-later : {x : A} (xs : List A) {ys : List A} → List·Memᴰ x ys → List·Memᴰ x (reverseAux xs ys)
   reverse-later [] m = m
   reverse-later (z ∷ xs) m = reverse-later xs (List·Memᴰ·tail m)

@@ -13,11 +13,13 @@ use Rattle.sir_analyses.specs.Allocation.{rule12}
 use Rattle.sir_analyses.specs.Calls.{refusal}
 use Rattle.sir_analyses.specs.Claims.{OrderRule, LivenessRule, MarkRule, SourceRule}
 use Rattle.sir_analyses.specs.Walk.{Lifetimes}
+use Rattle.sir_analyses.specs.Open.{OpenRule, CrossingRule}
 use Rattle.sir_analyses.specs.Promise.{Promise}
 use Rattle.sir_analyses.proofs.claims.order.OrderProof.{order-rule}
 use Rattle.sir_analyses.proofs.claims.liveness.LivenessProof.{liveness-rule}
 use Rattle.sir_analyses.proofs.claims.marks.Marks.{mark-rule}
 use Rattle.sir_analyses.proofs.claims.lifetimes.Lifetime.{lifetimes}
+use Rattle.sir_analyses.proofs.claims.lifetimes.OpenProof.{open-rule, crossing-rule}
 use Rattle.sir_analyses.proofs.claims.source.SourceProof.{source-rule}
 
 alone : (k : ℕ) (t : Bool) → 0 < k → first ((k, t) ∷ []) ≡ 0 → t ≡ false
@@ -49,5 +51,11 @@ module _ (image : List ℕ) (accepted : refusal image ≡ 0) where
   pub source : SourceRule (payload image)
   source = source-rule (payload image) good bases-distinct
 
+  pub opens : OpenRule (payload image)
+  opens = open-rule (payload image) good
+
+  pub crossings : CrossingRule (payload image)
+  crossings = crossing-rule (payload image)
+
   pub promise : Promise (payload image)
-  promise = record { order = order; liveness = liveness; marks = marks; source = source; lifetimes = walks }
+  promise = record { order = order; liveness = liveness; marks = marks; source = source; lifetimes = walks; opens = opens; crossings = crossings }

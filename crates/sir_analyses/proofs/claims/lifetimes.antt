@@ -2,3 +2,4 @@
 pub mod Merging
 pub mod Scans
 pub mod Lifetime
+pub mod OpenProof

@@ -7,6 +7,7 @@ use native.Mathlib.Omega.{arith}
 use lib.ListN.{length, take, drop, replicate, length-replicate}
 use lib.Seq.{take-at}
 use Rattle.plank_core.specs.Lists.{count, upto, keep}
+use Rattle.plank_core.specs.laws.Lists.{keep-alike, mem-upto}
 use Rattle.plank_core.specs.laws.Loops.{count-add, keep-append}
 use Rattle.plank_core.specs.laws.Members.{members-most}
 use Rattle.plank_core.specs.inner.DenseIndexSet.{contains}
@@ -25,27 +26,24 @@ use Rattle.sir_analyses.proofs.local_liveness.Stepping.{entry-shows}
 
 -- ---- words that show a set have its members
 
-pub keep-same : (p q : ℕ → Bool) (s n : ℕ) → ((i : ℕ) → s ≤ i → i < s + n → p i ≡ q i) → keep p (count s n) ≡ keep q (count s n)
-keep-same p q s zero h = refl
-keep-same p q s (suc n) h = ap₂ (λ (t : Bool) (xs : List ℕ). cond t (s ∷ xs) xs) (h s (omega arith) (omega arith)) (keep-same p q (suc s) n (λ i a b. h i (omega arith) (omega arith)))
-
 keep-none : (p : ℕ → Bool) (s n : ℕ) → ((i : ℕ) → s ≤ i → i < s + n → p i ≡ false) → keep p (count s n) ≡ []
 keep-none p s zero h = refl
 keep-none p s (suc n) h = rw (h s (omega arith) (omega arith)) (keep-none p (suc s) n (λ i a b. h i (omega arith) (omega arith)))
 
-shows-members : (N : ℕ) (ws : List ℕ) (s : Set) → length s ≤ N → ((n : ℕ) → n < N → contains ws n ≡ has s n) → keep (contains ws) (upto N) ≡ members s
-shows-members N ws s l h =
-    let e : length s + (N - length s) ≡ N = omega arith in
-    ap (λ (n : ℕ). keep (contains ws) (upto n)) (sym e) ∙ ap (keep (contains ws)) (count-add 0 (length s) (N - length s))
-    ∙ keep-append (contains ws) (upto (length s)) (count (0 + length s) (N - length s))
+-- a test that passes none from n on keeps of more numbers what it keeps of those below n
+pub keep-below : (p q : ℕ → Bool) (n N : ℕ) → n ≤ N → ((i : ℕ) → i < n → p i ≡ q i) → ((i : ℕ) → n ≤ i → i < N → p i ≡ false) → keep p (upto N) ≡ keep q (upto n)
+keep-below p q n N l f g =
+    let e : n + (N - n) ≡ N = omega arith in
+    ap (λ (k : ℕ). keep p (upto k)) (sym e) ∙ ap (keep p) (count-add 0 n (N - n))
+    ∙ keep-append p (upto n) (count (0 + n) (N - n))
     ∙ ap₂ (λ (xs ys : List ℕ). xs ++ ys)
-    (keep-same (contains ws) (has s) 0 (length s) (λ i a b. h i (omega arith)))
-    (keep-none (contains ws) (0 + length s) (N - length s) (λ i a b. h i (omega arith) ∙ beyond s i (omega arith)))
-    ∙ append-nil (members s)
+    (keep-alike p q (upto n) (λ i m. f i (mem-upto i n m)))
+    (keep-none p (0 + n) (N - n) (λ i a b. g i (omega arith) (omega arith)))
+    ∙ append-nil (keep q (upto n))
 
 pub same-members : (ws : List ℕ) (s : Set) → length s ≤ 512 → Same ws s → Words.members ws ≡ members s
 unfolding Words.members
-same-members ws s l h = shows-members 512 ws s l h
+same-members ws s l h = keep-below (contains ws) (has s) (length s) 512 l (λ i q. h i (omega arith)) (λ i m q. h i q ∙ beyond s i m)
 
 -- ---- the sets of a block
 

@@ -20,16 +20,11 @@ use Rattle.sir_answers.specs.inner.Scatter.{numberAt}
 use Rattle.sir_answers.specs.inner.IntervalPieces.{closedPieces}
 use Rattle.sir_answers.specs.inner.AllocationPieces.{ownReach, sweptTo, livesAt, sweptEnd, SweptEnds, sweptBy, sweptPieces, openPieces, ownRowsIn, ownerIn, OwnedTables, OwnedListed, ownsOne, livesIn, side, LiveOwners, SplitOwners}
 use Rattle.sir_analyses.proofs.Tables.{cleared-row, cleared-long}
-use Rattle.sir_analyses.proofs.claims.lifetimes.Scans.{liveIn}
 use Rattle.sir_analyses.proofs.merged_intervals.SweepSteps.{note-open}
-use Rattle.sir_analyses.proofs.merged_intervals.MergedIntervals.{note-till, lives-none, lives-more, live-test}
+use Rattle.sir_analyses.proofs.merged_intervals.MergedIntervals.{note-till, live-test}
+use Rattle.sir_answers.proofs.LiveSets.{LiveBefore, live-more}
 use Rattle.sir_answers.proofs.all_intervals.OpenEnds.{mem-members, closed-members}
 use Rattle.sir_answers.proofs.all_allocations.AllocationPieces.{own-length}
-
--- a set of words has the locals that are live before the operations os, which are the last of block b
-pub record LiveBefore (w : List ℕ) (b : ℕ) (os set : List ℕ) : Type 0 where
-  pub long : length set ≡ 8
-  pub lives : (v : ℕ) → v < locals w → contains set v ≡ has (liveIn w b os) v
 
 -- ---- one is open exactly where something is live
 
@@ -113,9 +108,6 @@ module _ {w live : List ℕ} (stage : LivenessStage w live) {owned : List ℕ} (
 
   -- ---- after the operations
 
-  pub live-none : {set : List ℕ} → length set ≡ 8 → ((v : ℕ) → v < 512 → contains set v ≡ (contains (exitsIn live) (512 * b + v) || contains (endsIn live) (512 * b + v))) → LiveBefore w b [] set
-  live-none {set} long f = record { long = long; lives = lives-none good b l (exitsIn live) (endsIn live) set (stage .sets .exit-rows) (stage .ends) f }
-
   pub swept-none : (till : List ℕ) {set ids till′ : List ℕ} → LiveBefore w b [] set → LiveOwners owned set ids → length till′ ≡ 512 → ((a : ℕ) → numberAt till a ≡ 0) → ((a : ℕ) → numberAt till′ a ≡ cond (mem a ids) blockEnd (numberAt till a)) → SweptEnds w b [] till′
   unfolding sweptTo
   swept-none till {set} {ids} k x long z f = record {
@@ -128,14 +120,14 @@ module _ {w live : List ℕ} (stage : LivenessStage w live) {owned : List ℕ} (
 
   module _ {os set till : List ℕ} (k : LiveBefore w b os set) (e : SweptEnds w b os till) {o : ℕ} (m : o < operations w) {set′ : List ℕ}
       (f : (v : ℕ) → v < 512 → contains set′ v ≡ ((contains set v && not (contains (writesIn live) (512 * o + v))) || contains (readsIn live) (512 * o + v))) where
-    pub live-more : length set′ ≡ 8 → LiveBefore w b (o ∷ os) set′
-    live-more long = record { long = long; lives = lives-more good b l os set (k .lives) (readsIn live) (writesIn live) o (stage .operands) m set′ f }
+    live-next : length set′ ≡ 8 → LiveBefore w b (o ∷ os) set′
+    live-next long = live-more stage l k m f long
 
     module _ (long : length set′ ≡ 8) {split : List ℕ} (x : SplitOwners live o owned set′ split) where
       -- an allocation none of whose locals the operation touches lives before it as it does after it
       untouched : (a : ℕ) → a < 512 → ownsOne owned (x .touched) a ≡ false → livesAt w b a (o ∷ os) ≡ livesAt w b a os
       untouched a h n =
-          sym (lives-told (o ∷ os) set′ (live-more long) a h)
+          sym (lives-told (o ∷ os) set′ (live-next long) a h)
           ∙ meets-same (rowOf (ownRowsIn owned) a) set′ set (λ v q r. same v q (eqb-true (ownerIn owned v) (a + 1) (sym (tables .row-is a v h q) ∙ sym (contains-row (ownRowsIn owned) a v q) ∙ r)))
           ∙ lives-told os set k a h
         where
@@ -150,7 +142,7 @@ module _ {w live : List ℕ} (stage : LivenessStage w live) {owned : List ℕ} (
               f v h ∙ rw (or-false-left c d z, or-false-right c d z) (or-false (contains set v && true) ∙ and-true (contains set v))
 
       told : (r a : ℕ) → r < 2 → a < 512 → contains (rowOf split r) a ≡ (ownsOne owned (x .touched) a && eqb r (cond (livesAt w b a (o ∷ os)) 0 1))
-      told r a q h = contains-row split r a h ∙ x .split-is r a q h ∙ ap (λ (t : Bool). ownsOne owned (x .touched) a && eqb r (cond t 0 1)) (lives-told (o ∷ os) set′ (live-more long) a h)
+      told r a q h = contains-row split r a h ∙ x .split-is r a q h ∙ ap (λ (t : Bool). ownsOne owned (x .touched) a && eqb r (cond t 0 1)) (lives-told (o ∷ os) set′ (live-next long) a h)
 
       -- what it closes
       pub swept-closed : os ≡ range (o + 1) (blockWord w b 5) → closedPieces b (o + 1) (numberAt till) (members (rowOf split 1)) ≡ sweptPieces w b o

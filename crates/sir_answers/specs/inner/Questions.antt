@@ -7,6 +7,7 @@ use Rattle.sir_analyses.specs.All.{all}
 use Rattle.sir_analyses.specs.Allocation.{allocs}
 use Rattle.sir_analyses.specs.Answers.{orderAnswer, predecessorsAnswer, usesAnswer, entryAnswer, exitAnswer, roundsAnswer, intervalsAnswer, allocationAnswer, ownerAnswer}
 use Rattle.sir_analyses.specs.Calls.{Rules, noRules, known}
+use Rattle.sir_analyses.specs.Open.{openAt, openRules, crossing, crossingRules}
 use Rattle.sir_answers.specs.declared.questions.LiveQuestion.{LiveQuestion}
 use Rattle.sir_answers.specs.declared.questions.OrderQuestion.{OrderQuestion}
 use Rattle.sir_answers.specs.declared.questions.PointerQuestion.{PointerQuestion}
@@ -30,6 +31,8 @@ ownRules (Question.OfPointers (PointerQuestion.Allocation a)) = known (λ w. len
 ownRules (Question.OfPointers (PointerQuestion.Owner v)) = known locals (v .0)
 ownRules (Question.OfPointers PointerQuestion.AllAllocations) = noRules
 ownRules (Question.OfPointers PointerQuestion.AllOwners) = noRules
+ownRules (Question.OfPointers (PointerQuestion.Open b o)) = openRules (b .0) (o .0)
+ownRules (Question.OfPointers (PointerQuestion.Crossing a c)) = crossingRules (a .0) (c .0)
 
 -- the words that answer a question
 abbrev pub answerWords : Question → List ℕ → List ℕ
@@ -49,3 +52,5 @@ answerWords (Question.OfPointers (PointerQuestion.Allocation a)) w = allocationA
 answerWords (Question.OfPointers (PointerQuestion.Owner v)) w = ownerAnswer w (v .0)
 answerWords (Question.OfPointers PointerQuestion.AllAllocations) w = all (λ x. length (allocs x)) allocationAnswer w
 answerWords (Question.OfPointers PointerQuestion.AllOwners) w = all locals ownerAnswer w
+answerWords (Question.OfPointers (PointerQuestion.Open b o)) w = openAt w (b .0) (o .0)
+answerWords (Question.OfPointers (PointerQuestion.Crossing a c)) w = crossing w (a .0) (c .0)

@@ -30,7 +30,7 @@ pub suffix-ascends : {all os : List ℕ} → Suffix all os → Ascends all → A
 suffix-ascends whole h = h
 suffix-ascends (behind s) h = (suffix-ascends s h) .1
 
-count-ascends : (s n : ℕ) → Ascends (count s n)
+pub count-ascends : (s n : ℕ) → Ascends (count s n)
 count-ascends s zero = tt
 count-ascends s (suc n) = (λ p m. omega (arith, mem-count p (suc s) n m), count-ascends (suc s) n)
 

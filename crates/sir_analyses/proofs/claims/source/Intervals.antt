@@ -9,7 +9,7 @@ use lib.ListN.{length, getD, replicate}
 use lib.Dec.{eqb}
 use borrow.Author.Tests.{eqb-true, eqb-false, eq-eqb, ne-eqb}
 use Rattle.plank_core.specs.Lists.{foldl, bind, keep, mem, upto, _∈_}
-use Rattle.plank_core.specs.laws.Lists.{mem-upto, bind-out, keep-out}
+use Rattle.plank_core.specs.laws.Lists.{mem-upto, bind-out, keep-out, keep-alike}
 use Rattle.sir_data.specs.Records.{locals, ops, ins, outs}
 use Rattle.sir_data.specs.inner.WellFormed.{WellFormed}
 use Rattle.sir_analyses.specs.Order.{blocksRpo}
@@ -21,7 +21,6 @@ use Rattle.sir_analyses.specs.SourceLiveness.{sourceLocalIntervals}
 use Rattle.sir_analyses.specs.Source.{sourceState}
 use Rattle.sir_analyses.specs.SourceIntervals.{mergeIntervals, pushIntervals, sourceIntervals}
 use Rattle.sir_analyses.specs.inner.Scanning.{openBefore, closedBy}
-use Rattle.sir_analyses.proofs.local_liveness.SetAnswers.{keep-same}
 use Rattle.sir_analyses.proofs.local_intervals.Scanning.{scan-open, scan-closed}
 use Rattle.plank_core.specs.laws.Folds.{bind-each, bind-kept, bind-none, bind-single}
 use Rattle.sir_analyses.proofs.Accepted.{listed-op}
@@ -174,7 +173,7 @@ module _ (w : List ℕ) (good : WellFormed w) (twelve : rule12 w ≡ false) wher
 
   owned-members : (a : ℕ) → a < length (allocs w) → marked w a ≡ false → ownedBy a ≡ members (reach w (allocAt w a))
   owned-members a h free =
-      keep-same (λ v. eqb (getD (sourceState w .owner) v 0) (suc a)) (has (reach w (allocAt w a))) 0 (locals w) (λ v i j. sym (reach-owned a v h free))
+      keep-alike (λ v. eqb (getD (sourceState w .owner) v 0) (suc a)) (has (reach w (allocAt w a))) (upto (locals w)) (λ v m. sym (reach-owned a v h free))
       ∙ ap (λ (n : ℕ). keep (has (reach w (allocAt w a))) (upto n)) (sym (reach-length w good a))
 
   pub local-intervals : (v : ℕ) → v < locals w → sourceLocalIntervals w v ≡ intervals w v

@@ -15,7 +15,8 @@ use Rattle.sir_analyses.proofs.loading.Loads.{front-length}
 use Rattle.sir_answers.proofs.scatter.Scattering.{Scattering, scattering-none, scattering-as, scattering-fits, scattering-more, scattering-all, scatters-as}
 use Rattle.sir_answers.proofs.all_intervals.OpenEnds.{listed-below, close-ready}
 use Rattle.sir_answers.proofs.all_allocations.AllocationPieces.{swept-below, open-below, sweptLeft, swept-next, swept-last}
-use Rattle.sir_answers.proofs.all_allocations.SweptEnds.{LiveBefore, live-none, swept-none, live-more, swept-closed, swept-more, open-closed}
+use Rattle.sir_answers.proofs.LiveSets.{LiveBefore, live-none, live-more}
+use Rattle.sir_answers.proofs.all_allocations.SweptEnds.{swept-none, swept-closed, swept-more, open-closed}
 use Rattle.sir_answers.proofs.all_allocations.sweep_block.Statement.{statement}
 use Rattle.sir_answers.proofs.all_allocations.sweep_block.Tie as tie
 use Rattle.sir_analyses.proofs.Tables.{zero-at}
@@ -96,7 +97,7 @@ loop-holds c =
     let few = stage .well-formed .in-range .ops-range b below in
     let os : ops w b ≡ range (span .result .start) (span .result .end) = sym (ap₂ range (span .ensures .0) (span .ensures .1)) in
     let none = range-none (span .result .end) (span .result .end) (omega arith) in
-    let lives : LiveBefore w b [] (at-live-after .live-after .last .1 .1 .0) = live-none stage (start .pre .1 .0) below (omega (arith, at-live-after .live-after .kept)) (at-live-after .live-after .ensures) in
+    let lives : LiveBefore w b [] (at-live-after .live-after .last .1 .1 .0) = live-none stage below (omega (arith, at-live-after .live-after .kept)) (at-live-after .live-after .ensures) in
     let ends : SweptEnds w b [] (at-set-ends .set-ends .last .1 .1 .0) = swept-none stage (start .pre .1 .0) below (replicate 512 0) lives (at-live-owners .live-owners .ensures .1) (at-set-ends .set-ends .kept .1 .1 .0) (λ v. zero-at 512 v) (at-set-ends .set-ends .ensures) in
     (omega (arith, few, span .ensures), omega (arith, few, span .ensures), omega arith, at-live-owners .live-owners .kept .1 .1 .0, rw none lives, rw none ends, scattering-as (ap (λ (l : List ℕ). bind (reverse l) (sweptPieces w b) ++ openPieces w b) os) (scattering-none (start .pre .1 .1 .1 .1)))
 
@@ -423,7 +424,7 @@ loop-again c =
     let till₂ = at-open-ends .open-ends .last .1 .1 .0 in
     let set = at-live-before .live-before .last .1 .1 .0 in
     let ends-long : length till₂ ≡ 512 = omega (arith, at-open-ends .open-ends .kept, at-set-ends2 .set-ends2 .kept, L .inv .5 .long) in
-    let lives : LiveBefore w b (o ∷ range (L .o) (span .result .end)) set = live-more stage (start .pre .1 .0) below (L .inv .4) (L .inv .5) m (at-live-before .live-before .ensures) long in
+    let lives : LiveBefore w b (o ∷ range (L .o) (span .result .end)) set = live-more stage below (L .inv .4) m (at-live-before .live-before .ensures) long in
     let ends : SweptEnds w b (o ∷ range (L .o) (span .result .end)) till₂ = swept-more stage (start .pre .1 .0) below (L .inv .4) (L .inv .5) m (at-live-before .live-before .ensures) long split till₁ ends-long (rw (at-list-row .list-row .ensures .1) at (at-set-ends2 .set-ends2 .ensures)) (rw (at-list-row2 .list-row2 .ensures .1) at (at-open-ends .open-ends .ensures)) in
     let before = range-before (L .o) (span .result .end) (omega (arith, h)) (L .inv .2) in
     (omega (arith, h), omega (arith, L .inv .1), omega (arith, L .inv .2), omega (arith, at-list-row2 .list-row2 .kept, at-list-row .list-row .kept, at-split-touched .split-touched .kept, L .inv .3), rw before lives, rw before ends, scattering-more (sweptLeft w b (span .result .start) o) k (scatters-as closed (at-close-before .close-before .ensures)))

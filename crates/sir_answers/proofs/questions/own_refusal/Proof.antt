@@ -111,6 +111,21 @@ enum-told-8 c = search needs
 enum-told-9 : tie.Need-enum-told-9
 enum-told-9 c = search needs
 
+enum-known-q-8 : tie.Need-enum-known-q-8
+enum-known-q-8 c = search needs
+
+open-refusal-requires : tie.Need-open-refusal-requires
+open-refusal-requires c κs = search needs
+
+enum-known-q-9 : tie.Need-enum-known-q-9
+enum-known-q-9 c = search needs
+
+cast-crossing-refusal : tie.Need-cast-crossing-refusal
+cast-crossing-refusal c = search needs
+
+crossing-refusal-requires : tie.Need-crossing-refusal-requires
+crossing-refusal-requires c κs = search needs
+
 returns : tie.Need-returns
 returns c = search needs
 
@@ -200,6 +215,22 @@ returns-15 c = search needs
 returns-16 : tie.Need-returns-16
 returns-16 c = search needs
 
+returns-17 : tie.Need-returns-17
+returns-17 c =
+    let at-q8 = c .before .before in
+    let at-question3 = at-q8 .before .before .before in
+    let start = at-question3 .before .before .before .before in
+    let w = start .args .words .now in
+    c .open-refusal .ensures ∙ ap (λ (q : PointerQuestion). first (ownRules (Question.OfPointers q) w)) (sym (at-q8 .q8 .given .1)) ∙ ap (λ (q : Question). first (ownRules q w)) (sym (at-question3 .question3 .given .1))
+
+returns-18 : tie.Need-returns-18
+returns-18 c =
+    let at-q9 = c .before .before in
+    let at-question3 = at-q9 .before .before .before in
+    let start = at-question3 .before .before .before .before in
+    let w = start .args .words .now in
+    (rw (ap length (start .pre .1 .0) ∙ sites-long w) at (c .crossing-refusal .ensures)) ∙ ap (λ (q : PointerQuestion). first (ownRules (Question.OfPointers q) w)) (sym (at-q9 .q9 .given .1)) ∙ ap (λ (q : Question). first (ownRules q w)) (sym (at-question3 .question3 .given .1))
+
 pub own-refusal-spec : {M : Type 1} → statement M
 own-refusal-spec =
     tie.close
@@ -237,6 +268,11 @@ own-refusal-spec =
     id-refusal-requires-7
     enum-told-8
     enum-told-9
+    enum-known-q-8
+    open-refusal-requires
+    enum-known-q-9
+    cast-crossing-refusal
+    crossing-refusal-requires
     returns
     returns-2
     returns-3
@@ -252,4 +288,6 @@ own-refusal-spec =
     returns-13
     returns-14
     returns-15
-    returns-16)
+    returns-16
+    returns-17
+    returns-18)

@@ -1,0 +1,2 @@
+-- What the proofs of the functions of `crossing` share.
+pub mod FirstCommon
