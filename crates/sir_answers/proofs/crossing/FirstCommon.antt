@@ -5,20 +5,22 @@ use mathlib.Core.List.{List, [], _∷_, _++_, map, List·Memᴰ, Memᴰ·of-map}
 use Prim.Native.Nat.{ℕ, suc, _+_, _-_, _*_, _≤_, _<_}
 use native.Mathlib.Numerals.{add-one}
 use native.Mathlib.Omega.{arith}
-use lib.ListN.{length}
+use lib.ListN.{length, getD}
+use lib.Dec.{eqb, ltb}
 use Rattle.plank_core.specs.Lists.{keep, bind, range, upto, _∈_}
 use Rattle.plank_core.specs.laws.Lists.{none, keep-out, no-members, and-true-left, count-mem}
 use Rattle.plank_core.specs.laws.Loops.{keep-append, bind-all, bind-step, bind-end}
 use Rattle.plank_core.specs.inner.DenseIndexSet.{contains, meets}
-use Rattle.sir_data.specs.Records.{blocks, operations, blockWord, ops}
+use Rattle.sir_data.specs.Records.{blocks, operations, locals, blockWord, ops}
 use Rattle.sir_data.specs.inner.WellFormed.{WellFormed}
 use Rattle.sir_analyses.specs.Order.{blocksRpo, isVisited}
-use Rattle.sir_analyses.specs.Allocation.{marked, merged}
+use Rattle.sir_analyses.specs.Allocation.{allocs, marked, merged}
 use Rattle.sir_analyses.specs.Open.{lies, Place, placeOf, places, isCommon, firstOf, crossing}
-use Rattle.sir_analyses.specs.inner.Stages.{LivenessStage, readsIn, writesIn}
+use Rattle.sir_analyses.specs.inner.Stages.{LivenessStage, PointerStage, readsIn, writesIn, ownersIn}
 use Rattle.sir_answers.specs.inner.LiveAround.{LiveAround, ReachOf, firstPassing}
 use Rattle.sir_analyses.proofs.claims.order.OrderProof.{blocks-seen}
 use Rattle.sir_analyses.proofs.claims.lifetimes.OpenProof.{covered-lies, local-out, merged-out}
+use Rattle.sir_analyses.proofs.allocation_answers.AllocationWords.{owned-unmarked}
 use Rattle.sir_answers.proofs.LiveSets.{LiveBefore, around-here, live-passed}
 use Rattle.sir_answers.proofs.open_allocations.OpenOwners.{meets-lies}
 
@@ -51,6 +53,11 @@ module _ (f : Place → Bool) (b : ℕ) where
           → firstOf (cond t (placeOf b o ∷ passing os) (passing os) ++ rest) ≡ 1 ∷ suc b ∷ cond t (suc o) (firstIn os) ∷ []
       go true h n = refl
       go false h n = h n
+
+-- the locals that an unmarked allocation owns show its reach
+pub owned-reach : {w pointers : List ℕ} → PointerStage w pointers → {a : ℕ} → a < length (allocs w) → marked w a ≡ false → {set : List ℕ}
+    → (length set ≡ 8) × ((v : ℕ) → v < 512 → contains set v ≡ (ltb v (locals w) && eqb (getD (ownersIn pointers) v 0) (a + 1))) → ReachOf w a set
+owned-reach p l u s = owned-unmarked (p .well-formed) (p .discovered) l u (record { known = l; block-is = refl; op-is = refl }) s
 
 -- the test by words is that of the intervals
 pub common-told : {w : List ℕ} → WellFormed w → {b o : ℕ} → b ∈ blocksRpo w → o ∈ ops w b → {set one other : List ℕ} → LiveAround w b o set → {a c : ℕ} → ReachOf w a one → ReachOf w c other
@@ -111,6 +118,10 @@ module _ (w : List ℕ) (a c : ℕ) where
   -- the three words for the blocks from b on
   abbrev pub crossingFrom : ℕ → List ℕ
   crossingFrom b = firstOf (keep common (bind (range b (blocks w)) inBlock))
+
+  -- a marked one crosses every one
+  pub crossing-marked : (marked w a || marked w c) ≡ true → 1 ∷ 0 ∷ 0 ∷ [] ≡ crossing w a c
+  crossing-marked e = sym (ap (λ (t : Bool). cond t (1 ∷ 0 ∷ 0 ∷ []) (firstOf (keep common (places w)))) e)
 
   pub crossing-starts : marked w a ≡ false → marked w c ≡ false → crossing w a c ≡ crossingFrom 0
   crossing-starts u v = go (marked w a) (marked w c) u v ∙ ap (λ (ps : List Place). firstOf (keep common ps)) (bind-all inBlock (blocks w))

@@ -3,17 +3,17 @@
 use mathlib.Core.Path.{_≡_, refl, sym, ap, _∙_}
 use mathlib.Core.Logic.{_⊎_, ⊎-elim}
 use mathlib.Core.Bool.{Bool, true, false, not, _&&_}
-use mathlib.Core.List.{List}
+use mathlib.Core.List.{List, []}
 use Prim.Native.Nat.{ℕ, _+_, _≤_, _<_}
 use native.Mathlib.Omega.{arith}
 use lib.ListN.{length, replicate}
 use Rattle.plank_core.specs.Lists.{upto, any, _∈_}
-use Rattle.plank_core.specs.laws.Lists.{and-true-left, and-true-right, both-true, same-tests, any-some, any-none, any-find}
+use Rattle.plank_core.specs.laws.Lists.{none, and-true-left, and-true-right, both-true, same-tests, any-some, any-none, any-find}
 use Rattle.plank_core.specs.inner.DenseIndexSet.{contains, members, meets, rowOf}
 use Rattle.plank_core.specs.laws.DenseIndexSet.{contains-row}
 use Rattle.sir_data.specs.Records.{locals, ops}
 use Rattle.sir_data.specs.inner.WellFormed.{WellFormed}
-use Rattle.sir_analyses.specs.Order.{blocksRpo}
+use Rattle.sir_analyses.specs.Order.{blocksRpo, isVisited}
 use Rattle.sir_analyses.specs.Liveness.{Set, has}
 use Rattle.sir_analyses.specs.Allocation.{allocs, allocAt, reach, marked, merged}
 use Rattle.sir_analyses.specs.Open.{lies, isOpen, openAt}
@@ -21,8 +21,9 @@ use Rattle.sir_analyses.specs.inner.Tables.{Same}
 use Rattle.sir_answers.specs.inner.AllocationPieces.{ownReach, ownRowsIn, OwnedTables, livesIn, LiveOwners}
 use Rattle.sir_answers.specs.inner.LiveAround.{isAround, LiveAround}
 use Rattle.sir_analyses.proofs.SetLaws.{has-less, members-in, members-out, none-in}
+use Rattle.sir_analyses.proofs.claims.order.OrderProof.{blocks-seen, blocks-visited}
 use Rattle.sir_analyses.proofs.claims.marks.Marks.{reach-length}
-use Rattle.sir_analyses.proofs.claims.lifetimes.OpenProof.{covered-lies, lies-covered, merged-out, merged-in}
+use Rattle.sir_analyses.proofs.claims.lifetimes.OpenProof.{covered-lies, lies-covered, merged-out, merged-in, open-rule}
 use Rattle.sir_analyses.proofs.local_liveness.SetAnswers.{keep-below}
 use Rattle.sir_answers.proofs.all_allocations.AllocationPieces.{own-unmarked, own-marked, own-unknown}
 use Rattle.sir_answers.proofs.open_allocations.LiesAround.{local-lies}
@@ -82,3 +83,7 @@ module _ {w : List ℕ} (good : WellFormed w) {b o : ℕ} (mb : b ∈ blocksRpo 
 
       unknown : (a : ℕ) → length (allocs w) ≤ a → a < 512 → contains (x .owners) a ≡ false
       unknown a l h = x .live-is a h ∙ meets-nothing (rowOf (ownRowsIn owned) a) set (locals w) (shows a (replicate (locals w) false) h (own-unknown w a l))
+
+-- nothing is open in a block that was not visited
+pub open-unvisited : {w : List ℕ} → WellFormed w → (b o : ℕ) → isVisited w b ≡ false → [] ≡ openAt w b o
+open-unvisited {w} good b o e = sym (open-rule w good .unvisited b o (λ v. none (isVisited w b) (blocks-seen w b .0 (blocks-visited w good b .1 v)) e))

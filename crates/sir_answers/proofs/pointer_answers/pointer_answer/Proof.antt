@@ -12,6 +12,7 @@ use Rattle.sir_analyses.specs.Calls.{answered}
 use Rattle.sir_answers.specs.declared.questions.Question.{Question}
 use Rattle.sir_analyses.proofs.answers.Calls.{known-below}
 use Rattle.sir_answers.proofs.questions.Asked.{own-as, answered-as}
+use Rattle.sir_answers.proofs.questions.OpenRules.{open-held, crossing-known}
 use borrow.Author.Needs.{needs}
 use Rattle.sir_answers.proofs.pointer_answers.pointer_answer.Statement.{statement}
 use Rattle.sir_answers.proofs.pointer_answers.pointer_answer.Tie as tie
@@ -84,6 +85,34 @@ all-owners-answer-requires c κs =
     let at-compute-pointers = c .before .before .before .before .before in
     at-compute-pointers .compute-pointers .ensures
 
+enum-known-question-3 : tie.Need-enum-known-question-3
+enum-known-question-3 c = search needs
+
+slice-aggregate-open-answer : tie.Need-slice-aggregate-open-answer
+slice-aggregate-open-answer c = search needs
+
+open-answer-requires : tie.Need-open-answer-requires
+open-answer-requires c κs =
+    let at-question3 = c .before .before .before in
+    let at-compute-pointers = at-question3 .before .before .before in
+    let start = at-compute-pointers .before .before .before .before .before .before in
+    let w = start .args .words .now in
+    (start .pre .0, (at-compute-pointers .compute-pointers .ensures, open-held _ _ w (own-as Question.OfPointers w (at-question3 .question3 .given .1) (start .pre .1 .1))))
+
+enum-known-question-4 : tie.Need-enum-known-question-4
+enum-known-question-4 c = search needs
+
+slice-aggregate-crossing-answer : tie.Need-slice-aggregate-crossing-answer
+slice-aggregate-crossing-answer c = search needs
+
+crossing-answer-requires : tie.Need-crossing-answer-requires
+crossing-answer-requires c κs =
+    let at-question4 = c .before .before .before in
+    let at-compute-pointers = at-question4 .before .before .before in
+    let start = at-compute-pointers .before .before .before .before .before .before in
+    let w = start .args .words .now in
+    (start .pre .0, (at-compute-pointers .compute-pointers .ensures, crossing-known _ _ w (own-as Question.OfPointers w (at-question4 .question4 .given .1) (start .pre .1 .1))))
+
 same-length : tie.Need-same-length
 same-length c = search needs
 
@@ -135,6 +164,28 @@ returns-4 c =
     let a = start .args in
     at-all-owners-answer .all-owners-answer .ensures ∙ answered-as Question.OfPointers (a .words .now) (at-enum-told2 .enum-told2 .given .1) (a .out .now)
 
+same-length-5 : tie.Need-same-length-5
+same-length-5 c = search needs
+
+returns-5 : tie.Need-returns-5
+returns-5 c =
+    let at-open-answer = c .before .before in
+    let at-question3 = at-open-answer .before .before .before .before in
+    let start = at-question3 .before .before .before .before .before .before .before .before .before in
+    let a = start .args in
+    at-open-answer .open-answer .ensures ∙ answered-as Question.OfPointers (a .words .now) (at-question3 .question3 .given .1) (a .out .now)
+
+same-length-6 : tie.Need-same-length-6
+same-length-6 c = search needs
+
+returns-6 : tie.Need-returns-6
+returns-6 c =
+    let at-crossing-answer = c .before .before in
+    let at-question4 = at-crossing-answer .before .before .before .before in
+    let start = at-question4 .before .before .before .before .before .before .before .before .before in
+    let a = start .args in
+    at-crossing-answer .crossing-answer .ensures ∙ answered-as Question.OfPointers (a .words .now) (at-question4 .question4 .given .1) (a .out .now)
+
 pub pointer-answer-spec : {M : Type 1} → statement M
 pointer-answer-spec =
     tie.close
@@ -155,6 +206,12 @@ pointer-answer-spec =
     enum-told-2
     slice-aggregate-all-owners-answer
     all-owners-answer-requires
+    enum-known-question-3
+    slice-aggregate-open-answer
+    open-answer-requires
+    enum-known-question-4
+    slice-aggregate-crossing-answer
+    crossing-answer-requires
     same-length
     returns
     same-length-2
@@ -162,4 +219,8 @@ pointer-answer-spec =
     same-length-3
     returns-3
     same-length-4
-    returns-4)
+    returns-4
+    same-length-5
+    returns-5
+    same-length-6
+    returns-6)
