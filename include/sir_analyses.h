@@ -12,14 +12,16 @@
  * lengths and the bytes of the image may be any.
  *
  * A function `sir_all_..` puts a question about one id for all ids: it gives the answers for ids 0, 1, .. in turn, each after
- * its length in words, which is one word. There is no id that could be unknown, so 13 is not given.
+ * its length in words, which is one word. There is no id that could be unknown, so 13 is not given. Every other question
+ * about ids is refused with 13 where one of them does not exist; sir_open alone also knows 15, which comes after 13 and
+ * before 14.
  *
  * Lifetimes hold within a function: a walk follows successor edges from a function's entry and takes a call as one step,
- * so where the intervals of two unmarked allocations do not meet, no run of a function awaits reads of both at once, and
- * the two may share a place in that function's frame, provided that neither is made inside an interval of the other: the
- * operation that makes a buffer may clear its bytes, also where the buffer's intervals begin later or are none. Nothing
- * follows for a caller and its callee, whose buffers are never both in one walk: a buffer that lives across a call and a
- * buffer of the callee must not share memory, whatever their intervals say.
+ * so where two unmarked allocations do not cross (sir_crossing), no run of a function awaits reads of both at once, and the
+ * two may share a place in that function's frame, provided that neither is open at the operation that makes the other
+ * (sir_open): that operation may clear the buffer's bytes, also where the buffer's intervals begin later or are none.
+ * Nothing follows for a caller and its callee, whose buffers are never both in one walk: a buffer that lives across a call
+ * and a buffer of the callee must not share memory, whatever their intervals say.
  *
  * The functions may be called from several threads at once. Each needs less than 1 MiB of stack.
  */
@@ -34,7 +36,7 @@ extern "C" {
 #endif
 
 /* Goes up by one where a function, or what one of them takes or gives, is added or changed. */
-#define SIR_ANALYSES_VERSION 2
+#define SIR_ANALYSES_VERSION 3
 
 /* Why a question is refused, in the sequence in which the rules are asked. */
 enum sir_refusal {
@@ -64,6 +66,8 @@ enum sir_refusal {
     SIR_REFUSED_SHARED_BASE = 12,
     /* id asked for not below its count */
     SIR_REFUSED_UNKNOWN_ID = 13,
+    /* an operation that the named block does not hold */
+    SIR_REFUSED_NOT_IN_BLOCK = 15,
     /* result slice shorter than the answer */
     SIR_REFUSED_SHORT_RESULT = 14,
 };
@@ -109,6 +113,31 @@ sir_answer sir_owner(const uint8_t *image, size_t image_length, uint32_t local, 
  * sequence in which the blocks of the order meet them; the first number that is refused with 13 is their count. */
 sir_answer sir_allocation(const uint8_t *image, size_t image_length, uint32_t allocation, uint8_t *result,
                           size_t result_length);
+
+/* The allocations that are open at an operation of a block: the unmarked ones with an interval over it, by number,
+ * ascending; one word each. Operation o of the block lies in an interval of that block where start <= o + 1 <= end, so the
+ * operations at which an interval starts and ends count. A marked allocation is in no list, though its memory is never
+ * free; at an operation of a block that is not visited none is open. Refused with 15 where the operation is not in the
+ * block's own range.
+ *
+ * At the operation that makes a buffer, which may clear its bytes, these are the buffers that must not lie in its place for
+ * that reason. The buffer itself may be among them; those that are marked are not, and must not lie there either. */
+sir_answer sir_open(const uint8_t *image, size_t image_length, uint32_t block, uint32_t operation, uint8_t *result,
+                    size_t result_length);
+
+/* Whether two allocations cross. Three words: 1 or 0; block + 1, or 0; operation + 1, or 0.
+ *
+ *     1, b + 1, o + 1   both are unmarked, and operation o of block b, which lies in intervals of both, is the first that
+ *                       does, by block and then by operation
+ *     1, 0, 0           one of them is marked, or both: a marked allocation crosses every one, itself included
+ *     0, 0, 0           both are unmarked, and no operation lies in intervals of both
+ *
+ * The operations at which intervals start and end count: where one interval ends at the operation at which the other starts,
+ * the two cross there. Only operations of a block's own range count: allocations that meet at block starts and ends alone,
+ * as in a block without operations, do not cross. An unmarked allocation crosses itself where some operation lies in its
+ * intervals, and not where it has none. */
+sir_answer sir_crossing(const uint8_t *image, size_t image_length, uint32_t one, uint32_t other, uint8_t *result,
+                        size_t result_length);
 
 /* The predecessors of all blocks: for each its length in words, then sir_predecessors of it. */
 sir_answer sir_all_predecessors(const uint8_t *image, size_t image_length, uint8_t *result, size_t result_length);

@@ -1,4 +1,5 @@
-//! A second reading of the scope document, the paper: its refusals and its answers, as plainly as it states them.
+//! A second reading of the scope document and of the change requests after it, the papers: their refusals and their answers,
+//! as plainly as they state them.
 //!
 //! Nothing here comes from Plank's files or from the proved crates, so that a misreading of the paper shows as a
 //! difference. Two answers are stated there by reference to the source only: the sequence of the uses, and the owner of
@@ -7,18 +8,21 @@
 mod allocations;
 pub mod codes;
 mod flow;
+mod open;
 mod pages;
 mod records;
 mod report;
 
+pub use flow::{BLOCK_END, Interval};
 pub use report::report;
 
 use allocations::Allocation;
-use flow::{Interval, Liveness, Operands, Order};
+use flow::{Liveness, Operands, Order};
 use records::Records;
-use sir_questions::{IdKind, Question, QuestionKind};
+use sir_questions::{AllocId, BlockId, IdKind, Question, QuestionKind};
 use std::cell::OnceCell;
 use std::collections::BTreeSet;
+use std::ops::Range;
 
 /// An image that no rule refuses, and its analyses.
 #[derive(Clone, Debug)]
@@ -31,6 +35,8 @@ pub struct Reference {
     uses: OnceCell<allocations::Uses>,
     reaches: OnceCell<Vec<BTreeSet<usize>>>,
     owners: OnceCell<Vec<u32>>,
+    /// By allocation: its merged intervals, or `None` where it is marked.
+    lifetimes: Vec<OnceCell<Option<Vec<Interval>>>>,
 }
 
 impl Reference {
@@ -43,6 +49,7 @@ impl Reference {
             return Err(12);
         }
         Ok(Reference {
+            lifetimes: vec![OnceCell::new(); allocations.len()],
             records,
             order,
             allocations,
@@ -54,25 +61,30 @@ impl Reference {
         })
     }
 
-    /// The answer to a question, as words; or 13.
+    /// The answer to a question, as words; or 13, or 15.
     pub fn answer(&self, question: Question) -> Result<Vec<u32>, u32> {
         self.answer_within(question, usize::MAX)
     }
 
-    /// The answer to a question as it stands in the result slice; or 13.
+    /// The answer to a question as it stands in the result slice; or 13, or 15.
     pub fn bytes(&self, question: Question) -> Result<Vec<u8>, u32> {
         self.bytes_within(question, usize::MAX)
     }
 
-    /// The answer to a question as it stands in a result slice of this length; or 13, or 14.
+    /// The answer to a question as it stands in a result slice of this length; or 13, 15 or 14.
     pub fn bytes_within(&self, question: Question, room: usize) -> Result<Vec<u8>, u32> {
         Ok(self.answer_within(question, room / 4)?.into_iter().flat_map(u32::to_le_bytes).collect())
     }
 
-    /// The answer to a question, as words; or 13, or 14 where there are more words than this.
+    /// The answer to a question, as words; or 13, or 15, or 14 where there are more words than this.
     fn answer_within(&self, question: Question, most: usize) -> Result<Vec<u32>, u32> {
         if question.kind().ids.iter().zip(question.ids()).any(|(&kind, id)| id >= self.count(kind)) {
             return Err(13);
+        }
+        if let Question::Open(block, operation) = question
+            && !self.operations_of(block).contains(&operation.0)
+        {
+            return Err(15);
         }
         let answer = match question {
             Question::Order => self.order(),
@@ -91,6 +103,8 @@ impl Reference {
             | Question::AllIntervals
             | Question::AllAllocations
             | Question::AllOwners => self.in_turn(question.kind().single().expect("one of all ids"), most)?,
+            Question::Open(block, operation) => self.open(block.0 as usize, operation.0 as usize),
+            Question::Crossing(one, other) => open::crossing(&self.records, self.lifetime(one), self.lifetime(other)),
         };
         if answer.len() > most { Err(14) } else { Ok(answer) }
     }
@@ -119,6 +133,37 @@ impl Reference {
             IdKind::Allocation => self.allocations.len(),
         };
         count as u32
+    }
+
+    /// Whether a block is visited.
+    pub fn is_visited(&self, block: BlockId) -> bool {
+        self.order.blocks().any(|visited| visited == block.0 as usize)
+    }
+
+    /// The operations of a block's range.
+    pub fn operations_of(&self, block: BlockId) -> Range<u32> {
+        let range = &self.records.blocks[block.0 as usize].operations;
+        range.start as u32..range.end as u32
+    }
+
+    /// The ids of a sort that go with an id before them in a question: with a block the operations of its range, and with any
+    /// other all that there are.
+    pub fn partners(&self, (of, id): (IdKind, u32), kind: IdKind) -> Vec<u32> {
+        match (of, kind) {
+            (IdKind::Block, IdKind::Operation) => self.operations_of(BlockId(id)).collect(),
+            _ => (0..self.count(kind)).collect(),
+        }
+    }
+
+    /// The merged intervals of an allocation, or `None` where it is marked.
+    pub fn lifetime(&self, allocation: AllocId) -> Option<&[Interval]> {
+        let number = allocation.0 as usize;
+        let merged = || {
+            let unmarked = !allocations::marked(self.reaches(), self.uses(), number);
+            let of_reach = || self.reaches()[number].iter().flat_map(|&local| self.intervals(local)).collect();
+            unmarked.then(|| allocations::merged(of_reach()))
+        };
+        self.lifetimes[number].get_or_init(merged).as_deref()
     }
 
     fn order(&self) -> Vec<u32> {
@@ -157,22 +202,22 @@ impl Reference {
     fn allocation(&self, number: usize) -> Vec<u32> {
         let allocation = self.allocations[number];
         let operation = &self.records.operations[allocation.operation];
-        let marked = allocations::marked(self.reaches(), self.uses(), number);
-        let intervals = match marked {
-            true => Vec::new(),
-            false => {
-                let reach = self.reaches()[number].iter();
-                allocations::merged(reach.flat_map(|&local| self.intervals(local)).collect())
-            }
-        };
+        let lifetime = self.lifetime(AllocId(number as u32));
+        // A marked allocation has no intervals.
+        let intervals = lifetime.unwrap_or_default();
         let (kind, size, id) = match codes::is_dynamic_allocation(operation.code) {
             true => (1, operation.inputs[0] as u32, 0),
             false => (0, operation.extras[0], operation.extras[1]),
         };
         let mut answer = words(&[allocation.block, allocation.operation, allocation.base]);
-        answer.extend([kind, size, id, u32::from(marked), intervals.len() as u32]);
-        answer.extend(interval_words(&intervals));
+        answer.extend([kind, size, id, u32::from(lifetime.is_none()), intervals.len() as u32]);
+        answer.extend(interval_words(intervals));
         answer
+    }
+
+    fn open(&self, block: usize, operation: usize) -> Vec<u32> {
+        let all = 0..self.allocations.len() as u32;
+        all.filter(|&number| open::is_open(self.lifetime(AllocId(number)), block, operation)).collect()
     }
 }
 

@@ -116,6 +116,72 @@ fn outputs_are_removed_before_inputs_are_added() {
     assert_eq!(answer(&image, "rounds"), [2]);
 }
 
+/// Both ends count: 1..3 and 3..5 share operation 2, at which they cross.
+#[test]
+fn touching_intervals() {
+    let image = samples::touching();
+    let ask = |text: &str| answer(&image, text);
+    assert_eq!(ask("allocation:0")[6..], [0, 1, 0, 1, 3]);
+    assert_eq!(ask("allocation:1")[6..], [0, 2, 0, 3, 5, 0, 6, 7]);
+    let open: Vec<Vec<u32>> = (0..8).map(|operation| ask(&format!("open:0,{operation}"))).collect();
+    assert_eq!(open, [vec![0], vec![0], vec![0, 1], vec![1], vec![1], vec![1], vec![1], vec![]]);
+    assert_eq!((ask("crossing:0,1"), ask("crossing:1,0")), (vec![1, 1, 3], vec![1, 1, 3]));
+    assert_eq!((ask("crossing:0,0"), ask("crossing:1,1")), (vec![1, 1, 1], vec![1, 1, 3]));
+}
+
+/// Intervals that meet at a block's start and end alone have no operation in common, not even one with itself.
+#[test]
+fn intervals_that_meet_at_bare_ends() {
+    let image = samples::bare_ends();
+    let ask = |text: &str| answer(&image, text);
+    assert_eq!(ask("allocation:0")[6..], [0, 1, 0, 0, END]);
+    assert_eq!(ask("allocation:1")[6..], [0, 2, 0, 0, END, 1, 0, 1]);
+    assert_eq!((ask("crossing:0,1"), ask("crossing:1,0")), (vec![0, 0, 0], vec![0, 0, 0]));
+    assert_eq!((ask("crossing:0,0"), ask("crossing:1,1")), (vec![0, 0, 0], vec![1, 2, 1]));
+    assert_eq!((ask("open:1,0"), ask("open:1,1"), ask("open:2,4")), (vec![1], vec![], vec![]));
+}
+
+/// No interval lies in a block that is not visited, though what its operations read is open elsewhere.
+#[test]
+fn an_unvisited_block() {
+    assert_eq!(answer(&samples::bare_ends(), "open:3,5"), []);
+}
+
+/// A marked allocation is in no list and crosses all, itself and one without intervals included.
+#[test]
+fn a_marked_allocation() {
+    let mut image = Image::new(3);
+    allocate(&mut image, 0);
+    allocate(&mut image, 1);
+    allocate(&mut image, 2);
+    image.operation(Code::MemoryStore, &[1, 0], &[]);
+    block(&mut image, Control::LastOpTerminates);
+    let ask = |text: &str| answer(&image, text);
+    let marks = [0, 1, 2].map(|number| ask(&format!("allocation:{number}"))[6]);
+    assert_eq!(marks, [1, 0, 0]);
+    assert_eq!((ask("open:0,0"), ask("open:0,1"), ask("open:0,3")), (vec![], vec![1], vec![1]));
+    for pair in ["0,0", "0,1", "1,0", "0,2", "2,0"] {
+        assert_eq!(ask(&format!("crossing:{pair}")), [1, 0, 0], "{pair}");
+    }
+    assert_eq!(
+        (ask("crossing:1,1"), ask("crossing:1,2"), ask("crossing:2,2")),
+        (vec![1, 1, 2], vec![0; 3], vec![0; 3])
+    );
+}
+
+/// 13, then 15, then 14. The interval of block 0 that ends with the block has the numbers of operations 3 and 4 in it.
+#[test]
+fn refusals_in_turn() {
+    let image = samples::report().pages();
+    let number = |text: &str, room| call(&image, question(text), &mut vec![7; room]).0;
+    assert_eq!((number("open:0,1", 4), number("open:0,1", 3), number("open:0,0", 0)), (0, 14, 0));
+    for (text, refusal) in [("open:2,0", 13), ("open:0,5", 13), ("open:2,5", 13), ("open:0,3", 15), ("open:1,2", 15)] {
+        assert_eq!([0, 3, 20].map(|room| number(text, room)), [refusal; 3], "{text}");
+    }
+    assert_eq!((number("crossing:0,0", 12), number("crossing:0,0", 11)), (0, 14));
+    assert_eq!((number("crossing:1,0", 0), number("crossing:0,1", 20)), (13, 13));
+}
+
 #[test]
 fn calls() {
     let image = samples::report().pages();

@@ -4,7 +4,7 @@ use paper_reference::{Reference, codes, report};
 use sir_image::{
     Code, Control, Count, MAX_BLOCKS, MAX_FUNCTIONS, MAX_LOCALS, MAX_OPERANDS, MAX_OPERATIONS, MAX_TARGETS,
 };
-use sir_questions::{Question, Refusal};
+use sir_questions::{IdKind, Question, Refusal};
 use std::collections::BTreeSet;
 use std::{fs, path::Path};
 
@@ -132,14 +132,26 @@ fn refusals() {
     assert_eq!(named, expected.collect::<Vec<_>>());
 }
 
-/// Each question has its row, is about as many ids, and one for all ids names the one for each.
+/// What an id numbers, by the words for one.
+fn sort(one: &str) -> IdKind {
+    match one {
+        "a block" => IdKind::Block,
+        "an operation" => IdKind::Operation,
+        "a local" => IdKind::Local,
+        "an allocation" => IdKind::Allocation,
+        _ => panic!("no id numbers {one}"),
+    }
+}
+
+/// Each question has its row, is about the same ids, and one for all ids names the one for each.
 #[test]
 fn questions() {
     let rows = table("| question | about | words |");
     assert_eq!(rows.len(), Question::KINDS.len());
     for (row, kind) in rows.iter().zip(Question::KINDS) {
         assert_eq!(row[0], format!("sir_{}", kind.name));
-        assert_eq!(row[1].is_empty(), kind.ids.is_empty(), "{}", kind.name);
+        let about = row[1].split(", ").filter(|about| !about.is_empty()).map(sort);
+        assert_eq!(about.collect::<Vec<_>>(), kind.ids, "{}", kind.name);
         if let Some(single) = kind.single() {
             assert!(row[2].ends_with(&format!("of `sir_{}", single.name)), "{}", kind.name);
         }

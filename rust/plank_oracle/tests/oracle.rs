@@ -38,6 +38,17 @@ fn report() {
     });
 }
 
+/// Questions that Plank has no answer to.
+#[test]
+fn without_an_answer() {
+    with(&samples::report(), |plank| {
+        let asked = Question::KINDS.iter().map(|kind| kind.about_zeros());
+        let without: Vec<String> =
+            asked.filter(|&question| plank.answer(question).is_none()).map(|q| q.to_string()).collect();
+        assert_eq!(without, ["rounds", "open:0,0", "crossing:0,0"]);
+    });
+}
+
 /// Codes number the names of `operation_causes_ptr_escape` in reading order, here and in the shim.
 #[test]
 fn codes_are_numbered_as_the_source_names_them() {

@@ -94,6 +94,19 @@ pub enum Size {
     },
 }
 
+/// Whether two allocations cross. The operations at which an interval starts and ends belong to it.
+#[derive(Clone, Copy, Debug, PartialEq, Eq)]
+pub enum Crossing {
+    /// Both are unmarked, and no operation lies in intervals of both: they meet nowhere, or only at block starts and ends
+    /// with no operation in between.
+    Never,
+    /// Both are unmarked, and this operation of this block lies in intervals of both. It is the first that does, by block
+    /// and then by operation.
+    At(BlockId, OpIdx),
+    /// One of them is marked, or both. A marked allocation crosses every one, itself included, and no operation is named.
+    Marked,
+}
+
 /// Words that are ids of one sort.
 pub(crate) fn ids<I: Id>(words: &[u32]) -> Vec<I> {
     words.iter().map(|&word| I::new(word)).collect()
@@ -162,6 +175,15 @@ pub(crate) fn allocation(words: &[u32]) -> Allocation {
     }
 }
 
+pub(crate) fn crossing(words: &[u32]) -> Crossing {
+    let named = |at: usize| words[at].checked_sub(1);
+    match (words[0], named(1).zip(named(2))) {
+        (0, _) => Crossing::Never,
+        (_, Some((block, operation))) => Crossing::At(BlockId(block), OpIdx(operation)),
+        (_, None) => Crossing::Marked,
+    }
+}
+
 #[cfg(test)]
 mod tests {
     use super::*;
@@ -183,6 +205,12 @@ mod tests {
         assert_eq!(each(&[0, 2, 7, 8, 1, 9], ids::<LocalId>), [vec![], vec![LocalId(7), LocalId(8)], vec![LocalId(9)]]);
         assert_eq!(each(&[1, 0, 1, 3], owner), [None, Some(AllocId(2))]);
         assert_eq!(each(&[], owner), []);
+    }
+
+    #[test]
+    fn crossings_from_words() {
+        let crossings = [[0, 0, 0], [1, 1, 3], [1, 0, 0]].map(|words| crossing(&words));
+        assert_eq!(crossings, [Crossing::Never, Crossing::At(BlockId(0), OpIdx(2)), Crossing::Marked]);
     }
 
     #[test]

@@ -6,7 +6,7 @@
 //! as the answer needs, and gives the answer decoded, or the [`Refusal`].
 //!
 //! A question about one id has a form for all ids, as [`all_uses`] for [`uses`]: one call, which reads the image once and gives
-//! the answers for ids 0, 1, .. in turn.
+//! the answers for ids 0, 1, .. in turn. Questions about two ids, [`open`] and [`crossing`], have none.
 //!
 //! ```no_run
 //! use sir_analyses::BlockId;
@@ -27,11 +27,35 @@
 //! # What lifetimes say
 //!
 //! Lifetimes hold within a function: a walk follows successor edges from a function's entry and takes a call as one step, so
-//! where the intervals of two unmarked allocations do not meet, no run of a function awaits reads of both at once, and the
-//! two may share a place in that function's frame, provided that neither is made inside an interval of the other: the
-//! operation that makes a buffer may clear its bytes, also where the buffer's intervals begin later or are none.
-//! `examples/ask.rs` goes by both. Nothing follows for a caller and its callee, whose buffers are never both in one walk: a
-//! buffer that lives across a call and a buffer of the callee must not share memory, whatever their intervals say.
+//! where two unmarked allocations do not cross ([`crossing`]), no run of a function awaits reads of both at once, and the two
+//! may share a place in that function's frame, provided that neither is open at the operation that makes the other
+//! ([`open`]): that operation may clear the buffer's bytes, also where the buffer's intervals begin later or are none.
+//!
+//! ```no_run
+//! use sir_analyses::{AllocId, Crossing, Refusal};
+//!
+//! /// Whether an allocation is open at the operation that makes another one.
+//! fn open_where_made(image: &[u8], made: AllocId, other: AllocId) -> Result<bool, Refusal> {
+//!     let made = sir_analyses::allocation(image, made)?;
+//!     Ok(sir_analyses::open(image, made.block, made.operation)?.contains(&other))
+//! }
+//!
+//! /// Whether two allocations of one function may have the same place in its frame, and why not.
+//! fn may_share(image: &[u8], one: AllocId, other: AllocId) -> Result<String, Refusal> {
+//!     Ok(match sir_analyses::crossing(image, one, other)? {
+//!         Crossing::Marked => "no: one of them is never free".to_string(),
+//!         Crossing::At(block, operation) => format!("no: both are in use at operation {} of block {}", operation.0, block.0),
+//!         Crossing::Never if open_where_made(image, one, other)? || open_where_made(image, other, one)? => {
+//!             "no: one of them is made while the other is in use".to_string()
+//!         }
+//!         Crossing::Never => "yes".to_string(),
+//!     })
+//! }
+//! ```
+//!
+//! `examples/ask.rs` looks for all such pairs, by the intervals of all allocations. Nothing follows for a caller and its
+//! callee, whose buffers are never both in one walk: a buffer that lives across a call and a buffer of the callee must not
+//! share memory, whatever their intervals say.
 //!
 //! # How long an answer may be
 //!
@@ -48,7 +72,7 @@
 mod answers;
 pub mod calls;
 
-pub use answers::{Allocation, End, FunctionBlocks, Interval, Place, Size, Start, Use};
+pub use answers::{Allocation, Crossing, End, FunctionBlocks, Interval, Place, Size, Start, Use};
 pub use calls::Answer;
 pub use sir_questions::{AllocId, BlockId, Cause, FunctionId, LocalId, OpIdx, Question, Refusal};
 
@@ -101,6 +125,21 @@ pub fn owner(image: &[u8], local: LocalId) -> Result<Option<AllocId>, Refusal> {
 /// An allocation.
 pub fn allocation(image: &[u8], allocation: AllocId) -> Result<Allocation, Refusal> {
     Ok(answers::allocation(&words(image, Question::Allocation(allocation))?))
+}
+
+/// The allocations that are open at an operation of a block: the unmarked ones with an interval over it, ascending. Both ends
+/// of an interval belong to it. A marked allocation is never among them, though its memory is never free; in a block that is
+/// not visited there are none.
+///
+/// Refused with [`Refusal::NOT_IN_BLOCK`] where the operation is not in the block's own range.
+pub fn open(image: &[u8], block: BlockId, operation: OpIdx) -> Result<Vec<AllocId>, Refusal> {
+    Ok(answers::ids(&words(image, Question::Open(block, operation))?))
+}
+
+/// Whether two allocations cross, and the first operation that lies in intervals of both. An unmarked allocation crosses
+/// itself where some operation lies in its intervals, and not where it has none.
+pub fn crossing(image: &[u8], one: AllocId, other: AllocId) -> Result<Crossing, Refusal> {
+    Ok(answers::crossing(&words(image, Question::Crossing(one, other))?))
 }
 
 /// The predecessors of every block, repeats kept.

@@ -128,12 +128,15 @@ fn long_answers() {
 #[test]
 fn stack() {
     let images = [samples::deepest().pages(), samples::largest().pages()];
+    // Of each image one that the block holds.
+    let open = [(3, 0), (0, 0)].map(|(block, operation)| Question::Open(BlockId(block), OpIdx(operation)));
     let calls = move || {
         let mut result = [0; 2048];
-        for image in &images {
+        for (image, open) in images.iter().zip(open) {
             for kind in Question::KINDS {
                 calls::ask(kind.about(&vec![1; kind.ids.len()]), image, &mut result);
             }
+            assert_eq!(calls::ask(open, image, &mut result).number, 0);
         }
     };
     std::thread::Builder::new().stack_size(1 << 20).spawn(calls).unwrap().join().unwrap();

@@ -97,6 +97,42 @@ pub fn exchanged_bases() -> Image {
     image
 }
 
+/// Two allocations that touch: operation 2 reads the pointer of allocation 0 for the last time, and defines a local that also
+/// holds the pointer of allocation 1. The intervals are 1..3, and 3..5 and 6..7.
+pub fn touching() -> Image {
+    let mut image = Image::new(4);
+    image.operation_with(Code::StaticAllocZeroed, &[], &[0], [32, 0]);
+    image.operation(Code::Noop, &[], &[]);
+    image.operation(Code::MemoryLoad, &[0], &[1]);
+    image.operation(Code::Noop, &[], &[]);
+    image.operation(Code::MemoryLoad, &[1], &[3]);
+    image.operation_with(Code::StaticAllocZeroed, &[], &[2], [32, 1]);
+    image.operation(Code::SetCopy, &[2], &[1]);
+    image.operation(Code::Stop, &[], &[]);
+    image.block(&[], &[], Span::new(0, 8), Control::LastOpTerminates);
+    image.function(0);
+    image
+}
+
+/// Two allocations that meet in block 0 alone, which has no operations: both live from its start to its end, the first as
+/// its condition, the second up to operation 0 of block 1. Block 3, with two operations, is not visited.
+pub fn bare_ends() -> Image {
+    let mut image = Image::new(3);
+    image.block(&[], &[], Span::EMPTY, Control::Branches { condition: 0, non_zero: 1, zero: 2 });
+    image.operation(Code::MemoryLoad, &[1], &[2]);
+    image.operation_with(Code::StaticAllocZeroed, &[], &[0], [32, 0]);
+    image.operation_with(Code::StaticAllocZeroed, &[], &[1], [32, 1]);
+    image.operation(Code::Stop, &[], &[]);
+    image.block(&[], &[], Span::new(0, 4), Control::LastOpTerminates);
+    image.operation(Code::Stop, &[], &[]);
+    image.block(&[], &[], Span::new(4, 5), Control::LastOpTerminates);
+    image.operation(Code::MemoryLoad, &[0], &[2]);
+    image.operation(Code::Stop, &[], &[]);
+    image.block(&[], &[], Span::new(5, 7), Control::LastOpTerminates);
+    image.function(0);
+    image
+}
+
 #[cfg(test)]
 mod tests {
     use super::*;

@@ -17,6 +17,6 @@ mod ids;
 mod question;
 mod refusal;
 
-pub use ids::{AllocId, BlockId, FunctionId, Id, IdKind, LocalId, OpIdx};
+pub use ids::{AllocId, BlockId, FunctionId, Id, IdKind, LocalId, OpIdx, spread};
 pub use question::{Question, QuestionKind, Unknown};
 pub use refusal::{Cause, Refusal};

@@ -44,6 +44,11 @@ macro_rules! questions {
             14 AllAllocations of allocation = all_allocations;
             /// The owners of all locals: that of local 0, 1, .., each answer after its length in words, 1.
             15 AllOwners of owner = all_owners;
+            /// The allocations that are open at an operation of a block: the unmarked ones with an interval over it, ascending.
+            16 Open(block: BlockId, operation: OpIdx) = open;
+            /// Whether two allocations cross: 1 or 0, then block + 1 and operation + 1 of the first operation in intervals
+            /// of both. One that is marked crosses all, with no operation named: 1, 0, 0.
+            17 Crossing(one: AllocId, other: AllocId) = crossing;
         }
     };
 }
@@ -138,20 +143,24 @@ impl QuestionKind {
     /// The questions about all ids below their counts, in turn; of each sort of id only those a step apart that may depend on
     /// its count. One question where there are no ids.
     pub fn about_all(&self, count: impl Fn(IdKind) -> u32, step: impl Fn(u32) -> u32) -> Vec<Question> {
-        self.id_lists(count, step).iter().map(|ids| self.about(ids)).collect()
+        self.about_each(|kind, _| {
+            let count = count(kind);
+            (0..count).step_by(step(count).max(1) as usize).collect()
+        })
     }
 
-    fn id_lists(&self, count: impl Fn(IdKind) -> u32, step: impl Fn(u32) -> u32) -> Vec<Vec<u32>> {
+    /// The questions about ids that are chosen one after the other: each is taken, in turn, from those that are given for its
+    /// sort and for the ids before it.
+    pub fn about_each(&self, choose: impl Fn(IdKind, &[u32]) -> Vec<u32>) -> Vec<Question> {
         let mut lists: Vec<Vec<u32>> = vec![Vec::new()];
         for &kind in self.ids {
-            let count = count(kind);
             let longer = |ids: &Vec<u32>| {
-                let all = (0..count).step_by(step(count).max(1) as usize);
+                let all = choose(kind, ids).into_iter();
                 all.map(|id| [ids.as_slice(), &[id]].concat()).collect::<Vec<_>>()
             };
             lists = lists.iter().flat_map(longer).collect();
         }
-        lists
+        lists.iter().map(|ids| self.about(ids)).collect()
     }
 
     /// For each id of the question one that is too large, the others 0.
@@ -219,12 +228,12 @@ mod tests {
         }
     }
 
-    /// Each question about one id has one for all ids, which takes none; no other question has.
+    /// Each question about one id has one for all ids, which takes none; no other question has, not one about two ids.
     #[test]
     fn all_of_a_question() {
         for kind in Question::KINDS {
             let all: Vec<_> = Question::KINDS.iter().filter(|other| other.single() == Some(kind)).collect();
-            assert_eq!(all.len(), kind.ids.len(), "{}", kind.name);
+            assert_eq!(all.len(), usize::from(kind.ids.len() == 1), "{}", kind.name);
             assert!(all.iter().all(|all| all.ids.is_empty()));
             assert_eq!(kind.single().is_some(), kind.name.starts_with("all_"), "{}", kind.name);
         }
@@ -235,7 +244,10 @@ mod tests {
         assert_eq!("order".parse(), Ok(Question::Order));
         assert_eq!("exit_set:3".parse(), Ok(Question::ExitSet(BlockId(3))));
         assert_eq!(Question::ExitSet(BlockId(3)).to_string(), "exit_set:3");
-        for unknown in ["", "orders", "order:1", "uses", "uses:x", "uses:1,2", "uses:4294967296"] {
+        assert_eq!("open:3,7".parse(), Ok(Question::Open(BlockId(3), OpIdx(7))));
+        assert_eq!(Question::Crossing(AllocId(1), AllocId(0)).to_string(), "crossing:1,0");
+        for unknown in ["", "orders", "order:1", "uses", "uses:x", "uses:1,2", "uses:4294967296", "open:3", "crossing"]
+        {
             assert!(unknown.parse::<Question>().is_err(), "{unknown}");
         }
     }
@@ -254,9 +266,13 @@ mod tests {
 
     #[test]
     fn lists_of_two_ids() {
-        let two = QuestionKind { number: 99, name: "two", ids: &[IdKind::Block, IdKind::Operation], of: &[] };
+        let open = Question::Open(BlockId(0), OpIdx(0)).kind();
+        let ids = |questions: Vec<Question>| questions.into_iter().map(Question::ids).collect::<Vec<_>>();
         let count = |kind| if kind == IdKind::Block { 2 } else { 3 };
-        assert_eq!(two.id_lists(count, |_| 1), [[0, 0], [0, 1], [0, 2], [1, 0], [1, 1], [1, 2]]);
-        assert_eq!(two.id_lists(count, |count| count - 1), [[0, 0], [0, 2], [1, 0], [1, 2]]);
+        assert_eq!(ids(open.about_all(count, |_| 1)), [[0, 0], [0, 1], [0, 2], [1, 0], [1, 1], [1, 2]]);
+        assert_eq!(ids(open.about_all(count, |count| count - 1)), [[0, 0], [0, 2], [1, 0], [1, 2]]);
+        let held = |_: IdKind, before: &[u32]| if before.is_empty() { vec![4, 6] } else { vec![10 * before[0]] };
+        assert_eq!(ids(open.about_each(held)), [[4, 40], [6, 60]]);
+        assert_eq!(ids(open.about_unknown(count)), [[2, 0], [0, 3]]);
     }
 }

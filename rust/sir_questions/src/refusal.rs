@@ -63,6 +63,7 @@ refusals! {
     11 REPEATED_INPUT FrontEnd "one local twice among a block's inputs";
     12 SHARED_BASE FrontEnd "two allocations met in visited blocks with one base local";
     13 UNKNOWN_ID Caller "id asked for not below its count";
+    15 NOT_IN_BLOCK Caller "an operation that the named block does not hold";
     14 SHORT_RESULT Caller "result slice shorter than the answer";
 }
 
