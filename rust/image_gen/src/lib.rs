@@ -7,6 +7,7 @@
 //! assert_eq!(generate(Kind::Dense, 7), generate(Kind::Dense, 7));
 //! ```
 
+mod crossings;
 mod damaged;
 pub mod extremes;
 mod large;
@@ -76,6 +77,8 @@ kinds! {
     SmallAllocating
     /// Blocks that hand on all locals in another order, on a small scale.
     SmallRenaming
+    /// Unmarked allocations whose intervals touch, overlap, or meet only where there is no operation.
+    Crossings
 }
 
 impl Kind {
@@ -93,6 +96,7 @@ impl Kind {
         Kind::Chains,
         Kind::Lives,
         Kind::Mixed,
+        Kind::Crossings,
     ];
 
     /// Kinds of large images, on which plain code still ends.
@@ -132,6 +136,7 @@ pub fn generate(kind: Kind, seed: u64) -> Image {
         Kind::SmallRings => large::small_rings(rng),
         Kind::SmallAllocating => large::small_allocating(rng),
         Kind::SmallRenaming => large::small_renaming(rng),
+        Kind::Crossings => crossings::image(rng),
     }
 }
 

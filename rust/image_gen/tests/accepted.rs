@@ -1,7 +1,7 @@
 //! Every generated image is accepted, but for shared bases.
 
 use image_gen::{Kind, Size, generate, worst};
-use paper_reference::Reference;
+use paper_reference::{Interval, Reference};
 use sir_questions::{AllocId, BlockId, IdKind, Question, Refusal};
 
 #[test]
@@ -46,6 +46,28 @@ fn kinds_have_what_they_are_for() {
         Reference::new(&image).expect("an accepted image").answer(Question::Rounds).unwrap()[0]
     };
     assert!((0..20).any(|seed| rounds(Kind::SmallRings, seed) > 100), "many rounds");
+}
+
+/// Unmarked allocations cross where an interval ends and one starts, and meet without crossing in blocks without operations.
+#[test]
+fn crossings_touch_and_meet() {
+    let (mut touching, mut meeting) = (0, 0);
+    for seed in 0..500 {
+        let reference = Reference::new(&generate(Kind::Crossings, seed).pages()).expect("an accepted image");
+        let all: Vec<u32> = (0..reference.count(IdKind::Allocation)).collect();
+        for (&one, &other) in all.iter().flat_map(|one| all.iter().map(move |other| (one, other))) {
+            let [Some(a), Some(b)] = [one, other].map(|number| reference.lifetime(AllocId(number))) else { continue };
+            let words = reference.answer(Question::Crossing(AllocId(one), AllocId(other))).unwrap();
+            let has = |life: &[Interval], end: fn(&Interval) -> (u32, u32)| {
+                life.iter().any(|interval| words[0] == 1 && end(interval) == (words[1] - 1, words[2]))
+            };
+            touching +=
+                u32::from(has(a, |&(block, _, end)| (block, end)) && has(b, |&(block, start, _)| (block, start)));
+            let met = a.iter().any(|x| b.iter().any(|y| (x.0, x.1, x.2) == (y.0, 0, paper_reference::BLOCK_END)));
+            meeting += u32::from(words[0] == 0 && met);
+        }
+    }
+    assert!(touching > 100 && meeting > 20, "{touching} touch, {meeting} meet in blocks that both live through");
 }
 
 /// "The number is at most the final number of exit members plus 1", and at least 1.
