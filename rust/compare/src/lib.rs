@@ -3,4 +3,5 @@
 pub mod recording;
 pub mod shrink;
 pub mod sides;
+pub mod tally;
 pub mod text;

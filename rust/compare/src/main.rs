@@ -14,13 +14,14 @@
 //! ```
 //!
 //! Images of every kind are taken in turn, each with a seed of its own. Where files are named, these images are taken
-//! and none are generated. With Plank every answer but the rounds is compared; with the library every answer, its
-//! number, its length, each byte of the result slice, unknown ids and slices that are too short. Each question about one id is
-//! put for every id, and then once for all ids. Where two sides
-//! disagree, the image is made as small as it goes and shown, and the program stops with status 1. A side that was
+//! and none are generated. With Plank every answer is compared that it has; with the library every answer, its number, its
+//! length, each byte of the result slice, unknown ids and slices that are too short. Each question about one id is put for
+//! every id, and then once for all ids; one about two ids for every pair of them, or for a choice where these are many. Where
+//! two sides disagree, the image is made as small as it goes and shown, and the program stops with status 1. A side that was
 //! missing when this was built is left out, with a message.
 
-use compare::sides::{Disagreement, Tally};
+use compare::sides::Disagreement;
+use compare::tally::Tally;
 use compare::{shrink, sides, text};
 use image_gen::{Kind, Rng, Size, damaged, generate, worst};
 use sir_image::Image;
@@ -154,11 +155,13 @@ fn compare_all(name: &str, images: impl Iterator<Item = (String, Image)>, compar
     for (name, image) in images {
         compare(&image, &mut tally).map_err(|_| (1, explain(&name, &image, compare)))?;
     }
-    let Tally { images, refused, answers, words, allocations: [all, marked], merged, most_rounds } = tally;
+    let Tally { images, refused, answers, words, allocations: [all, marked], merged, most_rounds, open, crossings } =
+        tally;
     if images > 0 {
         println!("{name}: {images} compared, {refused} of them refused by both sides");
         println!("  {answers} answers of {words} words are equal");
         println!("  {all} allocations, {marked} marked, {merged} merged intervals; at most {most_rounds} rounds");
+        println!("  {open}\n  {crossings}");
         println!("  {:.1} s", started.elapsed().as_secs_f64());
     }
     Ok(())

@@ -1,51 +1,12 @@
 //! The sides that are compared, and what differs between them.
 
+use crate::tally::Tally;
 use paper_reference::Reference;
 use plank_oracle::Program;
 use sir_analyses::{Answer, calls};
 use sir_image::Image;
-use sir_questions::{Cause, IdKind, Question, QuestionKind, Refusal};
+use sir_questions::{Cause, IdKind, Question, QuestionKind, Refusal, spread};
 use std::fmt::{self, Debug, Display, Formatter};
-
-/// What was compared.
-#[derive(Clone, Copy, Debug, Default)]
-pub struct Tally {
-    /// Images.
-    pub images: u64,
-    /// Images that some rule refuses.
-    pub refused: u64,
-    /// Answers.
-    pub answers: u64,
-    /// Words of these answers.
-    pub words: u64,
-    /// Allocations, and those of them that are marked.
-    pub allocations: [u64; 2],
-    /// Merged intervals.
-    pub merged: u64,
-    /// The most rounds of an image.
-    pub most_rounds: u32,
-}
-
-impl Tally {
-    /// An answer that is compared.
-    fn compared(&mut self, answer: &[u32]) {
-        self.answers += 1;
-        self.words += answer.len() as u64;
-    }
-
-    /// What an answer of the paper's says.
-    fn note(&mut self, question: Question, answer: &[u32]) {
-        match question {
-            Question::Allocation(_) => {
-                self.allocations[0] += 1;
-                self.allocations[1] += u64::from(answer[6]);
-                self.merged += u64::from(answer[7]);
-            }
-            Question::Rounds => self.most_rounds = self.most_rounds.max(answer[0]),
-            _ => {}
-        }
-    }
-}
 
 /// Two sides that answer differently.
 #[derive(Clone, Debug)]
@@ -92,10 +53,11 @@ pub fn with_plank(image: &Image, tally: &mut Tally) -> Result<(), Disagreement> 
         return Ok(());
     };
     agree("number of allocations", paper.count(IdKind::Allocation), PLANK, plank.count(IdKind::Allocation))?;
-    for question in questions(&paper, |_| 1) {
-        let answer = paper.answer(question).expect("the ids are below their counts");
-        tally.note(question, &answer);
+    for question in all_questions(&paper) {
+        let said = paper.answer(question);
+        tally.note(&paper, question, said.as_deref().map_err(|&number| number));
         if let Some(other) = plank.answer(question) {
+            let answer = said.expect("the ids are below their counts");
             tally.compared(&answer);
             agree(question, answer, PLANK, other)?;
         }
@@ -103,9 +65,42 @@ pub fn with_plank(image: &Image, tally: &mut Tally) -> Result<(), Disagreement> 
     Ok(())
 }
 
-/// The questions about all ids of an image, or about some of them, a step apart that may depend on their count.
-fn questions(paper: &Reference, step: impl Fn(u32) -> u32) -> Vec<Question> {
-    Question::KINDS.iter().flat_map(|kind| kind.about_all(|id| paper.count(id), &step)).collect()
+/// The most questions of a kind about two ids that are put about one image.
+const PAIRS: u32 = 1024;
+
+/// The questions about every id of an image; about two ids, every pair or a choice of pairs.
+fn all_questions(paper: &Reference) -> impl Iterator<Item = Question> {
+    Question::KINDS.iter().flat_map(|kind| questions(paper, kind, |_| 1, PAIRS))
+}
+
+/// The questions of a kind about the ids of an image that are a step apart, which may depend on their count. Questions about
+/// two ids are at most so many: about every pair where there are no more, else about a choice of pairs.
+pub fn questions(paper: &Reference, kind: &QuestionKind, step: impl Fn(u32) -> u32, pairs: u32) -> Vec<Question> {
+    let &[first, second] = kind.ids else { return kind.about_all(|id| paper.count(id), step) };
+    let count = paper.count(first);
+    if count * paper.count(second) <= pairs {
+        return kind.about_all(|id| paper.count(id), |_| 1);
+    }
+    let firsts: Vec<u32> = (0..count).step_by(step(count).max(1) as usize).collect();
+    let each = pairs / firsts.len() as u32;
+    kind.about_each(|_, before| match *before {
+        [] => spread(&firsts, pairs, 0),
+        [id, ..] => some_partners(paper, (first, id), second, each.max(1)),
+    })
+}
+
+/// At most so many ids of a sort for one before them: three of four, or as many as there are, of those that go with it, and
+/// one of four of any. Where both are of one sort the id itself is among them.
+fn some_partners(paper: &Reference, (of, id): (IdKind, u32), kind: IdKind, most: u32) -> Vec<u32> {
+    let any: Vec<u32> = (0..paper.count(kind)).collect();
+    let itself = (of == kind).then_some(id);
+    let rest = most - itself.iter().count() as u32;
+    let own = spread(&paper.partners((of, id), kind), rest - rest / 4, id);
+    let mut some = [own, spread(&any, rest / 4, id + 1)].concat();
+    some.extend(itself);
+    some.sort_unstable();
+    some.dedup();
+    some
 }
 
 /// Questions of a kind with an id that is not below its count: the count itself, or the largest number, by turns.
@@ -114,7 +109,7 @@ pub fn unknown(paper: &Reference, kind: &QuestionKind, turn: usize) -> Vec<Quest
 }
 
 /// Compares the paper's answers with those of the linked library: number, length and every byte of the result slice,
-/// for every id, one id too many, and result slices that are just long enough, longer, and too short.
+/// for every id, one id too many, pairs of ids, and result slices that are just long enough, longer, and too short.
 pub fn with_library(image: &Image, tally: &mut Tally) -> Result<(), Disagreement> {
     let bytes = image.pages();
     tally.images += 1;
@@ -122,12 +117,13 @@ pub fn with_library(image: &Image, tally: &mut Tally) -> Result<(), Disagreement
         Ok(paper) => paper,
         Err(_) => return refused_alike(&bytes, tally),
     };
-    for question in questions(&paper, |_| 1) {
+    for question in all_questions(&paper) {
         same_answer(&paper, &bytes, question, tally)?;
     }
     for kind in Question::KINDS {
-        for question in unknown(&paper, kind, tally.answers as usize + kind.number as usize) {
-            same_refusal(&bytes, question, Refusal::UNKNOWN_ID.number())?;
+        let turn = tally.answers as usize + kind.number as usize;
+        for question in unknown(&paper, kind, turn) {
+            same_refusal(turn / 2, &bytes, question, Refusal::UNKNOWN_ID.number())?;
         }
     }
     Ok(())
@@ -138,7 +134,7 @@ pub fn with_library_sparsely(image: &Image, tally: &mut Tally) -> Result<(), Dis
     let bytes = image.pages();
     tally.images += 1;
     let paper = Reference::new(&bytes).expect("an accepted image");
-    for question in questions(&paper, |count| count / 3) {
+    for question in Question::KINDS.iter().flat_map(|kind| questions(&paper, kind, |count| count / 3, 16)) {
         same_answer(&paper, &bytes, question, tally)?;
     }
     Ok(())
@@ -150,10 +146,16 @@ const LONGEST: usize = 1 << 26;
 fn same_answer(paper: &Reference, image: &[u8], question: Question, tally: &mut Tally) -> Result<(), Disagreement> {
     let answer = match paper.bytes_within(question, LONGEST) {
         Ok(answer) => answer,
-        Err(number) => return same_refusal_in(LONGEST, image, question, number),
+        Err(number) if number == Refusal::SHORT_RESULT.number() => {
+            return same_refusal_in(LONGEST, image, question, number);
+        }
+        Err(number) => {
+            tally.note(paper, question, Err(number));
+            return same_refusal(tally.open.not_held as usize, image, question, number);
+        }
     };
     let words = words_of(&answer);
-    tally.note(question, &words);
+    tally.note(paper, question, Ok(&words));
     tally.compared(&words);
     // Some bytes more than the answer needs, or none.
     let spare = [0, 1, 7, 64][tally.answers as usize % 4];
@@ -182,8 +184,9 @@ fn filled(length: usize) -> Vec<u8> {
     (0..length).map(|at| (at % 251) as u8 ^ 0xa5).collect()
 }
 
-fn same_refusal(image: &[u8], question: Question, number: u32) -> Result<(), Disagreement> {
-    same_refusal_in(32, image, question, number)
+/// A refusal that comes before 14: in a slice that is too short for one word, in an empty one, or in a longer one, by turns.
+fn same_refusal(turn: usize, image: &[u8], question: Question, number: u32) -> Result<(), Disagreement> {
+    same_refusal_in([3, 0, 32][turn % 3], image, question, number)
 }
 
 /// The same with a result slice of this length.
@@ -201,7 +204,7 @@ pub fn refused_alike(image: &[u8], tally: &mut Tally) -> Result<(), Disagreement
     tally.refused += u64::from(number != 0);
     for question in Question::KINDS.iter().map(QuestionKind::about_zeros) {
         if number != 0 {
-            same_refusal(image, question, number)?;
+            same_refusal(tally.refused as usize, image, question, number)?;
         } else {
             let given = calls::ask(question, image, &mut []).number;
             let accepted = given == 0 || Refusal::new(given).cause() == Some(Cause::Caller);

@@ -61,15 +61,15 @@ fn wrong_answers() {
 #[test]
 fn unknown_questions() {
     let image = samples::report().pages();
-    let mut bytes = to_bytes(&[image.len() as u32, 6]);
+    let mut bytes = to_bytes(&[image.len() as u32, 8]);
     bytes.extend(&image);
     // Number and ids, then the length of the slice, number and length; the slices are empty.
-    for question in [&[1000, 0][..], &[0, 1, 0], &[1, 0], &[1, 3, 0, 0, 0]] {
+    for question in [&[1000, 0][..], &[0, 1, 0], &[1, 0], &[1, 3, 0, 0, 0], &[16, 1, 0], &[17, 3, 0, 0, 0]] {
         bytes.extend(to_bytes(&[question, &[0, 0, 0]].concat()));
     }
     bytes.extend(to_bytes(&[0, 0, 0, 14, 0]));
     bytes.extend(to_bytes(&[1, 1, 7, 0, 13, 0]));
     if let Some(line) = replayed("unknown_questions", &bytes) {
-        assert_eq!(line, "unknown_questions agree 2 differ 4\n");
+        assert_eq!(line, "unknown_questions agree 2 differ 6\n");
     }
 }

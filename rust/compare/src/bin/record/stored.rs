@@ -1,11 +1,11 @@
-//! The files that are stored: Plank's answers; the rounds and the refusals are the reference's.
+//! The files that are stored: Plank's answers; those that Plank does not have, and the refusals, are the reference's.
 
 use compare::recording::{Recorded, Recording, to_bytes};
-use compare::sides::unknown;
+use compare::sides::{questions, unknown};
 use image_gen::{Kind, Rng, Size, damaged, generate, worst};
 use paper_reference::Reference;
 use plank_oracle::{Analyses, Program};
-use sir_image::Image;
+use sir_image::{Image, samples};
 use sir_questions::{IdKind, Question, QuestionKind, Refusal};
 use std::collections::BTreeMap;
 use std::path::{Path, PathBuf};
@@ -21,6 +21,8 @@ const LARGE: u64 = 2;
 const DAMAGED: usize = 6;
 /// Ids of each question about an image that is not small.
 const SOME_IDS: u32 = 6;
+/// Pairs of ids of each question about two, at the most.
+const PAIRS: u32 = 48;
 /// Answers that are longer are left out.
 const LONGEST: usize = 12_000;
 /// Of how many small images of each kind the questions for all ids are recorded; of large ones the first of each kind.
@@ -28,10 +30,10 @@ const SMALL_FOR_ALL: u64 = 4;
 /// The result slice for an answer to such a question that is longer.
 const TOO_SHORT: usize = 16;
 
-/// Which questions a file has: those about one id or none, or those for all ids.
+/// Which questions a file has: those about ids or none, or those for all ids.
 #[derive(Clone, Copy, PartialEq)]
 enum Asked {
-    /// About all ids, or some of them, and about none.
+    /// About all ids, or some of them, about pairs of ids, and about none.
     Ids,
     /// For all ids in one answer.
     All,
@@ -71,7 +73,7 @@ struct Damaged {
 }
 
 /// Every question about an image that Plank takes: all ids or some, one id too many, and one slice that is one byte too
-/// short.
+/// short. What a question refuses by a rule of its own, of ids that exist (15), has a slice too short for any word.
 fn of_image(sample: &Sample, asked: Asked) -> Recording {
     let Sample { name, image, .. } = sample;
     let bytes = image.pages();
@@ -86,8 +88,14 @@ fn of_image(sample: &Sample, asked: Asked) -> Recording {
     for kind in asked.kinds() {
         let step = |count: u32| if sample.small { 1 } else { count / SOME_IDS };
         let mut longest: Option<(usize, Question)> = None;
-        for question in kind.about_all(|id| paper.count(id), step) {
-            let answer = agreed(&paper, &plank, question);
+        for question in questions(&paper, kind, step, PAIRS) {
+            let answer = match agreed(&paper, &plank, question) {
+                Ok(answer) => answer,
+                Err(number) => {
+                    calls.push(Recorded::refusal(question, number, calls.len() % 4));
+                    continue;
+                }
+            };
             let length = answer.len();
             if length > LONGEST {
                 let short = Recorded::refusal(question, Refusal::SHORT_RESULT.number(), TOO_SHORT);
@@ -107,11 +115,11 @@ fn of_image(sample: &Sample, asked: Asked) -> Recording {
     Recording { name: asked.file(name), image: bytes, calls }
 }
 
-/// Plank's answer, or the reference's where Plank has none.
-fn agreed(paper: &Reference, plank: &Analyses, question: Question) -> Vec<u8> {
-    let stated = paper.bytes(question).expect("the ids are below their counts");
+/// Plank's answer, or what the reference gives where Plank has none: an answer, or the number of a refusal.
+fn agreed(paper: &Reference, plank: &Analyses, question: Question) -> Result<Vec<u8>, u32> {
+    let stated = paper.bytes(question);
     if let Some(words) = plank.answer(question) {
-        assert_eq!(to_bytes(&words), stated, "{question}");
+        assert_eq!(Ok(to_bytes(&words)), stated, "{question}");
     }
     stated
 }
@@ -123,8 +131,8 @@ fn refused(name: &str, image: &[u8], number: u32, asked: Asked) -> Recording {
     Recording { name: asked.file(name), image: image.to_vec(), calls }
 }
 
-/// Images that Plank takes, by kinds and then the worst.
-fn samples() -> Vec<Sample> {
+/// Images that Plank takes: by kinds, the worst, and two that have a case each of crossings.
+fn taken() -> Vec<Sample> {
     let mut all = Vec::new();
     for (group, count, for_all) in [(Kind::SMALL, SMALL, SMALL_FOR_ALL), (Kind::LARGE, LARGE, 1)] {
         for &kind in group {
@@ -143,6 +151,8 @@ fn samples() -> Vec<Sample> {
         small: false,
         for_all: true,
     }));
+    let named = [("touching", samples::touching()), ("bare_ends", samples::bare_ends())];
+    all.extend(named.map(|(name, image)| Sample { name: name.to_string(), image, small: true, for_all: false }));
     all
 }
 
@@ -166,7 +176,7 @@ fn damaged_images() -> Vec<Damaged> {
 
 /// The questions about ids of all images, then those for all ids.
 fn recordings() -> Vec<Recording> {
-    let (samples, damaged) = (samples(), damaged_images());
+    let (samples, damaged) = (taken(), damaged_images());
     let of = |asked: Asked| {
         let samples = samples.iter().filter(move |sample| asked == Asked::Ids || sample.for_all);
         let damaged = damaged.iter().filter(move |image| asked == Asked::Ids || image.for_all);
@@ -220,13 +230,16 @@ fn readme(files: usize, size: usize, by_number: &BTreeMap<u32, usize>) -> String
     format!(
         "Recorded answers, written by `cargo run --release -p compare --bin record` in the folder rust.\n\
          \n\
-         Answers are those of Plank's own analyses; the rounds, which Plank does not report, and the refusals are those of\n\
-         rust/paper_reference. The proved library had no part in writing them. src/main.rt states the form of a file.\n\
+         Answers are those of Plank's own analyses; the rounds, the open allocations and the crossings, which Plank does not\n\
+         report, and the refusals are those of rust/paper_reference. The proved library had no part in writing them. src/main.rt\n\
+         states the form of a file.\n\
          \n\
          {files} files, {size} bytes. Seeds from {SEED} on: {SMALL} small images of each of {} kinds, all ids; {LARGE} large\n\
          ones of each of {} kinds and the worst of medium size, about {SOME_IDS} ids of each question and no answer above\n\
-         {LONGEST} bytes; {DAMAGED} damaged images of each number that refuses an image. Each accepted image also has an unknown id\n\
-         (13) and a slice one byte too short (14) for each question that can be so refused.\n\
+         {LONGEST} bytes; the images touching and bare_ends of rust/sir_image/src/samples.rs; {DAMAGED} damaged images of each number\n\
+         that refuses an image. Of questions about two ids all pairs, or some where these are more than {PAIRS}. Each accepted\n\
+         image also has an unknown id (13) and a slice one byte too short (14) for each question that can be so refused. Where\n\
+         an operation is not of its block (15) the slice is too short for any answer but an empty one.\n\
          \n\
          Files all_* have the questions for all ids: of {SMALL_FOR_ALL} small images of each kind, of one large one, of the worst, and of one\n\
          damaged image of each number; where an answer is longer, with a slice of {TOO_SHORT} bytes (14).\n\
