@@ -10,12 +10,13 @@
 //! questions grow with the image. `slowest` are legal images on which one run of Plank takes from seconds to a minute.
 //!
 //! The library reads and checks the image anew for every question; Plank begins with a program that is in memory. A
-//! question is timed by itself, as the mean over some ids of each image; for Plank this is the time of the analyses that
-//! it needs and of its answer. Two lines are about all answers, for Plank both one run of all analyses and all answers from
-//! it: "every question about every id" is for the library the sum of the single times, "order, rounds and the seven together"
-//! the time of the two questions without ids and the seven for all ids, one call each. Plank reports no rounds, so that
-//! question has no ratio. Result slices are lent once, of 64 MiB, and not cleared between calls: where the answer is longer,
-//! the time is that of the refusal. A side that was missing when this was built is left out, with a message.
+//! question is timed by itself, as the mean over some ids of each image, or some pairs of them; for Plank this is the time of
+//! the analyses that it needs and of its answer. Two lines are about all answers, for Plank both one run of all analyses and
+//! all answers from it: "every question about every id" is for the library the sum of the single times, "order, rounds and
+//! the seven together" the time of the two questions without ids and the seven for all ids, one call each; questions about two
+//! ids are in neither. Plank reports no rounds, no open allocations and no crossings, so these have no ratio. Result slices are
+//! lent once, of 64 MiB, and not cleared between calls: where the answer is longer, the time is that of the refusal. A side
+//! that was missing when this was built is left out, with a message.
 //!
 //! With `--old` the other side is the library of an archive, such as a `libsir_capi.a` of an earlier state of the
 //! repository; without further words typical images are taken. The C compiler makes a shared object of each of the two
@@ -36,7 +37,7 @@ use sir_questions::{AllocId, Question, QuestionKind};
 use std::hint::black_box;
 use std::process::ExitCode;
 use std::time::Duration;
-use timing::{EVERY, Group, RESULT_BYTES, TOGETHER, Timed, best, head, mean, once, row, together};
+use timing::{EVERY, Group, RESULT_BYTES, TOGETHER, Timed, best, head, is_in_every, mean, once, row, together};
 
 const GROUPS: [&str; 7] = ["typical", "full", "medium", "worst", "stack", "growth", "slowest"];
 
@@ -131,7 +132,7 @@ fn long_answers() -> [(&'static str, Image); 2] {
 
 /// Times questions on images of one kind that grow: blocks, locals and allocations together, three or four operations a block.
 fn growth() {
-    let names = ["order", "owner", "rounds", "allocation", "all_intervals", "all_allocations"];
+    let names = ["order", "owner", "rounds", "allocation", "open", "crossing", "all_intervals", "all_allocations"];
     println!("\ngrowth, one image a row, microseconds of the library");
     println!("{:>6} {:>6} {}", "blocks", "pages", names.map(|name| format!("{name:>16}")).concat());
     let mut result = vec![0; RESULT_BYTES];
@@ -218,10 +219,10 @@ fn table(group: &Group) {
     let mut every = Duration::ZERO;
     for kind in Question::KINDS {
         let mut sums = [Some(Duration::ZERO); 2];
-        let asked: Vec<&Timed> = images.iter().filter(|image| image.count(kind) > 0).collect();
+        let asked: Vec<&Timed> = images.iter().filter(|image| !image.sample(kind).is_empty()).collect();
         for image in &asked {
             let times = mean_times(image, kind, plank, &mut result);
-            if kind.single().is_none() {
+            if is_in_every(kind) {
                 every += times[0].unwrap_or_default() * image.count(kind);
             }
             sums = [0, 1].map(|side| Some(sums[side]? + times[side]?));
@@ -256,6 +257,22 @@ fn mean_times(image: &Timed, kind: &QuestionKind, plank: bool, result: &mut [u8]
 mod tests {
     use super::*;
     use paper_reference::Reference;
+
+    /// What is timed is answered: ids exist, and an operation is one of its block. Where there are ids, some are taken.
+    #[test]
+    fn samples_are_answered() {
+        for group in groups("typical").iter().chain(&groups("full")) {
+            for image in &group.images {
+                let reference = Reference::new(&image.pages()).unwrap();
+                let timed = Timed::new(image);
+                for kind in Question::KINDS.iter().filter(|kind| kind.single().is_none()) {
+                    let sample = timed.sample(kind);
+                    assert_eq!(sample.is_empty(), timed.count(kind) == 0, "{}", kind.name);
+                    assert!(sample.iter().all(|&question| reference.answer(question).is_ok()), "{}", kind.name);
+                }
+            }
+        }
+    }
 
     /// The long answers have room in the result slice, and not much more.
     #[test]

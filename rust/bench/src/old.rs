@@ -1,7 +1,7 @@
 //! An older library beside the present one, both loaded alike and timed in the same run.
 #![allow(unsafe_code)]
 
-use crate::timing::{EVERY, Group, RESULT_BYTES, TOGETHER, Timed, best_of_each, row, together};
+use crate::timing::{EVERY, Group, RESULT_BYTES, TOGETHER, Timed, best_of_each, is_in_every, row, together};
 use sir_analyses::Answer;
 use sir_questions::{Question, QuestionKind};
 use std::ffi::{CString, c_char, c_int, c_void};
@@ -111,13 +111,12 @@ impl Libraries {
                 continue;
             };
             let mut sums = [Duration::ZERO; 2];
-            let asked: Vec<&Timed> = images.iter().filter(|image| image.count(kind) > 0).collect();
+            let asked: Vec<&Timed> = images.iter().filter(|image| !image.sample(kind).is_empty()).collect();
             for image in &asked {
                 let times = mean_times(image, kind, functions, &mut results);
                 for side in 0..2 {
                     sums[side] += times[side];
-                    every[side] +=
-                        if kind.single().is_none() { times[side] * image.count(kind) } else { Duration::ZERO };
+                    every[side] += if is_in_every(kind) { times[side] * image.count(kind) } else { Duration::ZERO };
                 }
             }
             row(kind.name, asked.len() as u32, Some(sums[0]), Some(sums[1]));

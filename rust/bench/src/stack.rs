@@ -1,9 +1,10 @@
 //! The stack that a call takes: the pages of a new thread's stack that have been touched when the call is done.
 
+use crate::timing::Timed;
 use image_gen::{Size, worst};
 use sir_analyses::calls;
-use sir_image::samples;
-use sir_questions::Question;
+use sir_image::{Image, samples};
+use sir_questions::{Question, QuestionKind};
 use std::hint::black_box;
 use std::thread;
 
@@ -12,14 +13,22 @@ const STACK_BYTES: usize = 3 << 19;
 
 /// Prints the most that each question takes, over the images that nest deepest or take longest.
 pub fn table() {
-    let mut images = vec![samples::deepest().pages(), samples::largest().pages()];
-    images.extend(worst(Size::FULL).iter().map(|(_, image)| image.pages()));
+    let worst = worst(Size::FULL).into_iter().map(|(_, image)| image);
+    let images: Vec<Image> = [samples::deepest(), samples::largest()].into_iter().chain(worst).collect();
+    let images: Vec<Timed> = images.iter().map(Timed::new).collect();
     println!("\nstack of a call, the most of {} images; what a thread without a call takes is included", images.len());
     println!("{:16} {:>10}", "no call", shown(touched(|| ())));
     for kind in Question::KINDS {
-        let most = images.iter().map(|image| touched(|| call(image, kind.about_zeros()))).max().flatten();
+        let most = images.iter().map(|image| stack_of(kind, image)).max().flatten();
         println!("{:16} {:>10}", kind.name, shown(most));
     }
+}
+
+/// The stack of the first question of a sample, or of one that is refused where there are no ids.
+fn stack_of(kind: &QuestionKind, image: &Timed) -> Option<u64> {
+    let question = image.sample(kind).first().copied().unwrap_or(kind.about_zeros());
+    let bytes = &image.bytes;
+    touched(|| call(bytes, question))
 }
 
 fn call(image: &[u8], question: Question) {

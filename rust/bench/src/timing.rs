@@ -3,12 +3,15 @@
 use paper_reference::Reference;
 use plank_oracle::{Analyses, Program};
 use sir_image::Image;
-use sir_questions::{Question, QuestionKind};
+use sir_questions::{Question, QuestionKind, spread};
 use std::hint::black_box;
 use std::time::{Duration, Instant};
 
 /// Room for the longest answer that is asked for.
 pub const RESULT_BYTES: usize = 1 << 26;
+
+/// The most ids of a sort that are asked about.
+const SAMPLE: u32 = 4;
 
 /// Images that are timed together.
 pub struct Group {
@@ -50,9 +53,18 @@ impl Timed {
         kind.ids.iter().map(|&id| self.reference.count(id)).product()
     }
 
-    /// Questions of a kind: up to four of each sort of id, spread over all.
+    /// Questions of a kind: up to four of each sort of id, spread over all; of two ids the second goes with the first, as an
+    /// operation of its block.
     pub fn sample(&self, kind: &QuestionKind) -> Vec<Question> {
-        kind.about_all(|id| self.reference.count(id), |count| count.div_ceil(4))
+        let paper = &self.reference;
+        kind.about_each(|id, before| match (kind.ids, before) {
+            (&[of, _], &[first]) => spread(&paper.partners((of, first), id), SAMPLE, 0),
+            (&[of, second], []) => {
+                let has_partners = |&first: &u32| !paper.partners((of, first), second).is_empty();
+                spread(&(0..paper.count(id)).filter(has_partners).collect::<Vec<_>>(), SAMPLE, 0)
+            }
+            _ => spread(&(0..paper.count(id)).collect::<Vec<_>>(), SAMPLE, 0),
+        })
     }
 
     /// The time of Plank's answer and of the analyses that it needs, where Plank has one.
@@ -64,7 +76,8 @@ impl Timed {
 
     /// The time of all of Plank's answers from one run of its analyses.
     pub fn plank_whole(&self) -> Duration {
-        let every = about_ids().flat_map(|kind| kind.about_all(|id| self.reference.count(id), |_| 1));
+        let kinds = Question::KINDS.iter().filter(|kind| is_in_every(kind));
+        let every = kinds.flat_map(|kind| kind.about_all(|id| self.reference.count(id), |_| 1));
         let every: Vec<Question> = every.collect();
         best(|| self.fresh(|plank| every.iter().for_each(|&question| _ = black_box(plank.answer(question)))))
     }
@@ -75,9 +88,10 @@ impl Timed {
     }
 }
 
-/// The questions about one id or none: what the line [`EVERY`] sums up.
-pub fn about_ids() -> impl Iterator<Item = &'static QuestionKind> {
-    Question::KINDS.iter().filter(|kind| kind.single().is_none())
+/// Whether a question is about one id or none: what the line [`EVERY`] sums up. Those about two ids are put for some pairs of
+/// an image and not for all, and Plank has none of them.
+pub fn is_in_every(kind: &QuestionKind) -> bool {
+    kind.single().is_none() && kind.ids.len() < 2
 }
 
 /// The questions that together give all answers about an image: those without ids.
