@@ -8,9 +8,11 @@ use sir_capi::sir_all_owners;
 use sir_capi::sir_all_predecessors;
 use sir_capi::sir_all_uses;
 use sir_capi::sir_allocation;
+use sir_capi::sir_crossing;
 use sir_capi::sir_entry_set;
 use sir_capi::sir_exit_set;
 use sir_capi::sir_intervals;
+use sir_capi::sir_open;
 use sir_capi::sir_order;
 use sir_capi::sir_owner;
 use sir_capi::sir_predecessors;
@@ -56,11 +58,21 @@ fn ask_of_one(question: u32, image: &[u8], id: u32, out: &mut [u8]) -> Answer {
     }
 }
 
+// The questions about two ids.
+fn ask_of_two(question: u32, image: &[u8], first: u32, second: u32, out: &mut [u8]) -> Answer {
+    match question {
+        16 => sir_open(image, first, second, out),
+        17 => sir_crossing(image, first, second, out),
+        _ => unknown(),
+    }
+}
+
 // Puts a question about ids, a word each.
 pub fn ask(question: u32, image: &[u8], ids: &[u8], out: &mut [u8]) -> Answer {
     match ids.len() {
         0 => ask_of_image(question, image, out),
         4 => ask_of_one(question, image, word_at(ids, 0), out),
+        8 => ask_of_two(question, image, word_at(ids, 0), word_at(ids, 1), out),
         _ => unknown(),
     }
 }

@@ -9,6 +9,7 @@
 use plank_core::index::AllocId;
 use plank_core::index::BlockId;
 use plank_core::index::LocalId;
+use plank_core::index::OpIdx;
 use sir_analyses::answers::Answer;
 use sir_answers::ask::ask;
 use sir_answers::questions::LiveQuestion;
@@ -23,6 +24,7 @@ ghost use Rattle.sir_analyses.specs.All.{all};
 ghost use Rattle.sir_analyses.specs.Allocation.{allocs};
 ghost use Rattle.sir_analyses.specs.Answers.{orderAnswer, predecessorsAnswer, usesAnswer, entryAnswer, exitAnswer, roundsAnswer, intervalsAnswer, allocationAnswer, ownerAnswer};
 ghost use Rattle.sir_analyses.specs.Calls.{made, refusal, asked, noRules, known, inWords};
+ghost use Rattle.sir_analyses.specs.Open.{openAt, openRules, crossing, crossingRules};
 ghost use Rattle.sir_analyses.specs.Promise.{Promise};
 
 // For each function of `functions_rpo`: its id, its block count, its block ids.
@@ -190,4 +192,34 @@ pub extern "C" fn sir_all_owners(image: &[u8], out: &mut [u8]) -> Answer
     ensures { λ r. ⌜ (refusal (now (image .entry)) ≡ 0 → Promise (payload (now (image .entry)))) ⌝ }
 {
     ask(image, Question::OfPointers(PointerQuestion::AllOwners), out)
+}
+
+// The unmarked allocations with an interval over an operation of a block, by number. 15: the block does not hold the operation.
+#[no_mangle]
+pub extern "C" fn sir_open(image: &[u8], block: u32, operation: u32, out: &mut [u8]) -> Answer
+    ensures { λ r. ⌜ made (r .number) (r .length) (now (out .exit)) ≡ asked (openRules block operation) (inWords (λ w. openAt w block operation)) (now (image .entry)) (now (out .entry)) ⌝ }
+    ensures { λ r. ⌜ (refusal (now (image .entry)) ≡ 0 → Promise (payload (now (image .entry)))) ⌝ }
+{
+    let b = BlockId(block);
+    let o = OpIdx(operation);
+    ask(
+        image,
+        Question::OfPointers(PointerQuestion::Open(b, o)),
+        out,
+    )
+}
+
+// Whether two allocations cross: 1 or 0, then block + 1 and operation + 1 of the first operation in intervals of both, where one is named.
+#[no_mangle]
+pub extern "C" fn sir_crossing(image: &[u8], one: u32, other: u32, out: &mut [u8]) -> Answer
+    ensures { λ r. ⌜ made (r .number) (r .length) (now (out .exit)) ≡ asked (crossingRules one other) (inWords (λ w. crossing w one other)) (now (image .entry)) (now (out .entry)) ⌝ }
+    ensures { λ r. ⌜ (refusal (now (image .entry)) ≡ 0 → Promise (payload (now (image .entry)))) ⌝ }
+{
+    let a = AllocId(one);
+    let c = AllocId(other);
+    ask(
+        image,
+        Question::OfPointers(PointerQuestion::Crossing(a, c)),
+        out,
+    )
 }

@@ -172,15 +172,15 @@ keep-first f (p ∷ ps) h x xs e q m t = go (f p) refl e m (keep-first f ps (h .
     go false d e (List·Memᴰ·tail k) r = r x xs e q k t
 
 module _ (w : List ℕ) where
-  pub places-in : (b o : ℕ) → b < blocks w → o ∈ ops w b → List·Memᴰ (placeOf b o) (places w)
-  places-in b o l m = bind-mem (λ (b : ℕ). map (placeOf b) (ops w b)) (upto-mem b (blocks w) l) (Memᴰ·map (placeOf b) m)
-
   pub places-out : (p : Place) → List·Memᴰ p (places w) → (p .block < blocks w) × (p .op ∈ ops w (p .block))
   places-out p m =
       let r = bind-out (λ (b : ℕ). map (placeOf b) (ops w b)) (upto (blocks w)) m in
       let k = Memᴰ·of-map (placeOf (r .0)) (ops w (r .0)) (r .2) in
       let l : r .0 < blocks w = mem-upto (r .0) (blocks w) (r .1) in
       subst (λ (q : Place). (q .block < blocks w) × (q .op ∈ ops w (q .block))) (k .2) (l, k .1)
+
+  pub places-in : (b o : ℕ) → b < blocks w → o ∈ ops w b → List·Memᴰ (placeOf b o) (places w)
+  places-in b o l m = bind-mem (λ (b : ℕ). map (placeOf b) (ops w b)) (upto-mem b (blocks w) l) (Memᴰ·map (placeOf b) m)
 
   -- ---- open
 
