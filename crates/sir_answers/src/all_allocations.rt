@@ -73,7 +73,7 @@ fn close_before(
 }
 
 // The allocations with a local in the set, ascending, to the front of `ids`: how many.
-pub fn live_owners<'a>(owned: &'a [u64], set: &'a [u64], ids: &mut [u32]) -> usize
+fn live_owners<'a>(owned: &'a [u64], set: &'a [u64], ids: &mut [u32]) -> usize
     requires { ⌜ ((w : List ℕ) × OwnedTables w (now owned)) ⌝ }
     requires { ⌜ (length (now set) ≡ 8) × (length (now ids) ≡ 512) ⌝ }
     ensures { λ r. ⌜ (r ≤ 512) × LiveOwners (now (owned .entry)) (now (set .entry)) (take r (now (ids .exit))) ⌝ }

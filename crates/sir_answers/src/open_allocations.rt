@@ -1,9 +1,10 @@
 // Which allocations are open at an operation: the unmarked ones with a local that is live before it or after it.
-use crate::all_allocations::live_owners;
-use crate::owned_tables::OWNED;
-use crate::owned_tables::owned_tables;
+use crate::owned_tables::unmarked_owner;
+use plank_core::dense_index_set::list;
 use plank_core::index::BlockId;
+use plank_core::index::LocalId;
 use plank_core::index::OpIdx;
+use plank_core::rows::row_add;
 use plank_core::rows::row_of;
 use plank_core::rows::row_union_with;
 use sir_analyses::answers::Answer;
@@ -16,10 +17,12 @@ use sir_analyses::stages::is_visited;
 use sir_analyses::stages::reads;
 use sir_data::records::block_operations;
 ghost use mathlib.Core.Path.{_≡_};
-ghost use mathlib.Core.Bool.{true, _||_};
-ghost use Prim.Native.Nat.{ℕ, _+_, _*_, _<_};
-ghost use lib.ListN.{length, replicate};
-ghost use Rattle.plank_core.specs.Lists.{bind, _∈_};
+ghost use mathlib.Core.Bool.{true, _&&_, _||_};
+ghost use mathlib.Core.List.{List, map};
+ghost use Prim.Native.Nat.{ℕ, _+_, _*_, _≤_, _<_};
+ghost use lib.ListN.{length, take, replicate};
+ghost use lib.Dec.{eqb};
+ghost use Rattle.plank_core.specs.Lists.{bind, mem, _∈_};
 ghost use Rattle.plank_core.specs.inner.DenseIndexSet.{contains};
 ghost use Rattle.sir_data.specs.Pages.{bytesOf};
 ghost use Rattle.sir_data.specs.Records.{blocks, ops};
@@ -27,7 +30,9 @@ ghost use Rattle.sir_analyses.specs.Order.{isVisited};
 ghost use Rattle.sir_analyses.specs.Calls.{made, answered};
 ghost use Rattle.sir_analyses.specs.Open.{openAt};
 ghost use Rattle.sir_analyses.specs.inner.Stages.{VisitStage, LivenessStage, PointerStage, readsIn};
-ghost use Rattle.sir_answers.specs.inner.LiveAround.{LiveAround};
+ghost use Rattle.sir_analyses.specs.inner.Tables.{Adds};
+ghost use Rattle.sir_answers.specs.inner.AllocationPieces.{unmarkedOwner};
+ghost use Rattle.sir_answers.specs.inner.LiveAround.{LiveAround, UnmarkedOwners};
 
 // The locals that are live before operation o or after it, from those live after it.
 pub fn live_around(live: &[u64], o: OpIdx, set: &mut [u64])
@@ -54,6 +59,35 @@ fn scan_to(words: &[u32], live: &[u64], b: BlockId, o: OpIdx, set: &mut [u64])
     live_around(live, o, set);
 }
 
+// Adds the owners of some locals to a set, but those that are marked.
+fn add_owners(pointers: &[u32], ids: &[u32], owners: &mut [u64])
+    requires { ⌜ ((w : List ℕ) × PointerStage w (now pointers)) ⌝ }
+    requires { ⌜ ((v : ℕ) → v ∈ now ids → v < 512) ⌝ }
+    requires { ⌜ length (now owners) ≡ 8 ⌝ }
+    ensures { λ _. ⌜ Adds (now (owners .entry)) (λ r a. mem (a + 1) (map (unmarkedOwner (now (pointers .entry))) (now (ids .entry))) && eqb r 0) (now (owners .exit)) ⌝ }
+{
+    let mut i: usize = 0;
+    while i < ids.len() {
+        let owner = unmarked_owner(pointers, LocalId(ids[i]));
+        i += 1;
+        if owner != 0 {
+            row_add(owners, 0, owner - 1);
+        }
+    }
+}
+
+// The owners of the locals of a set, but those that are marked, ascending, to the front of `ids`: how many.
+fn owners_of(pointers: &[u32], set: &[u64], ids: &mut [u32]) -> usize
+    requires { ⌜ ((w : List ℕ) × PointerStage w (now pointers)) ⌝ }
+    requires { ⌜ (length (now set) ≡ 8) × (length (now ids) ≡ 512) ⌝ }
+    ensures { λ r. ⌜ (r ≤ 512) × UnmarkedOwners (now (pointers .entry)) (now (set .entry)) (take r (now (ids .exit))) ⌝ }
+{
+    let n = list(set, ids);
+    let mut owners = [0u64; 8];
+    add_owners(pointers, &ids[..n], &mut owners);
+    list(&owners, ids)
+}
+
 // The allocations that are open at operation o of block b, which is visited.
 fn open_in_visited(
     words: &[u32],
@@ -68,12 +102,10 @@ fn open_in_visited(
     requires { ⌜ (b .0 < blocks (now words)) × (o .0 ∈ ops (now words) (b .0)) × (isVisited (now words) (b .0) ≡ true) ⌝ }
     ensures { λ r. ⌜ made (r .number) (r .length) (now (out .exit)) ≡ answered (bind (openAt (now (words .entry)) (b .0) (o .0)) bytesOf) (now (out .entry)) ⌝ }
 {
-    let mut owned = [0u64; OWNED];
-    owned_tables(words, pointers, &mut owned);
     let mut set = [0u64; 8];
     scan_to(words, live, b, o, &mut set);
     let mut ids = [0u32; 512];
-    let n = live_owners(&owned, &set, &mut ids);
+    let n = owners_of(pointers, &set, &mut ids);
     words_answer(&ids[..n], out)
 }
 

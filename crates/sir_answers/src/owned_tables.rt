@@ -36,7 +36,7 @@ pub const OWN_WORDS: usize = 4104;
 pub const OWNED: usize = 4616;
 
 // The owner of local v: its allocation + 1; 0 where it has none, or where that allocation is marked.
-fn unmarked_owner(pointers: &[u32], v: LocalId) -> u32
+pub fn unmarked_owner(pointers: &[u32], v: LocalId) -> u32
     requires { ⌜ (length (now pointers) ≡ 2051) × (v .0 < 512) × (getD (ownersIn (now pointers)) (v .0) 0 ≤ 512) ⌝ }
     ensures { λ r. ⌜ (r ≡ unmarkedOwner (now (pointers .entry)) (v .0)) × (r ≤ 512) ⌝ }
 {

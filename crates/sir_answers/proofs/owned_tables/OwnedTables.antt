@@ -23,7 +23,7 @@ use Rattle.sir_analyses.specs.Allocation.{allocs, allocAt, reach, marked}
 use Rattle.sir_analyses.specs.inner.Tables.{Adds}
 use Rattle.sir_analyses.specs.inner.Stages.{part, ownersIn, marksIn, PointerStage}
 use Rattle.sir_answers.specs.inner.Scatter.{numberAt}
-use Rattle.sir_answers.specs.inner.AllocationPieces.{ownReach, unownedIn, ownRowsIn, ownerIn, unmarkedOwner, OwnedTables, OwnedListed, ownsOne, livesIn, side}
+use Rattle.sir_answers.specs.inner.AllocationPieces.{ownReach, unownedIn, ownRowsIn, ownerIn, unmarkedOwner, OwnedTables, OwnedListed, livesIn, side}
 use Rattle.sir_analyses.proofs.SetLaws.{none-in}
 use Rattle.sir_analyses.proofs.claims.liveness.GenKill.{beyond}
 use Rattle.sir_analyses.proofs.claims.marks.Marks.{reach-length}
@@ -139,7 +139,7 @@ module _ {w pointers : List ℕ} (stage : PointerStage w pointers) where
       go false e m u = other-owner v (a + 1) (λ q. omega arith) (eqb-false (owner v) (a + 1) e) ∙ sym (and-false (not m))
 
   -- the locals by which an allocation lives
-  own-rows-are : (a v : ℕ) → has (ownReach w a) v ≡ (ltb v (locals w) && eqb (unmarkedOwner pointers v) (a + 1))
+  pub own-rows-are : (a v : ℕ) → has (ownReach w a) v ≡ (ltb v (locals w) && eqb (unmarkedOwner pointers v) (a + 1))
   own-rows-are a v = ⊎-elim known unknown (split a (length (allocs w)))
     where
       unknown : length (allocs w) ≤ a → has (ownReach w a) v ≡ (ltb v (locals w) && eqb (unmarkedOwner pointers v) (a + 1))
@@ -248,22 +248,23 @@ side-zero owned set a v h x y =
 
 -- ---- the owners of the first of some locals are in their rows
 
-module _ (owned set ids t₀ t : List ℕ) where
+-- own: the owner of a local, plus 1, or 0; row: where an allocation goes
+module _ (own row : ℕ → ℕ) (ids t₀ t : List ℕ) where
   -- which allocations stand where, for the first i locals
   abbrev pub splitTo : ℕ → ℕ → ℕ → Bool
-  splitTo i r a = mem (a + 1) (map (ownerIn owned) (take i ids)) && eqb r (side owned set a)
+  splitTo i r a = mem (a + 1) (map own (take i ids)) && eqb r (row a)
 
   pub split-none : Adds t₀ (splitTo 0) t₀
   split-none = adds-none (λ r a h. refl)
 
-  pub split-more : {t′ : List ℕ} (i o : ℕ) → i < length ids → o ≡ ownerIn owned (getD ids i 0) → ¬ (o ≡ 0) → o ≤ 512 → t′ ≡ added t (512 * side owned set (o - 1) + (o - 1)) → Adds t₀ (splitTo i) t → Adds t₀ (splitTo (i + 1)) t′
-  split-more i o h e n l p k = rw p (adds-as (λ r a q. go r a (eqb a (o - 1)) refl) (adds-then k (adds-one t (side owned set (o - 1)) (o - 1) (omega (arith, n)))))
+  pub split-more : {t′ : List ℕ} (i o : ℕ) → i < length ids → o ≡ own (getD ids i 0) → ¬ (o ≡ 0) → o ≤ 512 → t′ ≡ added t (512 * row (o - 1) + (o - 1)) → Adds t₀ (splitTo i) t → Adds t₀ (splitTo (i + 1)) t′
+  split-more i o h e n l p k = rw p (adds-as (λ r a q. go r a (eqb a (o - 1)) refl) (adds-then k (adds-one t (row (o - 1)) (o - 1) (omega (arith, n)))))
     where
-      go : (r a : ℕ) (x : Bool) → eqb a (o - 1) ≡ x → ((mem (a + 1) (map (ownerIn owned) (take i ids)) && eqb r (side owned set a)) || (eqb r (side owned set (o - 1)) && eqb a (o - 1))) ≡ (mem (a + 1) (map (ownerIn owned) (take (i + 1) ids)) && eqb r (side owned set a))
+      go : (r a : ℕ) (x : Bool) → eqb a (o - 1) ≡ x → ((mem (a + 1) (map own (take i ids)) && eqb r (row a)) || (eqb r (row (o - 1)) && eqb a (o - 1))) ≡ (mem (a + 1) (map own (take (i + 1) ids)) && eqb r (row a))
       go r a true q =
           let z : a ≡ o - 1 = eqb-true a (o - 1) q in
-          let y : a + 1 ≡ ownerIn owned (getD ids i 0) = omega (arith, n) in
-          rw (← mapped-next (ownerIn owned) ids i h (a + 1), eq-eqb (a + 1) (ownerIn owned (getD ids i 0)) y, q, ← z) (by (mem (a + 1) (map (ownerIn owned) (take i ids))) (eqb r (side owned set a)))
+          let y : a + 1 ≡ own (getD ids i 0) = omega (arith, n) in
+          rw (← mapped-next own ids i h (a + 1), eq-eqb (a + 1) (own (getD ids i 0)) y, q, ← z) (by (mem (a + 1) (map own (take i ids))) (eqb r (row a)))
         where
           by : (x y : Bool) → ((x && y) || (y && true)) ≡ ((x || true) && y)
           by true true = refl
@@ -272,14 +273,14 @@ module _ (owned set ids t₀ t : List ℕ) where
           by false false = refl
       go r a false q =
           let z : ¬ (a ≡ o - 1) = eqb-false a (o - 1) q in
-          rw (← mapped-next (ownerIn owned) ids i h (a + 1), ne-eqb (a + 1) (ownerIn owned (getD ids i 0)) (λ y. z (omega arith)), q, and-false, or-false, or-false)
+          rw (← mapped-next own ids i h (a + 1), ne-eqb (a + 1) (own (getD ids i 0)) (λ y. z (omega arith)), q, and-false, or-false, or-false)
 
-  pub split-skip : (i : ℕ) → i < length ids → ownerIn owned (getD ids i 0) ≡ 0 → Adds t₀ (splitTo i) t → Adds t₀ (splitTo (i + 1)) t
+  pub split-skip : (i : ℕ) → i < length ids → own (getD ids i 0) ≡ 0 → Adds t₀ (splitTo i) t → Adds t₀ (splitTo (i + 1)) t
   split-skip i h e k =
-      adds-as (λ r a q. rw (← mapped-next (ownerIn owned) ids i h (a + 1), e, ne-eqb (a + 1) 0 (λ y. omega arith), or-false)) k
+      adds-as (λ r a q. rw (← mapped-next own ids i h (a + 1), e, ne-eqb (a + 1) 0 (λ y. omega arith), or-false)) k
 
-  pub split-all : (i : ℕ) → length ids ≤ i → Adds t₀ (splitTo i) t → Adds t₀ (λ r a. ownsOne owned ids a && eqb r (side owned set a)) t
-  split-all i h k = adds-as (λ r a q. ap (λ (l : List ℕ). mem (a + 1) (map (ownerIn owned) l) && eqb r (side owned set a)) (take-all i ids h)) k
+  pub split-all : (i : ℕ) → length ids ≤ i → Adds t₀ (splitTo i) t → Adds t₀ (λ r a. mem (a + 1) (map own ids) && eqb r (row a)) t
+  split-all i h k = adds-as (λ r a q. ap (λ (l : List ℕ). mem (a + 1) (map own l) && eqb r (row a)) (take-all i ids h)) k
 
 -- ---- reading
 

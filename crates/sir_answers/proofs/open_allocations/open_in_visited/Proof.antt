@@ -19,51 +19,40 @@ use borrow.Author.Needs.{needs}
 use Rattle.sir_answers.proofs.open_allocations.open_in_visited.Statement.{statement}
 use Rattle.sir_answers.proofs.open_allocations.open_in_visited.Tie as tie
 
-slice-aggregate-owned-tables : tie.Need-slice-aggregate-owned-tables
-slice-aggregate-owned-tables c = search needs
-
-owned-tables-requires : tie.Need-owned-tables-requires
-owned-tables-requires c κs = search needs
-
 slice-aggregate-scan-to : tie.Need-slice-aggregate-scan-to
 slice-aggregate-scan-to c = search needs
 
 scan-to-requires : tie.Need-scan-to-requires
 scan-to-requires c κs = search needs
 
-slice-aggregate-live-owners : tie.Need-slice-aggregate-live-owners
-slice-aggregate-live-owners c = search needs
+slice-aggregate-owners-of : tie.Need-slice-aggregate-owners-of
+slice-aggregate-owners-of c = search needs
 
-slice-aggregate-live-owners-2 : tie.Need-slice-aggregate-live-owners-2
-slice-aggregate-live-owners-2 c = search needs
+slice-aggregate-owners-of-2 : tie.Need-slice-aggregate-owners-of-2
+slice-aggregate-owners-of-2 c = search needs
 
-slice-aggregate-live-owners-3 : tie.Need-slice-aggregate-live-owners-3
-slice-aggregate-live-owners-3 c = search needs
-
-live-owners-requires : tie.Need-live-owners-requires
-live-owners-requires c κs = search needs
+owners-of-requires : tie.Need-owners-of-requires
+owners-of-requires c κs = search needs
 
 array-share-prefix-ids : tie.Need-array-share-prefix-ids
 array-share-prefix-ids c = search needs
 
 slice-aggregate-words-answer : tie.Need-slice-aggregate-words-answer
 slice-aggregate-words-answer c =
-    let at-live-owners = c .before .before in
-    front-length _ _ (omega (arith, at-live-owners .live-owners .ensures .0, at-live-owners .live-owners .kept))
+    let at-owners-of = c .before .before in
+    front-length _ _ (omega (arith, at-owners-of .owners-of .ensures .0, at-owners-of .owners-of .kept))
 
 words-answer-requires : tie.Need-words-answer-requires
 words-answer-requires c κs =
-    let at-live-owners = c .before .before .before in
-    let at-scan-to = at-live-owners .before .before .before .before .before in
-    let at-owned-tables = at-scan-to .before .before .before in
-    let start = at-owned-tables .before .before .before .before .before .before in
+    let at-owners-of = c .before .before .before in
+    let at-scan-to = at-owners-of .before .before .before .before in
+    let start = at-scan-to .before .before .before .before .before .before in
     let pointers = start .pre .1 .0 in
     let place = start .pre .1 .1 in
     let w = start .args .words .now in
     let b = start .args .b .0 in
-    let o = start .args .o .0 in
-    let listed = open-listed (pointers .well-formed) (blocks-seen w b .1 (place .2)) (place .1) (at-scan-to .scan-to .ensures) (at-owned-tables .owned-tables .ensures) (at-live-owners .live-owners .ensures .1) (allocations-few pointers) in
-    omega (arith, ap length listed, keep-most (isOpen w b o) (upto (length (allocs w))), length-count 0 (length (allocs w)), allocations-few pointers)
+    let listed = open-listed (pointers .well-formed) (blocks-seen w b .1 (place .2)) (place .1) (at-scan-to .scan-to .ensures) pointers (at-owners-of .owners-of .ensures .1) in
+    omega (arith, ap length listed, keep-most (isOpen w b (start .args .o .0)) (upto (length (allocs w))), length-count 0 (length (allocs w)), allocations-few pointers)
 
 same-length : tie.Need-same-length
 same-length c = search needs
@@ -71,28 +60,24 @@ same-length c = search needs
 returns : tie.Need-returns
 returns c =
     let at-words-answer = c .before .before in
-    let at-live-owners = at-words-answer .before .before .before .before in
-    let at-scan-to = at-live-owners .before .before .before .before .before in
-    let at-owned-tables = at-scan-to .before .before .before in
-    let start = at-owned-tables .before .before .before .before .before .before in
+    let at-owners-of = at-words-answer .before .before .before .before in
+    let at-scan-to = at-owners-of .before .before .before .before in
+    let start = at-scan-to .before .before .before .before .before .before in
     let pointers = start .pre .1 .0 in
     let place = start .pre .1 .1 in
     let w = start .args .words .now in
-    let listed = open-listed (pointers .well-formed) (blocks-seen w (start .args .b .0) .1 (place .2)) (place .1) (at-scan-to .scan-to .ensures) (at-owned-tables .owned-tables .ensures) (at-live-owners .live-owners .ensures .1) (allocations-few pointers) in
+    let listed = open-listed (pointers .well-formed) (blocks-seen w (start .args .b .0) .1 (place .2)) (place .1) (at-scan-to .scan-to .ensures) pointers (at-owners-of .owners-of .ensures .1) in
     at-words-answer .words-answer .ensures ∙ ap (λ (l : List ℕ). answered (bind l bytesOf) (start .args .out .now)) listed
 
 pub open-in-visited-spec : {M : Type 1} → statement M
 open-in-visited-spec =
     tie.close
     (tie.spec
-    slice-aggregate-owned-tables
-    owned-tables-requires
     slice-aggregate-scan-to
     scan-to-requires
-    slice-aggregate-live-owners
-    slice-aggregate-live-owners-2
-    slice-aggregate-live-owners-3
-    live-owners-requires
+    slice-aggregate-owners-of
+    slice-aggregate-owners-of-2
+    owners-of-requires
     array-share-prefix-ids
     slice-aggregate-words-answer
     words-answer-requires

@@ -6,13 +6,13 @@ use lib.ListN.{length, getD}
 use borrow.Author.Tests.{eq-eqb}
 use Rattle.plank_core.specs.laws.Lists.{getD-mem}
 use Rattle.sir_analyses.specs.inner.Tables.{Adds}
-use Rattle.sir_answers.specs.inner.AllocationPieces.{ownerIn}
+use Rattle.sir_answers.specs.inner.AllocationPieces.{ownerIn, side}
 use Rattle.sir_answers.proofs.owned_tables.OwnedTables.{splitTo, split-none, split-more, split-skip, split-all, owner-read, side-most}
 use Rattle.sir_answers.proofs.owned_tables.split_owners.Statement.{statement}
 use Rattle.sir_answers.proofs.owned_tables.split_owners.Tie as tie
 
 abbrev Inv-loop : tie.InvT-loop
-Inv-loop ids owned set split₀ i₀ split i = (i ≤ length ids) × (length split ≡ length split₀) × Adds split₀ (splitTo owned set ids split₀ split i) split
+Inv-loop ids owned set split₀ i₀ split i = (i ≤ length ids) × (length split ≡ length split₀) × Adds split₀ (splitTo (ownerIn owned) (side owned set) ids split₀ split i) split
 
 abbrev μ-loop : tie.MeasureT-loop
 μ-loop ids owned set split₀ i₀ split i = length ids - i
@@ -20,7 +20,7 @@ abbrev μ-loop : tie.MeasureT-loop
 loop-holds : tie.Need-loop-holds Inv-loop μ-loop
 loop-holds c =
     let start = c .before .before .before .before in
-    (omega arith, refl, split-none (start .args .owned .now) (start .args .set .now) (start .args .ids .now) (start .args .split .now) (start .args .split .now))
+    (omega arith, refl, split-none (ownerIn (start .args .owned .now)) (side (start .args .owned .now) (start .args .set .now)) (start .args .ids .now) (start .args .split .now) (start .args .split .now))
 
 mul-v : tie.Need-mul-v Inv-loop μ-loop
 mul-v c = omega arith
@@ -162,7 +162,7 @@ loop-again c =
     let most : o ≤ 512 = tables .owner-most v small in
     let n = rw read at (at-if1 .if1 .taken) in
     let p = rw (at-side-of .side-of .ensures, read) at (at-row-add .row-add .ensures .1) in
-    (omega (arith, h), omega (arith, at-row-add .row-add .kept, L .inv .1), split-more (a .owned .now) (a .set .now) (a .ids .now) (a .split .now) (L .split) (L .i) o h refl n most p (L .inv .2))
+    (omega (arith, h), omega (arith, at-row-add .row-add .kept, L .inv .1), split-more (ownerIn (a .owned .now)) (side (a .owned .now) (a .set .now)) (a .ids .now) (a .split .now) (L .split) (L .i) o h refl n most p (L .inv .2))
 
 loop-less-2 : tie.Need-loop-less-2 Inv-loop μ-loop
 loop-less-2 c =
@@ -179,7 +179,7 @@ loop-again-2 c =
     let v = getD (a .ids .now) (L .i) 0 in
     let h = at-loop-test .loop-test .taken in
     let small : v < 512 = start .pre .0 v (getD-mem (a .ids .now) (L .i) 0 h) in
-    (omega (arith, h), L .inv .1, split-skip (a .owned .now) (a .set .now) (a .ids .now) (a .split .now) (L .split) (L .i) h (sym (owner-read (a .owned .now) v small) ∙ c .if1 .left) (L .inv .2))
+    (omega (arith, h), L .inv .1, split-skip (ownerIn (a .owned .now)) (side (a .owned .now) (a .set .now)) (a .ids .now) (a .split .now) (L .split) (L .i) h (sym (owner-read (a .owned .now) v small) ∙ c .if1 .left) (L .inv .2))
 
 same-length : tie.Need-same-length Inv-loop μ-loop
 same-length c =
@@ -191,7 +191,7 @@ returns c =
     let at-loop = c .before in
     let start = at-loop .before .before .before .before .before in
     let a = start .args in
-    split-all (a .owned .now) (a .set .now) (a .ids .now) (a .split .now) (at-loop .loop .split) (at-loop .loop .i) (c .loop-test .left) (at-loop .loop .inv .2)
+    split-all (ownerIn (a .owned .now)) (side (a .owned .now) (a .set .now)) (a .ids .now) (a .split .now) (at-loop .loop .split) (at-loop .loop .i) (c .loop-test .left) (at-loop .loop .inv .2)
 
 pub split-owners-spec : {M : Type 1} → statement M
 split-owners-spec =
