@@ -77,7 +77,8 @@ returns-2 : tie.Need-returns-2
 returns-2 c =
     let at-words-answer2 = c .before .before in
     let at-unmarked-crossing = at-words-answer2 .before .before .before .before .before in
-    let start = at-unmarked-crossing .before .before .before .before .before .before .before .before .before in
+    let at-slice-known = at-unmarked-crossing .before .before .before .before .before in
+    let start = at-slice-known .before .before .before .before in
     at-words-answer2 .words-answer2 .ensures ∙ ap (λ (l : List ℕ). answered (bind l bytesOf) (start .args .out .now)) (at-unmarked-crossing .unmarked-crossing .ensures)
 
 pub crossing-answer-spec : {M : Type 1} → statement M

@@ -25,14 +25,16 @@ block-count-requires c κs =
 
 loop-holds : tie.Need-loop-holds Inv-loop μ-loop
 loop-holds c =
-    let start = c .before .before .before .before .before .before in
+    let at-shared-slice-known = c .before .before .before .before .before in
+    let start = at-shared-slice-known .before in
     λ a d x y. crossing-starts (start .args .words .now) a d (x .unmarked) (y .unmarked)
 
 is-visited-requires : tie.Need-is-visited-requires Inv-loop μ-loop
 is-visited-requires c κs =
     let at-loop = c .before in
     let at-block-count = at-loop .before in
-    let start = at-block-count .before .before .before .before .before .before in
+    let at-shared-slice-known = at-block-count .before .before .before .before .before in
+    let start = at-shared-slice-known .before in
     (start .pre .0 .long, omega (arith, c .loop-test .taken, at-block-count .block-count .ensures, start .pre .0 .well-formed .sized .blocks-most))
 
 first-common-requires : tie.Need-first-common-requires Inv-loop μ-loop
@@ -41,7 +43,8 @@ first-common-requires c κs =
     let at-loop-test = at-is-visited .before in
     let at-loop = at-loop-test .before in
     let at-block-count = at-loop .before in
-    let start = at-block-count .before .before .before .before .before .before in
+    let at-shared-slice-known = at-block-count .before .before .before .before .before in
+    let start = at-shared-slice-known .before in
     let b = at-loop .loop .b in
     let h : b < blocks (start .args .words .now) = omega (arith, at-loop-test .loop-test .taken, at-block-count .block-count .ensures) in
     (start .pre .1 .0, (h, sym (at-is-visited .is-visited .ensures ∙ start .pre .0 .visited-is b h) ∙ c .if1 .taken, start .pre .1 .1 .0, start .pre .1 .1 .1))
@@ -57,7 +60,8 @@ returns c =
     let at-loop-test = at-first-common .before .before .before in
     let at-loop = at-loop-test .before in
     let at-block-count = at-loop .before in
-    let start = at-block-count .before .before .before .before .before .before in
+    let at-shared-slice-known = at-block-count .before .before .before .before .before in
+    let start = at-shared-slice-known .before in
     let w = start .args .words .now in
     let b = at-loop .loop .b in
     let h : b < blocks w = omega (arith, at-loop-test .loop-test .taken, at-block-count .block-count .ensures) in
@@ -79,7 +83,8 @@ loop-again c =
     let at-loop-test = at-is-visited .before in
     let at-loop = at-loop-test .before in
     let at-block-count = at-loop .before in
-    let start = at-block-count .before .before .before .before .before .before in
+    let at-shared-slice-known = at-block-count .before .before .before .before .before in
+    let start = at-shared-slice-known .before in
     let w = start .args .words .now in
     let b = at-loop .loop .b in
     let h : b < blocks w = omega (arith, at-loop-test .loop-test .taken, at-block-count .block-count .ensures) in
@@ -96,7 +101,8 @@ returns-2 : tie.Need-returns-2 Inv-loop μ-loop
 returns-2 c =
     let at-loop = c .before in
     let at-block-count = at-loop .before in
-    let start = at-block-count .before .before .before .before .before .before in
+    let at-shared-slice-known = at-block-count .before .before .before .before .before in
+    let start = at-shared-slice-known .before in
     let w = start .args .words .now in
     λ a d x y. sym (at-loop .loop .inv a d x y ∙ crossing-ends w a d (at-loop .loop .b) (omega (arith, c .loop-test .left, at-block-count .block-count .ensures)))
 

@@ -30,13 +30,15 @@ live-after-requires c κs =
 
 block-operations-requires : tie.Need-block-operations-requires Inv-loop μ-loop
 block-operations-requires c κs =
-    let start = c .before .before .before .before .before .before .before in
+    let at-shared-slice-known2 = c .before .before .before .before .before in
+    let start = at-shared-slice-known2 .before .before in
     (start .pre .0 .well-formed .sized, start .pre .1 .0)
 
 loop-holds : tie.Need-loop-holds Inv-loop μ-loop
 loop-holds c =
     let at-live-after = c .before .before in
-    let start = at-live-after .before .before .before .before .before .before in
+    let at-shared-slice-known = at-live-after .before .before .before .before .before in
+    let start = at-shared-slice-known .before in
     let span = c .block-operations in (
       omega (arith, span .ensures, start .pre .0 .well-formed .in-range .ops-range (start .args .b .0) (start .pre .1 .0)),
       omega arith,
@@ -56,7 +58,8 @@ live-around-requires : tie.Need-live-around-requires Inv-loop μ-loop
 live-around-requires c κs =
     let at-loop = c .before .before in
     let at-block-operations = at-loop .before in
-    let start = at-block-operations .before .before .before .before .before .before .before .before in
+    let at-shared-slice-known3 = at-block-operations .before .before .before .before .before in
+    let start = at-shared-slice-known3 .before .before .before in
     (start .pre .0 .long, omega (arith, at-loop .loop .inv .1, at-block-operations .block-operations .ensures, start .pre .0 .well-formed .in-range .ops-range (start .args .b .0) (start .pre .1 .0), start .pre .0 .well-formed .sized .operations-most), at-loop .loop .inv .2)
 
 slice-aggregate-both-meet : tie.Need-slice-aggregate-both-meet Inv-loop μ-loop
@@ -70,7 +73,8 @@ both-meet-requires c κs =
     let at-live-around = c .before .before in
     let at-loop = at-live-around .before .before .before in
     let at-live-after = at-loop .before .before .before in
-    let start = at-live-after .before .before .before .before .before .before in
+    let at-shared-slice-known = at-live-after .before .before .before .before .before in
+    let start = at-shared-slice-known .before in
     (start .pre .1 .2, start .pre .1 .3, omega (arith, at-live-around .live-around .kept, at-loop .loop .inv .2))
 
 earliest-requires : tie.Need-earliest-requires Inv-loop μ-loop
@@ -78,7 +82,8 @@ earliest-requires c κs =
     let at-loop-test = c .before .before .before .before .before in
     let at-loop = at-loop-test .before in
     let at-block-operations = at-loop .before in
-    let start = at-block-operations .before .before .before .before .before .before .before .before in
+    let at-shared-slice-known3 = at-block-operations .before .before .before .before .before in
+    let start = at-shared-slice-known3 .before .before .before in
     omega (arith, at-loop .loop .inv .1, at-block-operations .block-operations .ensures, start .pre .0 .well-formed .in-range .ops-range (start .args .b .0) (start .pre .1 .0), start .pre .0 .well-formed .sized .operations-most)
 
 slice-aggregate-live-before : tie.Need-slice-aggregate-live-before Inv-loop μ-loop
@@ -92,7 +97,8 @@ live-before-requires c κs =
     let at-live-around = c .before .before .before .before .before in
     let at-loop = at-live-around .before .before .before in
     let at-block-operations = at-loop .before in
-    let start = at-block-operations .before .before .before .before .before .before .before .before in
+    let at-shared-slice-known3 = at-block-operations .before .before .before .before .before in
+    let start = at-shared-slice-known3 .before .before .before in
     (start .pre .0 .long, omega (arith, at-loop .loop .inv .1, at-block-operations .block-operations .ensures, start .pre .0 .well-formed .in-range .ops-range (start .args .b .0) (start .pre .1 .0), start .pre .0 .well-formed .sized .operations-most), omega (arith, at-live-around .live-around .kept, at-loop .loop .inv .2))
 
 loop-less : tie.Need-loop-less Inv-loop μ-loop
@@ -107,7 +113,8 @@ loop-again c =
     let at-loop-test = at-live-around .before .before in
     let at-loop = at-loop-test .before in
     let at-block-operations = at-loop .before in
-    let start = at-block-operations .before .before .before .before .before .before .before .before in
+    let at-shared-slice-known3 = at-block-operations .before .before .before .before .before in
+    let start = at-shared-slice-known3 .before .before .before in
     let l = at-loop .loop in
     let span = at-block-operations .block-operations in
     let f = at-live-around .live-around in
@@ -129,7 +136,8 @@ returns c =
     let at-loop = c .before in
     let at-block-operations = at-loop .before in
     let at-live-after = at-block-operations .before .before in
-    let start = at-live-after .before .before .before .before .before .before in
+    let at-shared-slice-known = at-live-after .before .before .before .before .before in
+    let start = at-shared-slice-known .before in
     let w = start .args .words .now in
     let b = start .args .b .0 in
     let l = at-loop .loop in

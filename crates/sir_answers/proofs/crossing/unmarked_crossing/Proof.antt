@@ -18,7 +18,8 @@ slice-aggregate-owned-locals c = search needs
 
 owned-locals-requires : tie.Need-owned-locals-requires
 owned-locals-requires c κs =
-    let start = c .before .before .before .before .before .before .before in
+    let at-shared-slice-known2 = c .before .before .before .before .before in
+    let start = at-shared-slice-known2 .before .before in
     let pointers = start .pre .1 .0 in
     let known = start .pre .1 .1 .0 in
     (start .pre .0 .well-formed, (pointers .long, omega (arith, known .0, allocations-few pointers), refl))
@@ -29,7 +30,8 @@ slice-aggregate-owned-locals-2 c = search needs
 owned-locals-requires-2 : tie.Need-owned-locals-requires-2
 owned-locals-requires-2 c κs =
     let at-owned-locals = c .before .before in
-    let start = at-owned-locals .before .before .before .before .before .before .before .before in
+    let at-shared-slice-known3 = at-owned-locals .before .before .before .before .before in
+    let start = at-shared-slice-known3 .before .before .before in
     let pointers = start .pre .1 .0 in
     let known = start .pre .1 .1 .0 in
     (start .pre .0 .well-formed, (pointers .long, omega (arith, known .1, allocations-few pointers), refl))
@@ -50,7 +52,8 @@ returns : tie.Need-returns
 returns c =
     let at-owned-locals2 = c .before .before .before .before .before in
     let at-owned-locals = at-owned-locals2 .before .before .before in
-    let start = at-owned-locals .before .before .before .before .before .before .before .before in
+    let at-shared-slice-known3 = at-owned-locals .before .before .before .before .before in
+    let start = at-shared-slice-known3 .before .before .before in
     let pointers = start .pre .1 .0 in
     let known = start .pre .1 .1 .0 in
     let unmarked = start .pre .1 .1 .1 in

@@ -65,7 +65,8 @@ row-add-requires c κs =
 
 loop-less : tie.Need-loop-less Inv-loop μ-loop
 loop-less c =
-    let at-loop-test = c .before .before .before .before .before .before .before in
+    let at-unmarked-owner = c .before .before .before .before .before in
+    let at-loop-test = at-unmarked-owner .before .before in
     omega (arith, at-loop-test .loop-test .taken)
 
 loop-again : tie.Need-loop-again Inv-loop μ-loop

@@ -53,7 +53,8 @@ list-requires-2 c κs =
 same-length : tie.Need-same-length
 same-length c =
     let at-list2 = c .before .before in
-    let at-list = at-list2 .before .before .before .before .before .before .before .before .before in
+    let at-owners = at-list2 .before .before .before .before .before in
+    let at-list = at-owners .before .before .before .before in
     omega (arith, at-list2 .list2 .kept, at-list .list .kept)
 
 returns : tie.Need-returns

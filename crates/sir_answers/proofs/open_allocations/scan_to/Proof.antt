@@ -26,13 +26,15 @@ live-after-requires c κs =
 
 block-operations-requires : tie.Need-block-operations-requires Inv-loop μ-loop
 block-operations-requires c κs =
-    let start = c .before .before .before .before .before .before .before in
+    let at-shared-slice-known2 = c .before .before .before .before .before in
+    let start = at-shared-slice-known2 .before .before in
     (start .pre .0 .well-formed .sized, start .pre .1 .0)
 
 add-last : tie.Need-add-last Inv-loop μ-loop
 add-last c =
     let at-block-operations = c .before in
-    let start = at-block-operations .before .before .before .before .before .before .before .before in
+    let at-slice-known = at-block-operations .before .before .before .before .before in
+    let start = at-slice-known .before .before .before in
     let w = start .args .words .now in
     let b = start .args .b .0 in
     omega (arith, mem-range (start .args .o .0) (blockWord w b 4) (blockWord w b 5) (start .pre .1 .1), start .pre .0 .well-formed .in-range .ops-range b (start .pre .1 .0), start .pre .0 .well-formed .sized .operations-most)
@@ -59,7 +61,8 @@ live-before-requires c κs =
     let at-loop-test = c .before in
     let at-loop = at-loop-test .before in
     let at-block-operations = at-loop .before .before in
-    let start = at-block-operations .before .before .before .before .before .before .before .before in
+    let at-slice-known = at-block-operations .before .before .before .before .before in
+    let start = at-slice-known .before .before .before in
     let w = start .args .words .now in
     let b = start .args .b .0 in
     (start .pre .0 .long, omega (arith, at-loop .loop .inv .1, at-block-operations .block-operations .ensures, start .pre .0 .well-formed .in-range .ops-range b (start .pre .1 .0), start .pre .0 .well-formed .sized .operations-most), at-loop .loop .inv .2)
@@ -73,7 +76,8 @@ loop-again c =
     let at-loop-test = at-live-before .before .before in
     let at-loop = at-loop-test .before in
     let at-block-operations = at-loop .before .before in
-    let start = at-block-operations .before .before .before .before .before .before .before .before in
+    let at-slice-known = at-block-operations .before .before .before .before .before in
+    let start = at-slice-known .before .before .before in
     let w = start .args .words .now in
     let l = at-loop .loop in
     let span = at-block-operations .block-operations in
@@ -91,7 +95,8 @@ live-around-requires : tie.Need-live-around-requires Inv-loop μ-loop
 live-around-requires c κs =
     let at-loop = c .before .before in
     let at-block-operations = at-loop .before .before in
-    let start = at-block-operations .before .before .before .before .before .before .before .before in
+    let at-slice-known = at-block-operations .before .before .before .before .before in
+    let start = at-slice-known .before .before .before in
     let w = start .args .words .now in
     let b = start .args .b .0 in
     (start .pre .0 .long, omega (arith, mem-range (start .args .o .0) (blockWord w b 4) (blockWord w b 5) (start .pre .1 .1), start .pre .0 .well-formed .in-range .ops-range b (start .pre .1 .0), start .pre .0 .well-formed .sized .operations-most), at-loop .loop .inv .2)

@@ -95,7 +95,8 @@ open-answer-requires : tie.Need-open-answer-requires
 open-answer-requires c κs =
     let at-question3 = c .before .before .before in
     let at-compute-pointers = at-question3 .before .before .before in
-    let start = at-compute-pointers .before .before .before .before .before .before in
+    let at-shared-slice-known = at-compute-pointers .before .before .before .before .before in
+    let start = at-shared-slice-known .before in
     let w = start .args .words .now in
     (start .pre .0, (at-compute-pointers .compute-pointers .ensures, open-held _ _ w (own-as Question.OfPointers w (at-question3 .question3 .given .1) (start .pre .1 .1))))
 
@@ -109,7 +110,8 @@ crossing-answer-requires : tie.Need-crossing-answer-requires
 crossing-answer-requires c κs =
     let at-question4 = c .before .before .before in
     let at-compute-pointers = at-question4 .before .before .before in
-    let start = at-compute-pointers .before .before .before .before .before .before in
+    let at-shared-slice-known = at-compute-pointers .before .before .before .before .before in
+    let start = at-shared-slice-known .before in
     let w = start .args .words .now in
     (start .pre .0, (at-compute-pointers .compute-pointers .ensures, crossing-known _ _ w (own-as Question.OfPointers w (at-question4 .question4 .given .1) (start .pre .1 .1))))
 
@@ -171,7 +173,8 @@ returns-5 : tie.Need-returns-5
 returns-5 c =
     let at-open-answer = c .before .before in
     let at-question3 = at-open-answer .before .before .before .before in
-    let start = at-question3 .before .before .before .before .before .before .before .before .before in
+    let at-slice-known = at-question3 .before .before .before .before .before in
+    let start = at-slice-known .before .before .before .before in
     let a = start .args in
     at-open-answer .open-answer .ensures ∙ answered-as Question.OfPointers (a .words .now) (at-question3 .question3 .given .1) (a .out .now)
 
@@ -182,7 +185,8 @@ returns-6 : tie.Need-returns-6
 returns-6 c =
     let at-crossing-answer = c .before .before in
     let at-question4 = at-crossing-answer .before .before .before .before in
-    let start = at-question4 .before .before .before .before .before .before .before .before .before in
+    let at-slice-known = at-question4 .before .before .before .before .before in
+    let start = at-slice-known .before .before .before .before in
     let a = start .args in
     at-crossing-answer .crossing-answer .ensures ∙ answered-as Question.OfPointers (a .words .now) (at-question4 .question4 .given .1) (a .out .now)
 

@@ -50,7 +50,8 @@ returns-3 c =
 
 returns-4 : tie.Need-returns-4
 returns-4 c =
-    let at-block-operations = c .before .before .before .before .before .before in
+    let at-struct-known3 = c .before .before .before .before .before in
+    let at-block-operations = at-struct-known3 .before in
     let at-if2 = at-block-operations .before in
     let at-operation-count = at-if2 .before .before in
     let at-if1 = at-operation-count .before in
