@@ -18,7 +18,7 @@ use Rattle.sir_analyses.specs.SourceIntervals.{mergeIntervals, sourceInt
 use Rattle.sir_analyses.specs.Answers.{orderAnswer, predecessorsAnswer, entryAnswer, exitAnswer, usesAnswer, intervalsAnswer, intervalWords, allocationAnswer, ownerAnswer, roundsAnswer}
 use Rattle.sir_analyses.specs.Calls.{asked, noRules, known, inWords}
 use Rattle.sir_analyses.specs.Walk.{Event, op, edge, Walk, enter, step, follow, Holds, given, kept, moved, Executed, now, before}
-use Rattle.sir_analyses.specs.ExampleImages.{wordsOfBlocks, pageBytes, setConst, alloc, add, load, store, callOp, stop, ends, continues, branches, block, Op, straight, interval, outcomeWords, Row, same}
+use Rattle.sir_analyses.specs.ExampleImages.{wordsOfBlocks, pageBytes, setConst, alloc, add, load, store, callOp, stop, ends, continues, branches, block, straight, interval, outcomeWords, Row, same}
 
 -- ---- the images
 

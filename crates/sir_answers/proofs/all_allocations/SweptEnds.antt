@@ -11,10 +11,10 @@ use Rattle.plank_core.specs.Lists.{count, range, mem, any}
 use Rattle.plank_core.specs.laws.Lists.{or-false-left, or-false-right, and-true-left, and-true-right, any-find, in-mem, mem-in, refuted, none}
 use Rattle.plank_core.specs.inner.DenseIndexSet.{contains, members, meets, rowOf}
 use Rattle.plank_core.specs.laws.DenseIndexSet.{contains-row}
-use Rattle.sir_data.specs.Records.{blocks, operations, locals, blockWord, ops}
+use Rattle.sir_data.specs.Records.{blocks, operations, blockWord, ops}
 use Rattle.sir_data.specs.inner.WellFormed.{WellFormed}
-use Rattle.sir_analyses.specs.Liveness.{has, blockEnd, endOpen}
-use Rattle.sir_analyses.specs.inner.Stages.{LivenessStage, readsIn, writesIn, endsIn, exitsIn}
+use Rattle.sir_analyses.specs.Liveness.{blockEnd, endOpen}
+use Rattle.sir_analyses.specs.inner.Stages.{LivenessStage, readsIn, writesIn}
 use Rattle.sir_analyses.specs.inner.Tables.{Adds}
 use Rattle.sir_answers.specs.inner.Scatter.{numberAt}
 use Rattle.sir_answers.specs.inner.IntervalPieces.{closedPieces}

@@ -7,7 +7,7 @@ use native.Mathlib.Numerals.{add-one}
 use native.Mathlib.Omega.{arith}
 use lib.ListN.{length, getD}
 use lib.Dec.{eqb, ltb}
-use Rattle.plank_core.specs.Lists.{keep, bind, range, upto, _∈_}
+use Rattle.plank_core.specs.Lists.{keep, bind, range, _∈_}
 use Rattle.plank_core.specs.laws.Lists.{none, keep-out, no-members, and-true-left, count-mem}
 use Rattle.plank_core.specs.laws.Loops.{keep-append, bind-all, bind-step, bind-end}
 use Rattle.plank_core.specs.inner.DenseIndexSet.{contains, meets}

@@ -10,7 +10,7 @@ use lib.Dec.{eqb, leb}
 use borrow.Author.Tests.{eqb-true, eq-eqb, leb-true, le-leb, not-true}
 use Rattle.plank_core.specs.Lists.{bind, keep, upto, count, any, _∈_}
 use Rattle.plank_core.specs.laws.Lists.{and-true-left, and-true-right, both-true, or-true-left, or-true-right, or-cases, or-false-left, or-false-right, none, keep-mem, keep-out, keep-alike, bind-mem, bind-out, mem-count, mem-upto, upto-mem, getD-mem, no-members}
-use Rattle.sir_data.specs.Records.{blocks, ops, blockWord}
+use Rattle.sir_data.specs.Records.{blocks, ops}
 use Rattle.sir_data.specs.inner.WellFormed.{WellFormed}
 use Rattle.sir_analyses.specs.Order.{blocksRpo}
 use Rattle.sir_analyses.specs.Liveness.{members, exitSet, Interval, blockIntervals, intervals}

@@ -1,6 +1,6 @@
 -- `add_owners` meets its contract. The invariant: the owners of the locals before i are in the set.
 use mathlib.Core.Path.{_≡_, refl, sym, _∙_}
-use Prim.Native.Nat.{ℕ, _-_, _≤_, _<_}
+use Prim.Native.Nat.{ℕ, _-_, _≤_}
 use native.Mathlib.Omega.{arith}
 use lib.ListN.{length, getD}
 use Rattle.plank_core.specs.laws.Lists.{getD-mem}

@@ -1,6 +1,6 @@
 -- `scan_to` meets its contract. The invariant: whatever block the scan started in, the operations from p on are passed.
-use mathlib.Core.Path.{_≡_, refl, sym, ap, _∙_}
-use mathlib.Core.List.{[], _∷_}
+use mathlib.Core.Path.{_≡_, ap}
+use mathlib.Core.List.{[]}
 use Prim.Native.Nat.{ℕ, _+_, _-_, _≤_, _<_}
 use native.Mathlib.Omega.{arith}
 use lib.ListN.{length}

@@ -1,9 +1,8 @@
 -- `open_refusal` meets its contract.
-use Prim.Native.Nat.{_-_, _≤_, _<_}
+use Prim.Native.Nat.{_-_}
 use native.Mathlib.Omega.{arith}
-use Rattle.plank_core.specs.Lists.{_∈_}
 use Rattle.plank_core.specs.laws.Lists.{mem-range, count-mem}
-use Rattle.sir_data.specs.Records.{blocks, operations, blockWord, ops}
+use Rattle.sir_data.specs.Records.{blockWord}
 use Rattle.sir_answers.proofs.questions.OpenRules.{unknown-block, unknown-operation, not-held, held}
 use borrow.Author.Needs.{needs}
 use Rattle.sir_answers.proofs.questions.open_refusal.Statement.{statement}
