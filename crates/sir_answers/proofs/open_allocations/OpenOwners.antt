@@ -35,11 +35,11 @@ use Rattle.sir_answers.proofs.open_allocations.LiesAround.{local-lies}
 
 module _ {w : List ℕ} (good : WellFormed w) {b o : ℕ} (mb : b ∈ blocksRpo w) (mo : o ∈ ops w b) {set : List ℕ} (k : LiveAround w b o set) where
   -- a local of the reach of an unmarked allocation is in the set exactly where an interval of the allocation lies over the operation
-  some-lies : (in′ : ℕ → Bool) (a : ℕ) → marked w a ≡ false → ((v : ℕ) → v < 512 → in′ v ≡ has (reach w (allocAt w a)) v) → any (λ v. in′ v && contains set v) (upto 512) ≡ lies b o (merged w a)
-  some-lies in′ a u same = same-tests (any both (upto 512)) (lies b o (merged w a)) there back
+  some-lies : (reached : ℕ → Bool) (a : ℕ) → marked w a ≡ false → ((v : ℕ) → v < 512 → reached v ≡ has (reach w (allocAt w a)) v) → any (λ v. reached v && contains set v) (upto 512) ≡ lies b o (merged w a)
+  some-lies reached a u same = same-tests (any both (upto 512)) (lies b o (merged w a)) there back
     where
       both : ℕ → Bool
-      both v = in′ v && contains set v
+      both v = reached v && contains set v
 
       r : Set
       r = reach w (allocAt w a)
@@ -51,8 +51,8 @@ module _ {w : List ℕ} (good : WellFormed w) {b o : ℕ} (mb : b ∈ blocksRpo 
       there t =
           let x = any-find both 0 512 t in
           let v = x .0 in
-          let h : has r v ≡ true = sym (same v (x .2)) ∙ and-true-left (in′ v) (contains set v) (x .3) in
-          let i : isAround w b o v ≡ true = sym (k .around-is v (small v h)) ∙ and-true-right (in′ v) (contains set v) (x .3) in
+          let h : has r v ≡ true = sym (same v (x .2)) ∙ and-true-left (reached v) (contains set v) (x .3) in
+          let i : isAround w b o v ≡ true = sym (k .around-is v (small v h)) ∙ and-true-right (reached v) (contains set v) (x .3) in
           lies-covered (merged-in w a u (members-in r v h) (local-lies w good b o mb mo v (small v h) .1 i))
 
       back : lies b o (merged w a) ≡ true → any both (upto 512) ≡ true
@@ -62,7 +62,7 @@ module _ {w : List ℕ} (good : WellFormed w) {b o : ℕ} (mb : b ∈ blocksRpo 
           let h : has r v ≡ true = members-out r (x .1) in
           let q : v < 512 = omega (arith, small v h, good .sized .locals-most) in
           any-some both 0 512 v (omega arith) (omega arith)
-          (both-true (in′ v) (contains set v) (same v q ∙ h) (k .around-is v (small v h) ∙ local-lies w good b o mb mo v (small v h) .0 (x .2)))
+          (both-true (reached v) (contains set v) (same v q ∙ h) (k .around-is v (small v h) ∙ local-lies w good b o mb mo v (small v h) .0 (x .2)))
 
   -- by words that show the reach
   pub meets-lies : (rs : List ℕ) (a : ℕ) → marked w a ≡ false → Same rs (reach w (allocAt w a)) → meets rs set ≡ lies b o (merged w a)
