@@ -99,6 +99,10 @@ load v address = plainOp 84 (v ∷ []) (address ∷ [])
 abbrev pub store : ℕ → ℕ → Op
 store address v = plainOp 24 [] (address ∷ v ∷ [])
 
+-- `Log0` to `Log4`, by its operands: offset, size, topics
+abbrev pub log : List ℕ → Op
+log operands = plainOp (69 + length operands) [] operands
+
 -- `InternalCall` without operands
 abbrev pub callOp : ℕ → Op
 callOp f = record { code = 25; reads = []; defines = []; extras = (f, 0) }

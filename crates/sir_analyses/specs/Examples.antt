@@ -2,10 +2,10 @@
 use mathlib.Core.Path.{_≡_, refl}
 use mathlib.Core.Bool.{true, false}
 use mathlib.Core.List.{List, [], _∷_, _++_, map, List·Memᴰ·head, List·Memᴰ·tail, List·Memᴰ·eq-of-singleton}
-use Prim.Native.Nat.{ℕ, _≤_}
+use Prim.Native.Nat.{ℕ, _+_, _≤_}
 use native.Mathlib.Omega.{arith}
-use lib.ListN.{replicate}
-use Rattle.plank_core.specs.Lists.{all, bind, oneIf, _∈_}
+use lib.ListN.{replicate, set}
+use Rattle.plank_core.specs.Lists.{all, bind, upto, oneIf, _∈_}
 use Rattle.sir_data.specs.Pages.{pageWord, checkOf, payload}
 use Rattle.sir_data.specs.Records.{blocks, ins}
 use Rattle.sir_data.specs.Rules.{first, recordRules, rule4, rule5, rule6, rule7, rule8, rule9, rule10, rule11}
@@ -18,7 +18,7 @@ use Rattle.sir_analyses.specs.SourceIntervals.{mergeIntervals, sourceInt
 use Rattle.sir_analyses.specs.Answers.{orderAnswer, predecessorsAnswer, entryAnswer, exitAnswer, usesAnswer, intervalsAnswer, intervalWords, allocationAnswer, ownerAnswer, roundsAnswer}
 use Rattle.sir_analyses.specs.Calls.{asked, noRules, known, inWords}
 use Rattle.sir_analyses.specs.Walk.{Event, op, edge, Walk, enter, step, follow, Holds, given, kept, moved, Executed, now, before}
-use Rattle.sir_analyses.specs.ExampleImages.{wordsOfBlocks, pageBytes, setConst, alloc, add, load, store, callOp, stop, ends, continues, branches, block, straight, interval, outcomeWords, Row, same}
+use Rattle.sir_analyses.specs.ExampleImages.{wordsOfBlocks, pageBytes, setConst, alloc, add, load, store, log, callOp, stop, ends, continues, branches, block, straight, interval, outcomeWords, Row, same}
 
 -- ---- the images
 
@@ -52,6 +52,18 @@ storesItself = straight 2 (alloc 1 ∷ store 1 1 ∷ [])
 abbrev storesThere : List ℕ
 storesThere = straight 2 (setConst 0 ∷ alloc 1 ∷ store 1 0 ∷ [])
 
+-- the pointer v1 stands at position k of a log with t topics, and v0 at the others
+abbrev logs : ℕ → ℕ → List ℕ
+logs t k = straight 2 (setConst 0 ∷ alloc 1 ∷ log (set (replicate (2 + t) 0) k 1) ∷ [])
+
+-- every position of every log: `Log0` to `Log4`, and of each offset, size, topics
+abbrev allLogs : List (List ℕ)
+allLogs = bind (upto 5) (λ t. map (logs t) (upto (2 + t)))
+
+-- whether the pointer is marked at each of them: not as offset, not as size, as a topic
+abbrev logMarks : List ℕ
+logMarks = bind (upto 5) (λ t. 0 ∷ 0 ∷ replicate t 1)
+
 -- the pointers v1 and v2 are added
 abbrev added : List ℕ
 added = straight 4 (alloc 1 ∷ alloc 2 ∷ add 3 1 2 ∷ [])
@@ -79,7 +91,7 @@ looping =
 
 -- all of them
 abbrev images : List (List ℕ)
-images = report ∷ calls ∷ callsAndGoes ∷ branching 1 1 ∷ branching 1 2 ∷ storesItself ∷ storesThere ∷ added ∷ tested ∷ unused ∷ increments ∷ looping ∷ []
+images = report ∷ calls ∷ callsAndGoes ∷ branching 1 1 ∷ branching 1 2 ∷ storesItself ∷ storesThere ∷ added ∷ tested ∷ unused ∷ increments ∷ looping ∷ allLogs
 
 -- ---- the table
 
@@ -135,12 +147,12 @@ calls-first = (orderAnswer callsAndGoes, 0 ∷ 2 ∷ 0 ∷ 1 ∷ 2 ∷ 1 ∷ 3 �
 
 -- ---- all rows
 
--- each row: what is computed, and what it must be. So says document 01, but for these, which are our own: the first row, `calls-first`, the
--- rows on predecessors, v3, uses, owner of v2 and outcomes of `report`, those on `looping`, and those by the source's own steps
+-- each row: what is computed, and what it must be. So says document 01, or request R-2 of `logs`, but for these, which are our own: the first
+-- row, `calls-first`, the rows on predecessors, v3, uses, owner of v2 and outcomes of `report`, those on `looping`, and those by the source's own steps
 abbrev table : List Row
 table =
     -- rules 4 to 12 refuse none of the images
-    (map (λ w. first (recordRules w ++ ((12, rule12 w) ∷ []))) images, replicate 12 0)
+    (map (λ w. first (recordRules w ++ ((12, rule12 w) ∷ []))) images, replicate 32 0)
     -- function 0 calls 1 and 1 calls 0: order 0, 1
     ∷ (orderAnswer calls, 0 ∷ 1 ∷ 0 ∷ 1 ∷ 1 ∷ 1 ∷ [])
     ∷ calls-first
@@ -156,6 +168,15 @@ table =
     ∷ stored-itself
     -- as address only: unmarked
     ∷ (allocationAnswer storesThere 0, 0 ∷ 1 ∷ 1 ∷ 0 ∷ 32 ∷ 0 ∷ 0 ∷ 1 ∷ 0 ∷ 2 ∷ 3 ∷ [])
+    -- request R-2: a pointer as topic, marked
+    ∷ (allocationAnswer (logs 1 2) 0, 0 ∷ 1 ∷ 1 ∷ 0 ∷ 32 ∷ 0 ∷ 1 ∷ 0 ∷ [])
+    -- as offset or size only: unmarked
+    ∷ (allocationAnswer (logs 1 0) 0, 0 ∷ 1 ∷ 1 ∷ 0 ∷ 32 ∷ 0 ∷ 0 ∷ 1 ∷ 0 ∷ 2 ∷ 3 ∷ [])
+    ∷ (allocationAnswer (logs 1 1) 0, 0 ∷ 1 ∷ 1 ∷ 0 ∷ 32 ∷ 0 ∷ 0 ∷ 1 ∷ 0 ∷ 2 ∷ 3 ∷ [])
+    -- and so at every position of every log
+    ∷ (map (λ w. oneIf (marked w 0)) allLogs, logMarks)
+    -- and by the source's own steps, its arms for `Log1` to `Log4` altered
+    ∷ (map (λ w. oneIf (sourceMarked w 0)) allLogs, logMarks)
     -- pointers v1 and v2 added: both marked, the sum owned by the later
     ∷ (allocationAnswer added 0, 0 ∷ 0 ∷ 1 ∷ 0 ∷ 32 ∷ 0 ∷ 1 ∷ 0 ∷ [])
     ∷ (allocationAnswer added 1, 0 ∷ 1 ∷ 2 ∷ 0 ∷ 32 ∷ 0 ∷ 1 ∷ 0 ∷ [])

@@ -1,5 +1,7 @@
 -- Marks and owners as the source makes them: `discover_allocations` and `propagate_pointers_and_mark_escapes` of allocation_liveness.rs,
 -- with its work list and use by use. The numbers are its lines. `link_local_to_alloc` (276 to 293) is `linkLocal` of Propagation.
+-- `operation_causes_ptr_escape` (54 to 178) is `escaping` of `Codes`, position by position, and there the source is altered in four arms: request
+-- R-2 has the topics of `Log1` to `Log4` escape (156 to 159), which the source lets pass. All else is the source's.
 use mathlib.Core.Bool.{Bool, false, not, _||_, cond}
 use Prim.Native.Nat.{ℕ, zero, suc}
 use mathlib.Core.List.{List, [], _∷_, _++_, map}

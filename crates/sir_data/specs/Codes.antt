@@ -1,6 +1,6 @@
 -- The tables by operation code (document 01, "The image" and "Rules of the analyses"): calls, allocations, operand counts,
 -- deriving codes, escaping inputs.
-use mathlib.Core.Bool.{Bool, true, _&&_, _||_, cond}
+use mathlib.Core.Bool.{Bool, true, not, _&&_, _||_, cond}
 use Prim.Native.Nat.{ℕ, _+_, _-_}
 use mathlib.Core.List.{[], _∷_}
 use lib.Dec.{eqb, leb}
@@ -60,7 +60,8 @@ arityOk c i o =
 abbrev pub derives : ℕ → Bool
 derives c = between 27 37 c || between 44 51 c || eqb c 85
 
--- is the input at position k, from 0, an escaping operand of the code? The last line has the codes with all inputs escaping
+-- is the input at position k, from 0, an escaping operand of the code? The list is document 01's, and request R-2 added the clause of 72 to
+-- 75, `Log1` to `Log4`: all but offset and size, which are the topics, from position 2 up. The last line has the codes with all inputs escaping
 abbrev pub escaping : ℕ → ℕ → Bool
 escaping c k =
     cond (eqb c 0 || eqb c 24) (eqb k 1)
@@ -71,4 +72,5 @@ escaping c k =
     (cond (mem c (17 ∷ 18 ∷ [])) (mem k (0 ∷ 1 ∷ 2 ∷ 4 ∷ 6 ∷ []))
     (cond (mem c (19 ∷ 20 ∷ [])) (mem k (0 ∷ 1 ∷ 3 ∷ 5 ∷ []))
     (cond (eqb c 23) (eqb k 2)
-    (mem c (1 ∷ 2 ∷ 5 ∷ 21 ∷ 22 ∷ 25 ∷ 26 ∷ []) || between 8 14 c))))))))
+    (cond (between 72 75 c) (not (mem k (0 ∷ 1 ∷ [])))
+    (mem c (1 ∷ 2 ∷ 5 ∷ 21 ∷ 22 ∷ 25 ∷ 26 ∷ []) || between 8 14 c)))))))))
