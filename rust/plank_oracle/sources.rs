@@ -2,8 +2,9 @@
 //!
 //! The files stay where they are, in the folder that the environment variable `PLANK_SRC` names, or in [`DEFAULT_FOLDER`].
 //! In cargo's build folder a tree of links to them is made, completed by the shims for modules that are not among them,
-//! since a source that says `mod idx_slice;` looks for that file next to itself. The crate then includes `modules.rs` of
-//! that tree (or the source's own `lib.rs`). Where the folder is missing nothing is made, the cfg `plank_sources` stays
+//! since a source that says `mod idx_slice;` looks for that file next to itself. One file stands there a second time, as a
+//! copy in which some text is replaced; the build fails where that text is not found. The crate then includes `modules.rs`
+//! of that tree (or the source's own `lib.rs`). Where the folder is missing nothing is made, the cfg `plank_sources` stays
 //! off, and the crate is empty.
 
 use std::path::{Path, PathBuf};
@@ -20,6 +21,8 @@ struct Tree {
     folder: &'static str,
     /// The files, all of them unchanged.
     files: &'static [&'static str],
+    /// Those of them that also stand in the module `altered`, and what is replaced there: a text that the file has once.
+    altered: &'static [(&'static str, &'static str, &'static str)],
     /// Files of the crate's own folder `shims`, and where they stand among the others.
     shims: &'static [(&'static str, &'static str)],
 }
@@ -36,12 +39,14 @@ const TREES: &[Tree] = &[
             "list_of_lists.rs",
             "span.rs",
         ],
+        altered: &[],
         shims: &[("idx_slice.rs", "index_vec/idx_slice.rs")],
     },
     Tree {
         package: "sir_data",
         folder: "plankc/sir/crates/data/src",
         files: &["lib.rs", "view.rs"],
+        altered: &[],
         shims: &[("builder.rs", "builder.rs"), ("index.rs", "index.rs"), ("operation.rs", "operation.rs")],
     },
     Tree {
@@ -54,9 +59,29 @@ const TREES: &[Tree] = &[
             "predecessors.rs",
             "reverse_post_order.rs",
         ],
+        altered: &[("allocation_liveness.rs", LOGS, LOGS_WITH_TOPICS)],
         shims: &[],
     },
 ];
+
+/// The arms of `operation_causes_ptr_escape` for logs, which let no input escape.
+const LOGS: &str = "
+        | Operation::Log0(_)
+        | Operation::Log1(_)
+        | Operation::Log2(_)
+        | Operation::Log3(_)
+        | Operation::Log4(_)
+        | Operation::Return(_)
+";
+
+/// The same with topics escaping (request R-2): the inputs of `Log1` to `Log4` from position 2 up.
+const LOGS_WITH_TOPICS: &str = "
+        | Operation::Log0(_) => false,
+        Operation::Log1(_) | Operation::Log2(_) | Operation::Log3(_) | Operation::Log4(_) => {
+            op.inputs(program)[2..].contains(&local)
+        }
+        Operation::Return(_)
+";
 
 fn main() -> io::Result<()> {
     println!("cargo::rustc-check-cfg=cfg(plank_sources)");
@@ -88,7 +113,11 @@ fn main() -> io::Result<()> {
     let mut modules = String::new();
     for file in tree.files {
         link(&sources.join(tree.folder).join(file), &mirror.join(file))?;
-        modules += &format!("pub mod {};\n", file.trim_end_matches(".rs").trim_end_matches("/mod"));
+        modules += &format!("pub mod {};\n", module(file));
+    }
+    for &(file, text, replacement) in tree.altered {
+        alter(&sources.join(tree.folder).join(file), &mirror.join("altered").join(file), text, replacement)?;
+        modules += &format!("pub mod altered {{\n    pub mod {};\n}}\n", module(file));
     }
     for (shim, file) in tree.shims {
         let shim = package.join("shims").join(shim);
@@ -100,6 +129,24 @@ fn main() -> io::Result<()> {
 
 fn variable(name: &str) -> String {
     env::var(name).expect("cargo sets it")
+}
+
+/// The module that a file is.
+fn module(file: &str) -> &str {
+    file.trim_end_matches(".rs").trim_end_matches("/mod")
+}
+
+/// Writes a copy of a file in which a text is replaced.
+///
+/// # Panics
+///
+/// Panics where the file does not have the text just once.
+fn alter(from: &Path, to: &Path, text: &str, replacement: &str) -> io::Result<()> {
+    let source = fs::read_to_string(from)?;
+    let found = source.matches(text).count();
+    assert!(found == 1, "{}: a text that is to be altered is there {found} times, not once:{text}", from.display());
+    fs::create_dir_all(to.parent().expect("a file stands in a folder"))?;
+    fs::write(to, source.replacen(text, replacement, 1))
 }
 
 fn link(from: &Path, to: &Path) -> io::Result<()> {

@@ -148,6 +148,7 @@ fn growth() {
             arity: 4,
             ends: 1,
             leaks: 0,
+            logs: 0,
         };
         let image = Timed::new(&lifetimes::image(&shape, &mut Rng::new(0)));
         let times = names.map(|name| {

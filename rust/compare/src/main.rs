@@ -14,11 +14,12 @@
 //! ```
 //!
 //! Images of every kind are taken in turn, each with a seed of its own. Where files are named, these images are taken
-//! and none are generated. With Plank every answer is compared that it has; with the library every answer, its number, its
-//! length, each byte of the result slice, unknown ids and slices that are too short. Each question about one id is put for
-//! every id, and then once for all ids; one about two ids for every pair of them, or for a choice where these are many. Where
-//! two sides disagree, the image is made as small as it goes and shown, and the program stops with status 1. A side that was
-//! missing when this was built is left out, with a message.
+//! and none are generated. With Plank every answer is compared that it has: on all images with Plank altered in the four
+//! arms by which the topics of logs escape, and then with Plank unaltered on those in which no topic is a pointer. With the
+//! library every answer is compared, its number, its length, each byte of the result slice, unknown ids and slices that are
+//! too short. Each question about one id is put for every id, and then once for all ids; one about two ids for every pair of
+//! them, or for a choice where these are many. Where two sides disagree, the image is made as small as it goes and shown,
+//! and the program stops with status 1. A side that was missing when this was built is left out, with a message.
 
 use compare::sides::Disagreement;
 use compare::tally::Tally;
@@ -113,6 +114,7 @@ fn run(options: &Options) -> Result<(), Failure> {
     let mut sides: Vec<(&str, Compare)> = Vec::new();
     if plank_oracle::PRESENT {
         sides.push(("Plank", sides::with_plank));
+        sides.push(("Plank unaltered", sides::with_plank_unaltered));
     } else {
         println!("Plank's files were missing when this was built (set PLANK_SRC): nothing is compared with them");
     }
@@ -155,13 +157,16 @@ fn compare_all(name: &str, images: impl Iterator<Item = (String, Image)>, compar
     for (name, image) in images {
         compare(&image, &mut tally).map_err(|_| (1, explain(&name, &image, compare)))?;
     }
-    let Tally { images, refused, answers, words, allocations: [all, marked], merged, most_rounds, open, crossings } =
-        tally;
+    let Tally { images, refused, left_out, answers, words, merged, most_rounds, logs, open, crossings, .. } = tally;
+    let [all, marked] = tally.allocations;
     if images > 0 {
         println!("{name}: {images} compared, {refused} of them refused by both sides");
+        if left_out > 0 {
+            println!("  {left_out} left out: a topic is a pointer");
+        }
         println!("  {answers} answers of {words} words are equal");
         println!("  {all} allocations, {marked} marked, {merged} merged intervals; at most {most_rounds} rounds");
-        println!("  {open}\n  {crossings}");
+        println!("  {logs}\n  {open}\n  {crossings}");
         println!("  {:.1} s", started.elapsed().as_secs_f64());
     }
     Ok(())

@@ -2,7 +2,7 @@
 
 use crate::tally::Tally;
 use paper_reference::Reference;
-use plank_oracle::Program;
+use plank_oracle::{Program, Rule};
 use sir_analyses::{Answer, calls};
 use sir_image::Image;
 use sir_questions::{Cause, IdKind, Question, QuestionKind, Refusal, spread};
@@ -25,6 +25,7 @@ impl Display for Disagreement {
 }
 
 const PLANK: &str = "Plank";
+const UNALTERED: &str = "Plank unaltered";
 const LIBRARY: &str = "library";
 
 fn agree<T: Debug + PartialEq>(
@@ -40,26 +41,41 @@ fn agree<T: Debug + PartialEq>(
     Err(Disagreement { question, paper: format!("{paper:?}"), other: format!("{other:?}"), name })
 }
 
-/// Compares the paper's answers with those of Plank, all that Plank has, on an image that it takes.
+/// Compares the paper's answers with those of Plank with four arms altered, all that Plank has, on an image that it takes.
 pub fn with_plank(image: &Image, tally: &mut Tally) -> Result<(), Disagreement> {
+    with_plank_by(Rule::House, PLANK, image, tally)
+}
+
+/// The same with Plank as it is, where no topic of a log is a pointer; an image that has one is left out.
+pub fn with_plank_unaltered(image: &Image, tally: &mut Tally) -> Result<(), Disagreement> {
+    let in_topic = |paper: Reference| paper.pointers_in_logs().into_iter().any(|position| position >= 2);
+    if Reference::new(&image.pages()).is_ok_and(in_topic) {
+        tally.left_out += 1;
+        return Ok(());
+    }
+    with_plank_by(Rule::Source, UNALTERED, image, tally)
+}
+
+fn with_plank_by(rule: Rule, name: &'static str, image: &Image, tally: &mut Tally) -> Result<(), Disagreement> {
     let program = Program::new(image).expect("Plank's files are there");
-    let plank = program.analyses();
+    let plank = program.analyses(rule);
     let paper = Reference::new(&image.pages());
     tally.images += 1;
     let refused = paper.as_ref().err().copied().unwrap_or(0);
-    agree("refusal", refused, PLANK, if plank.shares_a_base() { Refusal::SHARED_BASE.number() } else { 0 })?;
+    agree("refusal", refused, name, if plank.shares_a_base() { Refusal::SHARED_BASE.number() } else { 0 })?;
     let Ok(paper) = paper else {
         tally.refused += 1;
         return Ok(());
     };
-    agree("number of allocations", paper.count(IdKind::Allocation), PLANK, plank.count(IdKind::Allocation))?;
+    tally.logs.note(&paper);
+    agree("number of allocations", paper.count(IdKind::Allocation), name, plank.count(IdKind::Allocation))?;
     for question in all_questions(&paper) {
         let said = paper.answer(question);
         tally.note(&paper, question, said.as_deref().map_err(|&number| number));
         if let Some(other) = plank.answer(question) {
             let answer = said.expect("the ids are below their counts");
             tally.compared(&answer);
-            agree(question, answer, PLANK, other)?;
+            agree(question, answer, name, other)?;
         }
     }
     Ok(())
@@ -117,6 +133,7 @@ pub fn with_library(image: &Image, tally: &mut Tally) -> Result<(), Disagreement
         Ok(paper) => paper,
         Err(_) => return refused_alike(&bytes, tally),
     };
+    tally.logs.note(&paper);
     for question in all_questions(&paper) {
         same_answer(&paper, &bytes, question, tally)?;
     }
@@ -134,6 +151,7 @@ pub fn with_library_sparsely(image: &Image, tally: &mut Tally) -> Result<(), Dis
     let bytes = image.pages();
     tally.images += 1;
     let paper = Reference::new(&bytes).expect("an accepted image");
+    tally.logs.note(&paper);
     for question in Question::KINDS.iter().flat_map(|kind| questions(&paper, kind, |count| count / 3, 16)) {
         same_answer(&paper, &bytes, question, tally)?;
     }

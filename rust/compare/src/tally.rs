@@ -11,6 +11,8 @@ pub struct Tally {
     pub images: u64,
     /// Images that some rule refuses.
     pub refused: u64,
+    /// Images that were not compared: a topic of theirs is a pointer, and Plank was asked unaltered.
+    pub left_out: u64,
     /// Answers.
     pub answers: u64,
     /// Words of these answers.
@@ -21,6 +23,8 @@ pub struct Tally {
     pub merged: u64,
     /// The most rounds of an image.
     pub most_rounds: u32,
+    /// Pointers in logs.
+    pub logs: Logs,
     /// What was open.
     pub open: Open,
     /// What crossed.
@@ -47,6 +51,36 @@ impl Tally {
             (Question::Crossing(one, other), Ok(answer)) => self.crossings.note(paper, [one, other], answer),
             _ => {}
         }
+    }
+}
+
+/// How often an operand of a log of a visited block is a pointer.
+#[derive(Clone, Copy, Debug, Default)]
+#[allow(missing_docs)]
+pub struct Logs {
+    pub offsets: u64,
+    pub sizes: u64,
+    pub topics: u64,
+}
+
+impl Logs {
+    /// Those of an image.
+    pub fn note(&mut self, paper: &Reference) {
+        for position in paper.pointers_in_logs() {
+            let count = match position {
+                0 => &mut self.offsets,
+                1 => &mut self.sizes,
+                _ => &mut self.topics,
+            };
+            *count += 1;
+        }
+    }
+}
+
+impl Display for Logs {
+    fn fmt(&self, f: &mut Formatter<'_>) -> fmt::Result {
+        let Logs { offsets, sizes, topics } = self;
+        write!(f, "logs: {offsets} offsets, {sizes} sizes and {topics} topics are pointers")
     }
 }
 
@@ -181,6 +215,14 @@ mod tests {
             }
         }
         tally
+    }
+
+    /// Each position of each log holds a pointer: five offsets, five sizes, ten topics.
+    #[test]
+    fn logs() {
+        let mut logs = Logs::default();
+        logs.note(&Reference::new(&samples::logs().pages()).unwrap());
+        assert_eq!([logs.offsets, logs.sizes, logs.topics], [5, 5, 10]);
     }
 
     #[test]

@@ -43,6 +43,7 @@ pub fn typical_lives(rng: &mut Rng) -> Image {
         arity: 5,
         ends: 3,
         leaks: rng.pick(&[0, 0, 1]),
+        logs: 0,
     };
     lifetimes::image(&shape, rng)
 }
@@ -73,6 +74,7 @@ pub fn full_lives(rng: &mut Rng) -> Image {
         arity: 4,
         ends: 1,
         leaks: 0,
+        logs: 0,
     };
     let mut image = lifetimes::image(&shape, rng);
     fill(&mut image, rng);

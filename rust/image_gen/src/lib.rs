@@ -79,6 +79,8 @@ kinds! {
     SmallRenaming
     /// Unmarked allocations whose intervals touch, overlap, or meet only where there is no operation.
     Crossings
+    /// Logs with pointers as offset, as size and as topics.
+    Topics
 }
 
 impl Kind {
@@ -97,6 +99,7 @@ impl Kind {
         Kind::Lives,
         Kind::Mixed,
         Kind::Crossings,
+        Kind::Topics,
     ];
 
     /// Kinds of large images, on which plain code still ends.
@@ -137,6 +140,7 @@ pub fn generate(kind: Kind, seed: u64) -> Image {
         Kind::SmallAllocating => large::small_allocating(rng),
         Kind::SmallRenaming => large::small_renaming(rng),
         Kind::Crossings => crossings::image(rng),
+        Kind::Topics => small::topics(rng),
     }
 }
 

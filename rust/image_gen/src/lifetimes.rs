@@ -7,6 +7,9 @@ use sir_image::{Block, BlockId, Code, Control, Image, LocalId, MAX_OPERANDS, Spa
 const DERIVING: [Code; 8] =
     [Code::Add, Code::Sub, Code::Mul, Code::Mod, Code::Exp, Code::And, Code::Shl, Code::SignExtend];
 
+/// The logs, by the number of their topics.
+const LOGS: [Code; 5] = [Code::Log0, Code::Log1, Code::Log2, Code::Log3, Code::Log4];
+
 /// What images are to look like.
 #[derive(Clone, Copy, Debug)]
 pub struct Lifetimes {
@@ -26,6 +29,8 @@ pub struct Lifetimes {
     pub ends: u32,
     /// Chance in a hundred that an operand is just any local.
     pub leaks: u32,
+    /// Chance in a hundred that an operation is a log of any kind.
+    pub logs: u32,
 }
 
 /// A random image of that kind.
@@ -163,6 +168,10 @@ impl<'a> Builder<'a> {
         if !self.allocated[group] && self.rng.percent(40) {
             return self.allocate(group, pointer, value);
         }
+        // Shapes without logs draw nothing here.
+        if self.shape.logs > 0 && self.rng.percent(self.shape.logs) {
+            return self.log(pointer);
+        }
         match self.rng.below(16) {
             0..=2 => self.derive(group, pointer, value),
             3 | 4 => {
@@ -189,6 +198,17 @@ impl<'a> Builder<'a> {
         self.image.operation(code, &inputs, &[to]);
     }
 
+    /// A log with the pointer as its offset, and now and then one as its size or as a topic.
+    fn log(&mut self, offset: LocalId) {
+        let topics = self.rng.below(LOGS.len() as u32);
+        let mut operands = vec![offset];
+        for chance in [25].into_iter().chain((0..topics).map(|_| 10)) {
+            let operand = if self.rng.percent(chance) { self.pointer() } else { self.value() };
+            operands.push(operand);
+        }
+        self.image.operation(LOGS[topics as usize], &operands, &[]);
+    }
+
     /// An operation that neither allocates nor derives from the pointer, by its number from 5 to 15.
     fn access(&mut self, number: u32, pointer: LocalId, value: LocalId, other: LocalId) {
         let image = &mut self.image;
@@ -208,8 +228,8 @@ impl<'a> Builder<'a> {
                 self.image.operation(Code::Call, &inputs, &[to]);
             }
             11 => {
-                let topic = self.pointer();
-                self.image.operation(Code::Log2, &[pointer, value, topic, other], &[]);
+                let size = self.pointer();
+                self.image.operation(Code::Log2, &[pointer, size, value, other], &[]);
             }
             12 => {
                 let other = self.pointer();

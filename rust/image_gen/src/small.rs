@@ -109,6 +109,22 @@ pub fn lives(rng: &mut Rng) -> Image {
         arity: 4,
         ends: 16,
         leaks: rng.pick(&[0, 0, 1, 5]),
+        logs: 0,
+    };
+    lifetimes::image(&shape, rng)
+}
+
+pub fn topics(rng: &mut Rng) -> Image {
+    let shape = Lifetimes {
+        groups: (1, 4),
+        members: (1, 3),
+        values: (1, 3),
+        blocks: (1, 4),
+        operations: (1, 6),
+        arity: 3,
+        ends: 20,
+        leaks: 0,
+        logs: 60,
     };
     lifetimes::image(&shape, rng)
 }

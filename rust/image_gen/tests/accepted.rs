@@ -70,6 +70,21 @@ fn crossings_touch_and_meet() {
     assert!(touching > 100 && meeting > 20, "{touching} touch, {meeting} meet in blocks that both live through");
 }
 
+/// Pointers stand in every position of logs; allocations whose pointers are offsets or sizes only stay unmarked.
+#[test]
+fn topics_have_pointers_in_logs() {
+    let (mut positions, mut unmarked) = ([0; 6], [0; 2]);
+    for seed in 0..500 {
+        let reference = Reference::new(&generate(Kind::Topics, seed).pages()).expect("an accepted image");
+        let found = reference.pointers_in_logs();
+        found.iter().for_each(|&position| positions[position] += 1);
+        let kept = allocations(&reference).all(|words| words[6] == 0);
+        (0..2).for_each(|position| unmarked[position] += u32::from(kept && found.contains(&position)));
+    }
+    assert!(positions.iter().all(|&count| count > 20), "pointers by position: {positions:?}");
+    assert!(unmarked.iter().all(|&count| count > 20), "images with no mark, by a pointer's position: {unmarked:?}");
+}
+
 /// "The number is at most the final number of exit members plus 1", and at least 1.
 #[test]
 fn rounds_are_bounded() {

@@ -52,6 +52,11 @@ pub fn counts_fit(code: u32, inputs: u32, outputs: u32) -> bool {
     (inputs, outputs) == fixed
 }
 
+/// The logs, which have an offset, a size, and as many topics as their names say.
+pub fn is_log(code: u32) -> bool {
+    (71..=75).contains(&code)
+}
+
 /// Whether the input at a position is an escaping one.
 pub fn escapes(code: u32, position: usize) -> bool {
     let positions: &[usize] = match code {
@@ -70,6 +75,11 @@ pub fn escapes(code: u32, position: usize) -> bool {
         // MemoryCopy, MemoryStore
         23 => &[2],
         24 => &[1],
+        // Log1 to Log4: their topics
+        72 => &[2],
+        73 => &[2, 3],
+        74 => &[2, 3, 4],
+        75 => &[2, 3, 4, 5],
         1 | 2 | 5 | 8..=14 | 21 | 22 | 25 | 26 => return true,
         _ => &[],
     };

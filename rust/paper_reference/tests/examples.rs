@@ -74,6 +74,16 @@ fn stores_of_a_pointer() {
     }
 }
 
+/// Offset and size of a log let no pointer escape, its topics do.
+#[test]
+fn pointers_in_logs() {
+    let image = samples::logs();
+    let records: Vec<Vec<u32>> = (0..20).map(|number| answer(&image, &format!("allocation:{number}"))).collect();
+    assert_eq!(records.iter().map(|record| record[6]).collect::<Vec<_>>(), samples::LOG_MARKS);
+    assert!(records.iter().all(|record| record[6] + record[7] == 1), "one interval, or the mark: {records:?}");
+    assert_eq!(answer(&samples::topic(), "allocation:0"), [0, 0, 0, 0, 32, 0, 1, 0]);
+}
+
 #[test]
 fn a_pointer_as_condition() {
     let mut image = Image::new(1);

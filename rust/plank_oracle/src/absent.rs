@@ -1,5 +1,6 @@
 //! The interface without Plank's files: no program can be made.
 
+use crate::Rule;
 use sir_image::Image;
 use sir_questions::IdKind;
 use std::convert::Infallible;
@@ -20,8 +21,8 @@ impl Program {
         None
     }
 
-    /// Its analyses, none of them run yet.
-    pub fn analyses(&self) -> Analyses<'_> {
+    /// Its analyses by a rule, none of them run yet.
+    pub fn analyses(&self, _rule: Rule) -> Analyses<'_> {
         match self.0 {}
     }
 }

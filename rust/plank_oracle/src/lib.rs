@@ -4,6 +4,10 @@
 //! the root of the repository; `sources.rs` has a default. None of them stands in the repository. Where the folder is
 //! missing, the crates build to nothing but this interface: [`PRESENT`] is false and [`Program::new`] gives `None`.
 //!
+//! One of them, `allocation_liveness.rs`, is compiled a second time with four arms altered: those of `Log1` to `Log4` in
+//! `operation_causes_ptr_escape`, by which topics escape (request R-2). `sources.rs` has the text that is replaced, and the
+//! build fails where the file does not have it. A [`Rule`] says which of the two answers.
+//!
 //! # Shims
 //!
 //! What the files name and what is not among them stands in shims. After each: whether it could sway an answer.
@@ -37,6 +41,15 @@ mod absent;
 pub use absent::{Analyses, Program, SOURCES};
 
 use sir_questions::{Question, QuestionKind, Refusal};
+
+/// Which inputs let a pointer escape.
+#[derive(Clone, Copy, Debug, PartialEq, Eq)]
+pub enum Rule {
+    /// Those of the source, and the topics of logs: `allocation_liveness.rs` with four arms altered.
+    House,
+    /// Those of the source: `allocation_liveness.rs` as it is.
+    Source,
+}
 
 /// Whether Plank's files were there when this was built.
 pub const PRESENT: bool = SOURCES.is_some();

@@ -1,5 +1,6 @@
 //! Programs from images, and answers from the analyses.
 
+use crate::Rule;
 use plank_core::{Idx, IndexVec, Span};
 use sir_data::operation::{OperationKind, Record};
 use sir_data::{
@@ -7,7 +8,8 @@ use sir_data::{
     LargeConstId, LocalId, LocalIdx, Operation, OperationIdx, ReturnKind, Switch,
 };
 use sir_image::Image;
-use sir_passes::analyses::{AllocId, AllocKind, AnalysesStore, Interval, IntervalEnd, IntervalStart, UseKind};
+use sir_passes::analyses::{AnalysesStore, Interval, IntervalEnd, IntervalStart, UseKind};
+use sir_passes::analyses::{allocation_liveness, altered};
 use sir_questions::IdKind;
 use std::cell::Cell;
 use std::panic::{self, AssertUnwindSafe};
@@ -58,9 +60,9 @@ impl Program {
         Some(Program(program))
     }
 
-    /// Its analyses, none of them run yet.
-    pub fn analyses(&self) -> Analyses<'_> {
-        Analyses { program: &self.0, store: AnalysesStore::default() }
+    /// Its analyses by a rule, none of them run yet.
+    pub fn analyses(&self, rule: Rule) -> Analyses<'_> {
+        Analyses { program: &self.0, store: AnalysesStore::default(), rule }
     }
 }
 
@@ -102,13 +104,21 @@ fn control(control: sir_image::Control, cases: &mut IndexVec<sir_data::CasesId, 
 pub struct Analyses<'a> {
     program: &'a EthIRProgram,
     store: AnalysesStore,
+    rule: Rule,
 }
 
 impl Analyses<'_> {
+    fn allocations(&self) -> &dyn Allocations {
+        match self.rule {
+            Rule::House => self.store.altered_allocation_liveness(self.program),
+            Rule::Source => self.store.allocation_liveness(self.program),
+        }
+    }
+
     /// Whether the source asserts that two allocations met in visited blocks share a base local: refusal 12.
     pub fn shares_a_base(&self) -> bool {
         let run = || {
-            self.store.allocation_liveness(self.program);
+            self.allocations();
         };
         let Err(payload) = quietly(run) else { return false };
         let message = payload.downcast_ref::<&str>().copied().or(payload.downcast_ref::<String>().map(String::as_str));
@@ -171,37 +181,58 @@ impl Analyses<'_> {
             IdKind::Block => self.program.basic_blocks.len() as u32,
             IdKind::Operation => self.program.operations.len() as u32,
             IdKind::Local => self.program.next_free_local_id.get(),
-            IdKind::Allocation => self.store.allocation_liveness(self.program).allocations.len() as u32,
+            IdKind::Allocation => self.allocations().count(),
         }
     }
 
     /// The record of an allocation.
     pub fn allocation(&self, allocation: u32) -> Vec<u32> {
-        let data = &self.store.allocation_liveness(self.program).allocations[AllocId::new(allocation)];
-        let (kind, size, id) = match data.kind {
-            AllocKind::Static { size, id } => (0, size, id.get()),
-            AllocKind::Dynamic { size_local } => (1, size_local.get(), 0),
-        };
-        let mut words = vec![
-            data.def_block.get(),
-            data.def_op.get(),
-            data.base_ptr.get(),
-            kind,
-            size,
-            id,
-            data.escapes.into(),
-            data.intervals.len() as u32,
-        ];
-        words.extend(interval_words(&data.intervals));
-        words
+        self.allocations().record(allocation)
     }
 
     /// The owner of a local: allocation + 1, or 0.
     pub fn owner(&self, local: u32) -> Vec<u32> {
-        let owners = &self.store.allocation_liveness(self.program).local_to_alloc;
-        vec![owners.get(LocalId::new(local)).map_or(0, |allocation| allocation.get() + 1)]
+        vec![self.allocations().owner(LocalId::new(local))]
     }
 }
+
+/// What is read of the analysis of allocations, whose types the source's file and its altered copy each define.
+trait Allocations {
+    fn count(&self) -> u32;
+    fn record(&self, allocation: u32) -> Vec<u32>;
+    fn owner(&self, local: LocalId) -> u32;
+}
+
+macro_rules! read_allocations {
+    ($($file:path),*) => {$(
+        const _: () = {
+            use $file::{AllocId, AllocKind, AllocationLiveness};
+
+            impl Allocations for AllocationLiveness {
+                fn count(&self) -> u32 {
+                    self.allocations.len() as u32
+                }
+
+                fn record(&self, allocation: u32) -> Vec<u32> {
+                    let data = &self.allocations[AllocId::new(allocation)];
+                    let (kind, size, id) = match data.kind {
+                        AllocKind::Static { size, id } => (0, size, id.get()),
+                        AllocKind::Dynamic { size_local } => (1, size_local.get(), 0),
+                    };
+                    let site = [data.def_block.get(), data.def_op.get(), data.base_ptr.get()];
+                    let mark = [data.escapes.into(), data.intervals.len() as u32];
+                    [&site, &[kind, size, id], mark.as_slice(), &interval_words(&data.intervals)].concat()
+                }
+
+                fn owner(&self, local: LocalId) -> u32 {
+                    self.local_to_alloc.get(local).map_or(0, |allocation| allocation.get() + 1)
+                }
+            }
+        };
+    )*};
+}
+
+read_allocations!(allocation_liveness, altered::allocation_liveness);
 
 fn ascending<'a>(set: impl IntoIterator<Item = &'a LocalId>) -> Vec<u32> {
     let mut words: Vec<u32> = set.into_iter().map(|local| local.get()).collect();

@@ -1,7 +1,7 @@
 //! The oracle on images whose answers the paper gives, and the tables that it rests on.
 #![cfg(plank_sources)]
 
-use plank_oracle::{Analyses, Program, SOURCES};
+use plank_oracle::{Analyses, Program, Rule, SOURCES};
 use sir_image::{Code, Control, Image, Span, samples};
 use sir_questions::{IdKind, Question};
 
@@ -12,7 +12,7 @@ fn program(image: &Image) -> Program {
 }
 
 fn with<T>(image: &Image, ask: impl FnOnce(&Analyses) -> T) -> T {
-    ask(&program(image).analyses())
+    ask(&program(image).analyses(Rule::House))
 }
 
 /// The paper's image for `report`.
@@ -61,6 +61,27 @@ fn codes_are_numbered_as_the_source_names_them() {
     assert_eq!(named, Code::ALL.map(|code| format!("{code:?}")));
     let shim: Vec<&str> = sir_data::operation::OperationKind::ALL.iter().map(|kind| kind.mnemonic()).collect();
     assert_eq!(named, shim);
+}
+
+/// The smallest image on which the two rules differ: a pointer that is a topic.
+#[test]
+fn a_topic_by_both_rules() {
+    let program = program(&samples::topic());
+    let record = |rule| program.analyses(rule).allocation(0);
+    assert_eq!(record(Rule::Source), [0, 0, 0, 0, 32, 0, 0, 1, 0, 1, 2]);
+    assert_eq!(record(Rule::House), [0, 0, 0, 0, 32, 0, 1, 0]);
+}
+
+/// The source marks by no operand of a log; the altered arms mark by topics and by nothing else.
+#[test]
+fn every_position_of_logs() {
+    let program = program(&samples::logs());
+    let marks = |rule| {
+        let plank = program.analyses(rule);
+        (0..plank.count(IdKind::Allocation)).map(|number| plank.allocation(number)[6]).collect::<Vec<_>>()
+    };
+    assert_eq!(marks(Rule::Source), [0; 20]);
+    assert_eq!(marks(Rule::House), samples::LOG_MARKS);
 }
 
 /// Two allocations with one base: the source asserts.

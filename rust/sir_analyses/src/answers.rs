@@ -71,7 +71,7 @@ pub struct Allocation {
     pub base: LocalId,
     /// Its size.
     pub size: Size,
-    /// Whether it is marked: its pointer may be known elsewhere.
+    /// Whether it is marked: its pointer may be known elsewhere, as one that is a log's topic, or stand where another's does.
     pub marked: bool,
     /// Where its pointers are alive; none where it is marked.
     pub intervals: Vec<Interval>,

@@ -71,6 +71,14 @@ fn all_ids_decoded() {
     assert_eq!(lengths, [16, 3]);
 }
 
+/// A pointer escapes as a topic of a log, and not as its offset or size.
+#[test]
+fn pointers_in_logs() {
+    let all = sir_analyses::all_allocations(&samples::logs().pages()).unwrap();
+    assert_eq!(all.iter().map(|allocation| u32::from(allocation.marked)).collect::<Vec<_>>(), samples::LOG_MARKS);
+    assert!(all.iter().all(|allocation| allocation.intervals.is_empty() == allocation.marked));
+}
+
 #[test]
 fn refusals_decoded() {
     let image = samples::report().pages();

@@ -114,6 +114,48 @@ pub fn touching() -> Image {
     image
 }
 
+/// The smallest image whose answers differ from the source's: a pointer that is a log's topic.
+pub fn topic() -> Image {
+    let mut image = Image::new(1);
+    image.operation_with(Code::StaticAllocZeroed, &[], &[0], [32, 0]);
+    image.operation(Code::Log1, &[0, 0, 0], &[]);
+    image.block(&[], &[], Span::new(0, 2), Control::LastOpTerminates);
+    image.function(0);
+    image
+}
+
+/// An allocation for each position of each log, `Log0` first and offset, size and topics in turn: its pointer stands there
+/// and is used nowhere else. Local 20 is no pointer, and stands in the other positions.
+pub fn logs() -> Image {
+    const VALUE: u32 = 20;
+    let mut image = Image::new(VALUE + 1);
+    image.operation(Code::SetSmallConst, &[], &[VALUE]);
+    let mut pointer = 0;
+    for (code, inputs) in [(Code::Log0, 2), (Code::Log1, 3), (Code::Log2, 4), (Code::Log3, 5), (Code::Log4, 6)] {
+        for position in 0..inputs {
+            image.operation_with(Code::StaticAllocZeroed, &[], &[pointer], [32, pointer]);
+            let mut operands = vec![VALUE; inputs];
+            operands[position] = pointer;
+            image.operation(code, &operands, &[]);
+            pointer += 1;
+        }
+    }
+    image.operation(Code::Stop, &[], &[]);
+    image.block(&[], &[], image.operations_from(0), Control::LastOpTerminates);
+    image.function(0);
+    image
+}
+
+/// The marks of the allocations of [`logs`]: topics escape, and neither offsets nor sizes do.
+#[rustfmt::skip]
+pub const LOG_MARKS: [u32; 20] = [
+    0, 0,
+    0, 0, 1,
+    0, 0, 1, 1,
+    0, 0, 1, 1, 1,
+    0, 0, 1, 1, 1, 1,
+];
+
 /// Two allocations that meet in block 0 alone, which has no operations: both live from its start to its end, the first as
 /// its condition, the second up to operation 0 of block 1. Block 3, with two operations, is not visited.
 pub fn bare_ends() -> Image {

@@ -1,4 +1,4 @@
-//! Plank's analyses.
+//! Plank's analyses, and that of allocations a second time with the arms of `Log1` to `Log4` altered (`altered`).
 //!
 //! Shims: the module `analyses` itself, its `cache::Analysis`, and `analyses::AnalysesStore` with `reachable_blocks`.
 #![cfg_attr(plank_sources, allow(missing_docs, clippy::all))]
@@ -40,6 +40,7 @@ pub mod analyses {
         def_use: OnceCell<DefUse>,
         local_liveness: OnceCell<LocalLiveness>,
         allocation_liveness: OnceCell<AllocationLiveness>,
+        altered_allocation_liveness: OnceCell<altered::allocation_liveness::AllocationLiveness>,
     }
 
     impl AnalysesStore {
@@ -80,6 +81,13 @@ pub mod analyses {
 
         pub fn allocation_liveness(&self, program: &EthIRProgram) -> &AllocationLiveness {
             self.get(&self.allocation_liveness, program)
+        }
+
+        pub fn altered_allocation_liveness(
+            &self,
+            program: &EthIRProgram,
+        ) -> &altered::allocation_liveness::AllocationLiveness {
+            self.get(&self.altered_allocation_liveness, program)
         }
     }
 }

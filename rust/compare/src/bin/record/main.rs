@@ -6,8 +6,8 @@
 //! ```
 //!
 //! The first replaces what is in `crates/replay/data`, with `args` and `stdout`; `data/README` says how the files are made.
-//! The answers are Plank's; the rounds, the open allocations and the crossings, which Plank does not report, and all refusals
-//! are the paper's reference's. The library has no part in this.
+//! The answers are Plank's, altered in the four arms by which the topics of logs escape; the rounds, the open allocations and
+//! the crossings, which Plank does not report, and all refusals are the paper's reference's. The library has no part in this.
 //!
 //! The second writes one file, with the reference's answers to the questions about one image, and prints them. A question
 //! is its name, after a colon its ids separated by commas, and after a slash the length of the result slice where it is not

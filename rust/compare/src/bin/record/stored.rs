@@ -4,7 +4,7 @@ use compare::recording::{Recorded, Recording, to_bytes};
 use compare::sides::{questions, unknown};
 use image_gen::{Kind, Rng, Size, damaged, generate, worst};
 use paper_reference::Reference;
-use plank_oracle::{Analyses, Program};
+use plank_oracle::{Analyses, Program, Rule};
 use sir_image::{Image, samples};
 use sir_questions::{IdKind, Question, QuestionKind, Refusal};
 use std::collections::BTreeMap;
@@ -19,6 +19,8 @@ const SMALL: u64 = 8;
 const LARGE: u64 = 2;
 /// Damaged images of each refusal.
 const DAMAGED: usize = 6;
+/// They are made from so many of the small kinds, the first ones: a kind that is added leaves them as they are.
+const DAMAGED_KINDS: usize = 13;
 /// Ids of each question about an image that is not small.
 const SOME_IDS: u32 = 6;
 /// Pairs of ids of each question about two, at the most.
@@ -82,7 +84,7 @@ fn of_image(sample: &Sample, asked: Asked) -> Recording {
         Err(number) => return refused(name, &bytes, number, asked),
     };
     let program = Program::new(image).expect("Plank's files are there");
-    let plank = program.analyses();
+    let plank = program.analyses(Rule::House);
     assert!(!plank.shares_a_base() && plank.count(IdKind::Allocation) == paper.count(IdKind::Allocation), "{name}");
     let mut calls: Vec<Recorded> = Vec::new();
     for kind in asked.kinds() {
@@ -131,7 +133,7 @@ fn refused(name: &str, image: &[u8], number: u32, asked: Asked) -> Recording {
     Recording { name: asked.file(name), image: image.to_vec(), calls }
 }
 
-/// Images that Plank takes: by kinds, the worst, and two that have a case each of crossings.
+/// Images that Plank takes: by kinds, the worst, two that have a case each of crossings, and one with every position of logs.
 fn taken() -> Vec<Sample> {
     let mut all = Vec::new();
     for (group, count, for_all) in [(Kind::SMALL, SMALL, SMALL_FOR_ALL), (Kind::LARGE, LARGE, 1)] {
@@ -151,7 +153,7 @@ fn taken() -> Vec<Sample> {
         small: false,
         for_all: true,
     }));
-    let named = [("touching", samples::touching()), ("bare_ends", samples::bare_ends())];
+    let named = [("touching", samples::touching()), ("bare_ends", samples::bare_ends()), ("logs", samples::logs())];
     all.extend(named.map(|(name, image)| Sample { name: name.to_string(), image, small: true, for_all: false }));
     all
 }
@@ -162,7 +164,7 @@ fn damaged_images() -> Vec<Damaged> {
     let mut found: BTreeMap<u32, Vec<Damaged>> = BTreeMap::new();
     let numbers: Vec<u32> = Refusal::of_images().map(Refusal::number).collect();
     while numbers.iter().any(|number| found.get(number).is_none_or(|all| all.len() < DAMAGED)) {
-        let kind = rng.pick(Kind::SMALL);
+        let kind = rng.pick(&Kind::SMALL[..DAMAGED_KINDS]);
         let image = damaged(&generate(kind, rng.next_u64()), rng);
         let number = paper_reference::refusal(&image);
         let all = found.entry(number).or_default();
@@ -230,14 +232,14 @@ fn readme(files: usize, size: usize, by_number: &BTreeMap<u32, usize>) -> String
     format!(
         "Recorded answers, written by `cargo run --release -p compare --bin record` in the folder rust.\n\
          \n\
-         Answers are those of Plank's own analyses; the rounds, the open allocations and the crossings, which Plank does not\n\
-         report, and the refusals are those of rust/paper_reference. The proved library had no part in writing them. src/main.rt\n\
-         states the form of a file.\n\
+         Answers are those of Plank's own analyses, altered in the four arms by which the topics of logs escape (request R-2);\n\
+         the rounds, the open allocations and the crossings, which Plank does not report, and the refusals are those of\n\
+         rust/paper_reference. The proved library had no part in writing them. src/main.rt states the form of a file.\n\
          \n\
          {files} files, {size} bytes. Seeds from {SEED} on: {SMALL} small images of each of {} kinds, all ids; {LARGE} large\n\
          ones of each of {} kinds and the worst of medium size, about {SOME_IDS} ids of each question and no answer above\n\
-         {LONGEST} bytes; the images touching and bare_ends of rust/sir_image/src/samples.rs; {DAMAGED} damaged images of each number\n\
-         that refuses an image. Of questions about two ids all pairs, or some where these are more than {PAIRS}. Each accepted\n\
+         {LONGEST} bytes; the images touching, bare_ends and logs of rust/sir_image/src/samples.rs; {DAMAGED} damaged images of each\n\
+         number that refuses an image. Of questions about two ids all pairs, or some where these are more than {PAIRS}. Each accepted\n\
          image also has an unknown id (13) and a slice one byte too short (14) for each question that can be so refused. Where\n\
          an operation is not of its block (15) the slice is too short for any answer but an empty one.\n\
          \n\
