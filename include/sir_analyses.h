@@ -36,7 +36,7 @@ extern "C" {
 #endif
 
 /* Goes up by one where a function, or what one of them takes or gives, is added or changed. */
-#define SIR_ANALYSES_VERSION 3
+#define SIR_ANALYSES_VERSION 4
 
 /* Why a question is refused, in the sequence in which the rules are asked. */
 enum sir_refusal {
@@ -109,8 +109,11 @@ sir_answer sir_intervals(const uint8_t *image, size_t image_length, uint32_t loc
 sir_answer sir_owner(const uint8_t *image, size_t image_length, uint32_t local, uint8_t *result, size_t result_length);
 
 /* An allocation: defining block, operation, base local, kind (0 static, 1 dynamic), size or size local, static id (0 if
- * dynamic), mark (0 or 1), interval count, intervals as above. A marked allocation has none. Allocations are numbered in the
- * sequence in which the blocks of the order meet them; the first number that is refused with 13 is their count. */
+ * dynamic), mark (0 or 1), interval count, intervals as above. The mark is 1 where the pointer may be known elsewhere, as
+ * one that is stored, returned or, from version 4 on, a log's topic, or may stand where another allocation's does; the
+ * allocation then has no intervals. docs/FORMAT.md has the inputs by which a pointer escapes, code by code. Allocations are
+ * numbered in the sequence in which the blocks of the order meet them; the first number that is refused with 13 is their
+ * count. */
 sir_answer sir_allocation(const uint8_t *image, size_t image_length, uint32_t allocation, uint8_t *result,
                           size_t result_length);
 
