@@ -10,9 +10,9 @@ pub struct Codes {
     pub allocating: u32,
     pub deriving: u32,
     pub calling: u32,
-    /// Those with escaping inputs that neither allocate nor call.
+    /// Those up to `MemoryStore` that do not allocate; all of them have escaping inputs.
     pub escaping: u32,
-    /// All others.
+    /// All others, logs among them.
     pub plain: u32,
 }
 

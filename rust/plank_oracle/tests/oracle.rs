@@ -72,16 +72,23 @@ fn a_topic_by_both_rules() {
     assert_eq!(record(Rule::House), [0, 0, 0, 0, 32, 0, 1, 0]);
 }
 
-/// The source marks by no operand of a log; the altered arms mark by topics and by nothing else.
+/// Of a pointer at every input position of every code the two rules differ at topics, and nowhere else.
 #[test]
-fn every_position_of_logs() {
-    let program = program(&samples::logs());
-    let marks = |rule| {
-        let plank = program.analyses(rule);
-        (0..plank.count(IdKind::Allocation)).map(|number| plank.allocation(number)[6]).collect::<Vec<_>>()
-    };
-    assert_eq!(marks(Rule::Source), [0; 20]);
-    assert_eq!(marks(Rule::House), samples::LOG_MARKS);
+fn only_topics_are_altered() {
+    let image = samples::input_positions(&Code::ALL);
+    let program = program(&image);
+    let [house, source] = [Rule::House, Rule::Source].map(|rule| program.analyses(rule));
+    let mut topics = 0;
+    for number in 0..house.count(IdKind::Allocation) {
+        let record = house.allocation(number);
+        // The operation after the one that makes the allocation has its pointer, if any has.
+        let next = &image.operations[record[1] as usize + 1];
+        let inputs = &image.operands[next.inputs.start as usize..next.inputs.end as usize];
+        let topic = (72..=75).contains(&next.code) && inputs[2..].contains(&record[2]);
+        assert_eq!(record != source.allocation(number), topic, "{next:?}");
+        topics += u32::from(topic);
+    }
+    assert_eq!(topics, 10);
 }
 
 /// Two allocations with one base: the source asserts.

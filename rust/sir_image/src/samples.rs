@@ -1,6 +1,6 @@
 //! Images that are known by name.
 
-use crate::{Code, Control, Image, Span};
+use crate::{Code, Control, Count, Image, LocalId, Span};
 use crate::{MAX_BLOCKS, MAX_FUNCTIONS, MAX_LOCALS, MAX_OPERANDS, MAX_OPERATIONS, MAX_TARGETS};
 
 /// The image of `report`'s example: a pointer that block 0 stores through and block 1 loads through.
@@ -124,26 +124,33 @@ pub fn topic() -> Image {
     image
 }
 
-/// An allocation for each position of each log, `Log0` first and offset, size and topics in turn: its pointer stands there
-/// and is used nowhere else. Local 20 is no pointer, and stands in the other positions.
-pub fn logs() -> Image {
-    const VALUE: u32 = 20;
-    let mut image = Image::new(VALUE + 1);
-    image.operation(Code::SetSmallConst, &[], &[VALUE]);
-    let mut pointer = 0;
-    for (code, inputs) in [(Code::Log0, 2), (Code::Log1, 3), (Code::Log2, 4), (Code::Log3, 5), (Code::Log4, 6)] {
+/// An allocation for each input position of each of these codes, in turn: its pointer stands there and is used nowhere else.
+/// Local 0 is no pointer and stands in the other positions; calls have two inputs. What an operation gives is not used.
+pub fn input_positions(codes: &[Code]) -> Image {
+    let mut image = Image::new(1);
+    image.operation(Code::SetSmallConst, &[], &[0]);
+    for &code in codes {
+        let (inputs, outputs) = code.operand_counts();
+        let inputs = if let Count::Exactly(count) = inputs { count } else { 2 };
         for position in 0..inputs {
+            let pointer = image.locals;
             image.operation_with(Code::StaticAllocZeroed, &[], &[pointer], [32, pointer]);
-            let mut operands = vec![VALUE; inputs];
-            operands[position] = pointer;
-            image.operation(code, &operands, &[]);
-            pointer += 1;
+            let mut operands = vec![0; inputs as usize];
+            operands[position as usize] = pointer;
+            let given: &[LocalId] = if outputs == Count::Exactly(0) { &[] } else { &[pointer + 1] };
+            image.operation(code, &operands, given);
+            image.locals += 1 + given.len() as u32;
         }
     }
     image.operation(Code::Stop, &[], &[]);
     image.block(&[], &[], image.operations_from(0), Control::LastOpTerminates);
     image.function(0);
     image
+}
+
+/// A pointer at each position of each log: `Log0` first, and of each offset, size, topics.
+pub fn logs() -> Image {
+    input_positions(&[Code::Log0, Code::Log1, Code::Log2, Code::Log3, Code::Log4])
 }
 
 /// The marks of the allocations of [`logs`]: topics escape, and neither offsets nor sizes do.

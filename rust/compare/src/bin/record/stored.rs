@@ -5,7 +5,7 @@ use compare::sides::{questions, unknown};
 use image_gen::{Kind, Rng, Size, damaged, generate, worst};
 use paper_reference::Reference;
 use plank_oracle::{Analyses, Program, Rule};
-use sir_image::{Image, samples};
+use sir_image::{Code, Image, samples};
 use sir_questions::{IdKind, Question, QuestionKind, Refusal};
 use std::collections::BTreeMap;
 use std::path::{Path, PathBuf};
@@ -133,7 +133,8 @@ fn refused(name: &str, image: &[u8], number: u32, asked: Asked) -> Recording {
     Recording { name: asked.file(name), image: image.to_vec(), calls }
 }
 
-/// Images that Plank takes: by kinds, the worst, two that have a case each of crossings, and one with every position of logs.
+/// Images that Plank takes: by kinds, the worst, two that have a case each of crossings, and two with a pointer at every input
+/// position of some codes or of all.
 fn taken() -> Vec<Sample> {
     let mut all = Vec::new();
     for (group, count, for_all) in [(Kind::SMALL, SMALL, SMALL_FOR_ALL), (Kind::LARGE, LARGE, 1)] {
@@ -155,6 +156,8 @@ fn taken() -> Vec<Sample> {
     }));
     let named = [("touching", samples::touching()), ("bare_ends", samples::bare_ends()), ("logs", samples::logs())];
     all.extend(named.map(|(name, image)| Sample { name: name.to_string(), image, small: true, for_all: false }));
+    let every_code = samples::input_positions(&Code::ALL);
+    all.push(Sample { name: "input_positions".to_string(), image: every_code, small: false, for_all: true });
     all
 }
 
@@ -238,13 +241,14 @@ fn readme(files: usize, size: usize, by_number: &BTreeMap<u32, usize>) -> String
          \n\
          {files} files, {size} bytes. Seeds from {SEED} on: {SMALL} small images of each of {} kinds, all ids; {LARGE} large\n\
          ones of each of {} kinds and the worst of medium size, about {SOME_IDS} ids of each question and no answer above\n\
-         {LONGEST} bytes; the images touching, bare_ends and logs of rust/sir_image/src/samples.rs; {DAMAGED} damaged images of each\n\
-         number that refuses an image. Of questions about two ids all pairs, or some where these are more than {PAIRS}. Each accepted\n\
-         image also has an unknown id (13) and a slice one byte too short (14) for each question that can be so refused. Where\n\
-         an operation is not of its block (15) the slice is too short for any answer but an empty one.\n\
+         {LONGEST} bytes; the images touching, bare_ends, logs and input_positions of rust/sir_image/src/samples.rs; {DAMAGED}\n\
+         damaged images of each number that refuses an image. Of questions about two ids all pairs, or some where these are\n\
+         more than {PAIRS}. Each accepted image also has an unknown id (13) and a slice one byte too short (14) for each question\n\
+         that can be so refused. Where an operation is not of its block (15) the slice is too short for any answer but an empty\n\
+         one.\n\
          \n\
-         Files all_* have the questions for all ids: of {SMALL_FOR_ALL} small images of each kind, of one large one, of the worst, and of one\n\
-         damaged image of each number; where an answer is longer, with a slice of {TOO_SHORT} bytes (14).\n\
+         Files all_* have the questions for all ids: of {SMALL_FOR_ALL} small images of each kind, of one large one, of the worst, of\n\
+         input_positions, and of one damaged image of each number; where an answer is longer, with a slice of {TOO_SHORT} bytes (14).\n\
          \n\
          How often each number is to be given: {}.\n",
         Kind::SMALL.len(),
