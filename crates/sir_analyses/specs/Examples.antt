@@ -1,4 +1,5 @@
--- The examples of document 01, "Paths and joins", and some of our own, as one table that one proof computes; and a walk through a loop.
+-- The examples of document 01, "Paths and joins", those of request R-2, and some of our own, as one table that one proof computes; and a walk
+-- through a loop.
 use mathlib.Core.Path.{_≡_, refl}
 use mathlib.Core.Bool.{true, false}
 use mathlib.Core.List.{List, [], _∷_, _++_, map, List·Memᴰ·head, List·Memᴰ·tail, List·Memᴰ·eq-of-singleton}

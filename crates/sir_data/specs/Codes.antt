@@ -61,7 +61,8 @@ abbrev pub derives : ℕ → Bool
 derives c = between 27 37 c || between 44 51 c || eqb c 85
 
 -- is the input at position k, from 0, an escaping operand of the code? The list is document 01's, and request R-2 added the clause of 72 to
--- 75, `Log1` to `Log4`: all but offset and size, which are the topics, from position 2 up. The last line has the codes with all inputs escaping
+-- 75, `Log1` to `Log4`: their topics, from position 2 up, which are all inputs but offset and size. The last line has the codes with all inputs
+-- escaping
 abbrev pub escaping : ℕ → ℕ → Bool
 escaping c k =
     cond (eqb c 0 || eqb c 24) (eqb k 1)
