@@ -21,8 +21,8 @@ struct Tree {
     folder: &'static str,
     /// The files, all of them unchanged.
     files: &'static [&'static str],
-    /// Those of them that also stand in the module `altered`, and what is replaced there: a text that the file has once.
-    altered: &'static [(&'static str, &'static str, &'static str)],
+    /// The one of them that also stands in the module `altered`; a text that it has once, and what stands for it there.
+    altered: Option<(&'static str, &'static str, &'static str)>,
     /// Files of the crate's own folder `shims`, and where they stand among the others.
     shims: &'static [(&'static str, &'static str)],
 }
@@ -39,14 +39,14 @@ const TREES: &[Tree] = &[
             "list_of_lists.rs",
             "span.rs",
         ],
-        altered: &[],
+        altered: None,
         shims: &[("idx_slice.rs", "index_vec/idx_slice.rs")],
     },
     Tree {
         package: "sir_data",
         folder: "plankc/sir/crates/data/src",
         files: &["lib.rs", "view.rs"],
-        altered: &[],
+        altered: None,
         shims: &[("builder.rs", "builder.rs"), ("index.rs", "index.rs"), ("operation.rs", "operation.rs")],
     },
     Tree {
@@ -59,7 +59,7 @@ const TREES: &[Tree] = &[
             "predecessors.rs",
             "reverse_post_order.rs",
         ],
-        altered: &[("allocation_liveness.rs", LOGS, LOGS_WITH_TOPICS)],
+        altered: Some(("allocation_liveness.rs", LOGS, LOGS_WITH_TOPICS)),
         shims: &[],
     },
 ];
@@ -115,7 +115,7 @@ fn main() -> io::Result<()> {
         link(&sources.join(tree.folder).join(file), &mirror.join(file))?;
         modules += &format!("pub mod {};\n", module(file));
     }
-    for &(file, text, replacement) in tree.altered {
+    if let Some((file, text, replacement)) = tree.altered {
         alter(&sources.join(tree.folder).join(file), &mirror.join("altered").join(file), text, replacement)?;
         modules += &format!("pub mod altered {{\n    pub mod {};\n}}\n", module(file));
     }

@@ -159,7 +159,7 @@ fn compare_all(name: &str, images: impl Iterator<Item = (String, Image)>, compar
     }
     let Tally { images, refused, left_out, answers, words, merged, most_rounds, logs, open, crossings, .. } = tally;
     let [all, marked] = tally.allocations;
-    if images > 0 {
+    if images + left_out > 0 {
         println!("{name}: {images} compared, {refused} of them refused by both sides");
         if left_out > 0 {
             println!("  {left_out} left out: a topic is a pointer");
