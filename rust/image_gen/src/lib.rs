@@ -140,7 +140,7 @@ pub fn generate(kind: Kind, seed: u64) -> Image {
         Kind::SmallAllocating => large::small_allocating(rng),
         Kind::SmallRenaming => large::small_renaming(rng),
         Kind::Crossings => crossings::image(rng),
-        Kind::Topics => small::topics(rng),
+        Kind::Topics => lifetimes::image(&small::TOPICS, rng),
     }
 }
 

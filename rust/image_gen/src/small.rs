@@ -99,35 +99,25 @@ pub fn loops(rng: &mut Rng) -> Image {
     shape::image(&shape, rng)
 }
 
+/// Small images of unmarked allocations.
+pub const LIVES: Lifetimes = Lifetimes {
+    groups: (1, 4),
+    members: (1, 4),
+    values: (1, 3),
+    blocks: (1, 6),
+    operations: (1, 6),
+    arity: 4,
+    ends: 16,
+    leaks: 0,
+    logs: 0,
+};
+
 pub fn lives(rng: &mut Rng) -> Image {
-    let shape = Lifetimes {
-        groups: (1, 4),
-        members: (1, 4),
-        values: (1, 3),
-        blocks: (1, 6),
-        operations: (1, 6),
-        arity: 4,
-        ends: 16,
-        leaks: rng.pick(&[0, 0, 1, 5]),
-        logs: 0,
-    };
-    lifetimes::image(&shape, rng)
+    let leaks = rng.pick(&[0, 0, 1, 5]);
+    lifetimes::image(&Lifetimes { leaks, ..LIVES }, rng)
 }
 
-pub fn topics(rng: &mut Rng) -> Image {
-    let shape = Lifetimes {
-        groups: (1, 4),
-        members: (1, 3),
-        values: (1, 3),
-        blocks: (1, 4),
-        operations: (1, 6),
-        arity: 3,
-        ends: 20,
-        leaks: 0,
-        logs: 60,
-    };
-    lifetimes::image(&shape, rng)
-}
+pub const TOPICS: Lifetimes = Lifetimes { logs: 60, ..LIVES };
 
 /// An entry that branches into a cycle at two places, in a small image.
 pub fn irreducible(rng: &mut Rng) -> Image {
