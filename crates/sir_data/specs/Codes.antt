@@ -1,5 +1,5 @@
--- The tables by operation code (document 01, "The image" and "Rules of the analyses"): calls, allocations, operand counts,
--- deriving codes, escaping inputs.
+-- The tables by operation code (document 01, "The image" and "Rules of the analyses", and request R-2): calls, allocations, operand
+-- counts, deriving codes, escaping inputs.
 use mathlib.Core.Bool.{Bool, true, not, _&&_, _||_, cond}
 use Prim.Native.Nat.{ℕ, _+_, _-_}
 use mathlib.Core.List.{[], _∷_}

@@ -14,9 +14,9 @@
 //! the analyses that it needs and of its answer. Two lines are about all answers, for Plank both one run of all analyses and
 //! all answers from it: "every question about every id" is for the library the sum of the single times, "order, rounds and
 //! the seven together" the time of the two questions without ids and the seven for all ids, one call each; questions about two
-//! ids are in neither. Plank reports no rounds, no open allocations and no crossings, so these have no ratio; it is altered in
-//! the four arms by which the topics of logs escape, so that both give the same answers. Result slices are lent once, of 64
-//! MiB, and not cleared between calls: where the answer is longer, the time is that of the refusal. A side that was missing
+//! ids are in neither. Plank reports no rounds, no open allocations and no crossings, so these have no ratio; its
+//! arms for `Log1` to `Log4` are altered so that topics escape, and both give the same answers. Result slices are lent once,
+//! of 64 MiB, and not cleared between calls: where the answer is longer, the time is that of the refusal. A side that was missing
 //! when this was built is left out, with a message.
 //!
 //! With `--old` the other side is the library of an archive, such as a `libsir_capi.a` of an earlier state of the

@@ -1,7 +1,7 @@
 //! Times of single calls, and the rows that show them.
 
 use paper_reference::Reference;
-use plank_oracle::{Analyses, Program, Rule};
+use plank_oracle::{Analyses, Program, Source};
 use sir_image::Image;
 use sir_questions::{Question, QuestionKind, spread};
 use std::hint::black_box;
@@ -84,7 +84,7 @@ impl Timed {
 
     /// Something with analyses that have not run yet.
     pub fn fresh(&self, run: impl FnOnce(&Analyses)) {
-        run(&self.program.as_ref().expect("Plank's files are there").analyses(Rule::House));
+        run(&self.program.as_ref().expect("Plank's files are there").analyses(Source::Altered));
     }
 }
 

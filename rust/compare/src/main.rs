@@ -14,8 +14,8 @@
 //! ```
 //!
 //! Images of every kind are taken in turn, each with a seed of its own. Where files are named, these images are taken
-//! and none are generated. With Plank every answer is compared that it has: on all images with Plank altered in the four
-//! arms by which the topics of logs escape, and then with Plank unaltered on those in which no topic is a pointer. With the
+//! and none are generated. With Plank every answer is compared that it has: on all images with its arms for `Log1` to `Log4`
+//! altered so that topics escape, and then with Plank unaltered on those in which no topic is a pointer. With the
 //! library every answer is compared, its number, its length, each byte of the result slice, unknown ids and slices that are
 //! too short. Each question about one id is put for every id, and then once for all ids; one about two ids for every pair of
 //! them, or for a choice where these are many. Where two sides disagree, the image is made as small as it goes and shown,
@@ -113,8 +113,8 @@ type Failure = (u8, String);
 fn run(options: &Options) -> Result<(), Failure> {
     let mut sides: Vec<(&str, Compare)> = Vec::new();
     if plank_oracle::PRESENT {
-        sides.push(("Plank", sides::with_plank));
-        sides.push(("Plank unaltered", sides::with_plank_unaltered));
+        sides.push((sides::PLANK, sides::with_plank));
+        sides.push((sides::UNALTERED, sides::with_plank_unaltered));
     } else {
         println!("Plank's files were missing when this was built (set PLANK_SRC): nothing is compared with them");
     }

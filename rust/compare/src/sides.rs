@@ -2,7 +2,7 @@
 
 use crate::tally::Tally;
 use paper_reference::Reference;
-use plank_oracle::{Program, Rule};
+use plank_oracle::{Program, Source};
 use sir_analyses::{Answer, calls};
 use sir_image::Image;
 use sir_questions::{Cause, IdKind, Question, QuestionKind, Refusal, spread};
@@ -24,8 +24,10 @@ impl Display for Disagreement {
     }
 }
 
-const PLANK: &str = "Plank";
-const UNALTERED: &str = "Plank unaltered";
+/// The name of the side that is Plank altered.
+pub const PLANK: &str = "Plank";
+/// The name of the side that is Plank as it is.
+pub const UNALTERED: &str = "Plank unaltered";
 const LIBRARY: &str = "library";
 
 fn agree<T: Debug + PartialEq>(
@@ -41,25 +43,30 @@ fn agree<T: Debug + PartialEq>(
     Err(Disagreement { question, paper: format!("{paper:?}"), other: format!("{other:?}"), name })
 }
 
-/// Compares the paper's answers with those of Plank with four arms altered, all that Plank has, on an image that it takes.
+/// Compares the paper's answers with those of Plank altered, all that Plank has, on an image that it takes.
 pub fn with_plank(image: &Image, tally: &mut Tally) -> Result<(), Disagreement> {
-    with_plank_by(Rule::House, PLANK, image, tally)
+    with_source(Source::Altered, PLANK, image, Reference::new(&image.pages()), tally)
 }
 
 /// The same with Plank as it is, where no topic of a log is a pointer; an image that has one is left out.
 pub fn with_plank_unaltered(image: &Image, tally: &mut Tally) -> Result<(), Disagreement> {
-    let in_topic = |paper: Reference| paper.pointers_in_logs().into_iter().any(|position| position >= 2);
-    if Reference::new(&image.pages()).is_ok_and(in_topic) {
+    let paper = Reference::new(&image.pages());
+    if paper.as_ref().is_ok_and(|paper| paper.pointers_in_logs().into_iter().any(|position| position >= 2)) {
         tally.left_out += 1;
         return Ok(());
     }
-    with_plank_by(Rule::Source, UNALTERED, image, tally)
+    with_source(Source::Unaltered, UNALTERED, image, paper, tally)
 }
 
-fn with_plank_by(rule: Rule, name: &'static str, image: &Image, tally: &mut Tally) -> Result<(), Disagreement> {
+fn with_source(
+    source: Source,
+    name: &'static str,
+    image: &Image,
+    paper: Result<Reference, u32>,
+    tally: &mut Tally,
+) -> Result<(), Disagreement> {
     let program = Program::new(image).expect("Plank's files are there");
-    let plank = program.analyses(rule);
-    let paper = Reference::new(&image.pages());
+    let plank = program.analyses(source);
     tally.images += 1;
     let refused = paper.as_ref().err().copied().unwrap_or(0);
     agree("refusal", refused, name, if plank.shares_a_base() { Refusal::SHARED_BASE.number() } else { 0 })?;

@@ -7,9 +7,6 @@ use sir_image::{Block, BlockId, Code, Control, Image, LocalId, MAX_OPERANDS, Spa
 const DERIVING: [Code; 8] =
     [Code::Add, Code::Sub, Code::Mul, Code::Mod, Code::Exp, Code::And, Code::Shl, Code::SignExtend];
 
-/// The logs, by the number of their topics.
-const LOGS: [Code; 5] = [Code::Log0, Code::Log1, Code::Log2, Code::Log3, Code::Log4];
-
 /// What images are to look like.
 #[derive(Clone, Copy, Debug)]
 pub struct Lifetimes {
@@ -200,13 +197,13 @@ impl<'a> Builder<'a> {
 
     /// A log with the pointer as its offset, and now and then one as its size or as a topic.
     fn log(&mut self, offset: LocalId) {
-        let topics = self.rng.below(LOGS.len() as u32);
+        let topics = self.rng.below(Code::LOGS.len() as u32);
         let mut operands = vec![offset];
         for chance in [25].into_iter().chain((0..topics).map(|_| 10)) {
             let operand = if self.rng.percent(chance) { self.pointer() } else { self.value() };
             operands.push(operand);
         }
-        self.image.operation(LOGS[topics as usize], &operands, &[]);
+        self.image.operation(Code::LOGS[topics as usize], &operands, &[]);
     }
 
     /// An operation that neither allocates nor derives from the pointer, by its number from 5 to 15.

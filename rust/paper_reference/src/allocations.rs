@@ -49,10 +49,7 @@ impl Uses {
     /// Those of an image. A use is one in a visited block.
     pub fn of(records: &Records, order: &Order) -> Uses {
         let mut uses = Uses { links: vec![BTreeSet::new(); records.locals], published: vec![false; records.locals] };
-        let covered: BTreeSet<usize> =
-            order.blocks().flat_map(|block| records.blocks[block].operations.clone()).collect();
-        for operation in covered {
-            let operation = &records.operations[operation];
+        for operation in order.operations(records) {
             for (position, &input) in operation.inputs.iter().enumerate() {
                 if codes::derives(operation.code) {
                     uses.links[input].extend(&operation.outputs);

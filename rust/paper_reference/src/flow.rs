@@ -1,7 +1,8 @@
 //! Order, predecessors, uses, liveness and intervals.
 
 use crate::codes;
-use crate::records::{Block, Records};
+use crate::records::{Block, Operation, Records};
+use std::collections::BTreeSet;
 
 /// The order: functions, and the blocks of each.
 #[derive(Clone, Debug, Default)]
@@ -40,6 +41,13 @@ impl Order {
     /// The blocks of all functions, in turn.
     pub fn blocks(&self) -> impl DoubleEndedIterator<Item = usize> {
         self.functions.iter().flat_map(|(_, blocks)| blocks.iter().copied())
+    }
+
+    /// The operations of all these blocks, each once.
+    pub fn operations<'a>(&self, records: &'a Records) -> impl Iterator<Item = &'a Operation> {
+        let covered: BTreeSet<usize> =
+            self.blocks().flat_map(|block| records.blocks[block].operations.clone()).collect();
+        covered.into_iter().map(|operation| &records.operations[operation])
     }
 }
 

@@ -169,10 +169,7 @@ impl Reference {
     /// Where pointers stand in logs of visited blocks: the position of each operand that some allocation reaches.
     pub fn pointers_in_logs(&self) -> Vec<usize> {
         let reached: BTreeSet<usize> = self.reaches().iter().flatten().copied().collect();
-        let visited: BTreeSet<usize> =
-            self.order.blocks().flat_map(|block| self.records.blocks[block].operations.clone()).collect();
-        let logs = visited.into_iter().map(|operation| &self.records.operations[operation]);
-        let logs = logs.filter(|operation| codes::is_log(operation.code));
+        let logs = self.order.operations(&self.records).filter(|operation| codes::is_log(operation.code));
         logs.flat_map(|log| log.inputs.iter().enumerate())
             .filter(|(_, input)| reached.contains(input))
             .map(|(position, _)| position)

@@ -1,6 +1,6 @@
 //! The interface without Plank's files: no program can be made.
 
-use crate::Rule;
+use crate::Source;
 use sir_image::Image;
 use sir_questions::IdKind;
 use std::convert::Infallible;
@@ -21,8 +21,8 @@ impl Program {
         None
     }
 
-    /// Its analyses by a rule, none of them run yet.
-    pub fn analyses(&self, _rule: Rule) -> Analyses<'_> {
+    /// Its analyses by the source, altered or not, none of them run yet.
+    pub fn analyses(&self, _source: Source) -> Analyses<'_> {
         match self.0 {}
     }
 }

@@ -6,7 +6,7 @@
 //!
 //! One of them, `allocation_liveness.rs`, is compiled a second time with four arms altered: those of `Log1` to `Log4` in
 //! `operation_causes_ptr_escape`, by which topics escape (request R-2). `sources.rs` has the text that is replaced, and the
-//! build fails where the file does not have it. A [`Rule`] says which of the two answers.
+//! build fails where the file does not have it. A [`Source`] says which of the two answers.
 //!
 //! # Shims
 //!
@@ -42,13 +42,13 @@ pub use absent::{Analyses, Program, SOURCES};
 
 use sir_questions::{Question, QuestionKind, Refusal};
 
-/// Which inputs let a pointer escape.
+/// The text of `allocation_liveness.rs` that answers.
 #[derive(Clone, Copy, Debug, PartialEq, Eq)]
-pub enum Rule {
-    /// Those of the source, and the topics of logs: `allocation_liveness.rs` with four arms altered.
-    House,
-    /// Those of the source: `allocation_liveness.rs` as it is.
-    Source,
+pub enum Source {
+    /// With the arms of `Log1` to `Log4` altered: their topics let a pointer escape.
+    Altered,
+    /// As it is: no input of a log does.
+    Unaltered,
 }
 
 /// Whether Plank's files were there when this was built.

@@ -1,6 +1,6 @@
 //! Programs from images, and answers from the analyses.
 
-use crate::Rule;
+use crate::Source;
 use plank_core::{Idx, IndexVec, Span};
 use sir_data::operation::{OperationKind, Record};
 use sir_data::{
@@ -60,9 +60,9 @@ impl Program {
         Some(Program(program))
     }
 
-    /// Its analyses by a rule, none of them run yet.
-    pub fn analyses(&self, rule: Rule) -> Analyses<'_> {
-        Analyses { program: &self.0, store: AnalysesStore::default(), rule }
+    /// Its analyses by the source, altered or not, none of them run yet.
+    pub fn analyses(&self, source: Source) -> Analyses<'_> {
+        Analyses { program: &self.0, store: AnalysesStore::default(), source }
     }
 }
 
@@ -104,14 +104,14 @@ fn control(control: sir_image::Control, cases: &mut IndexVec<sir_data::CasesId, 
 pub struct Analyses<'a> {
     program: &'a EthIRProgram,
     store: AnalysesStore,
-    rule: Rule,
+    source: Source,
 }
 
 impl Analyses<'_> {
     fn allocations(&self) -> &dyn Allocations {
-        match self.rule {
-            Rule::House => self.store.altered_allocation_liveness(self.program),
-            Rule::Source => self.store.allocation_liveness(self.program),
+        match self.source {
+            Source::Altered => self.store.altered_allocation_liveness(self.program),
+            Source::Unaltered => self.store.allocation_liveness(self.program),
         }
     }
 

@@ -1,7 +1,7 @@
 //! The oracle on images whose answers the paper gives, and the tables that it rests on.
 #![cfg(plank_sources)]
 
-use plank_oracle::{Analyses, Program, Rule, SOURCES};
+use plank_oracle::{Analyses, Program, SOURCES, Source};
 use sir_image::{Code, Control, Image, Span, samples};
 use sir_questions::{IdKind, Question};
 
@@ -12,7 +12,7 @@ fn program(image: &Image) -> Program {
 }
 
 fn with<T>(image: &Image, ask: impl FnOnce(&Analyses) -> T) -> T {
-    ask(&program(image).analyses(Rule::House))
+    ask(&program(image).analyses(Source::Altered))
 }
 
 /// The paper's image for `report`.
@@ -63,29 +63,29 @@ fn codes_are_numbered_as_the_source_names_them() {
     assert_eq!(named, shim);
 }
 
-/// The smallest image on which the two rules differ: a pointer that is a topic.
+/// The smallest image on which the altered source differs: a pointer that is a topic.
 #[test]
-fn a_topic_by_both_rules() {
+fn a_topic() {
     let program = program(&samples::topic());
-    let record = |rule| program.analyses(rule).allocation(0);
-    assert_eq!(record(Rule::Source), [0, 0, 0, 0, 32, 0, 0, 1, 0, 1, 2]);
-    assert_eq!(record(Rule::House), [0, 0, 0, 0, 32, 0, 1, 0]);
+    let record = |source| program.analyses(source).allocation(0);
+    assert_eq!(record(Source::Unaltered), [0, 0, 0, 0, 32, 0, 0, 1, 0, 1, 2]);
+    assert_eq!(record(Source::Altered), [0, 0, 0, 0, 32, 0, 1, 0]);
 }
 
-/// Of a pointer at every input position of every code the two rules differ at topics, and nowhere else.
+/// With a pointer at every input position of every code the altered source differs at topics, and nowhere else.
 #[test]
 fn only_topics_are_altered() {
     let image = samples::input_positions(&Code::ALL);
     let program = program(&image);
-    let [house, source] = [Rule::House, Rule::Source].map(|rule| program.analyses(rule));
+    let [altered, unaltered] = [Source::Altered, Source::Unaltered].map(|source| program.analyses(source));
     let mut topics = 0;
-    for number in 0..house.count(IdKind::Allocation) {
-        let record = house.allocation(number);
+    for number in 0..altered.count(IdKind::Allocation) {
+        let record = altered.allocation(number);
         // The operation after the one that makes the allocation has its pointer, if any has.
         let next = &image.operations[record[1] as usize + 1];
         let inputs = &image.operands[next.inputs.start as usize..next.inputs.end as usize];
         let topic = (72..=75).contains(&next.code) && inputs[2..].contains(&record[2]);
-        assert_eq!(record != source.allocation(number), topic, "{next:?}");
+        assert_eq!(record != unaltered.allocation(number), topic, "{next:?}");
         topics += u32::from(topic);
     }
     assert_eq!(topics, 10);

@@ -12,6 +12,9 @@ macro_rules! codes {
         impl Code {
             /// Every code, at its own number.
             pub const ALL: [Code; 93] = [$(Code::$name),*];
+
+            /// The logs, by the number of their topics.
+            pub const LOGS: [Code; 5] = [Code::Log0, Code::Log1, Code::Log2, Code::Log3, Code::Log4];
         }
     };
 }

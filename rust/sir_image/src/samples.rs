@@ -150,7 +150,7 @@ pub fn input_positions(codes: &[Code]) -> Image {
 
 /// A pointer at each position of each log: `Log0` first, and of each offset, size, topics.
 pub fn logs() -> Image {
-    input_positions(&[Code::Log0, Code::Log1, Code::Log2, Code::Log3, Code::Log4])
+    input_positions(&Code::LOGS)
 }
 
 /// The marks of the allocations of [`logs`]: topics escape, and neither offsets nor sizes do.

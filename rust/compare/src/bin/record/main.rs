@@ -6,7 +6,7 @@
 //! ```
 //!
 //! The first replaces what is in `crates/replay/data`, with `args` and `stdout`; `data/README` says how the files are made.
-//! The answers are Plank's, altered in the four arms by which the topics of logs escape; the rounds, the open allocations and
+//! The answers are Plank's, its arms for `Log1` to `Log4` altered so that topics escape; the rounds, the open allocations and
 //! the crossings, which Plank does not report, and all refusals are the paper's reference's. The library has no part in this.
 //!
 //! The second writes one file, with the reference's answers to the questions about one image, and prints them. A question

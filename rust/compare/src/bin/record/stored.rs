@@ -1,10 +1,10 @@
-//! The files that are stored: Plank's answers; those that Plank does not have, and the refusals, are the reference's.
+//! The files that are stored: the altered Plank's answers; those that Plank does not have, and the refusals, are the reference's.
 
 use compare::recording::{Recorded, Recording, to_bytes};
 use compare::sides::{questions, unknown};
 use image_gen::{Kind, Rng, Size, damaged, generate, worst};
 use paper_reference::Reference;
-use plank_oracle::{Analyses, Program, Rule};
+use plank_oracle::{Analyses, Program, Source};
 use sir_image::{Code, Image, samples};
 use sir_questions::{IdKind, Question, QuestionKind, Refusal};
 use std::collections::BTreeMap;
@@ -19,7 +19,7 @@ const SMALL: u64 = 8;
 const LARGE: u64 = 2;
 /// Damaged images of each refusal.
 const DAMAGED: usize = 6;
-/// They are made from so many of the small kinds, the first ones: a kind that is added leaves them as they are.
+/// The first so many small kinds are damaged: a kind that is added leaves the damaged images as they are.
 const DAMAGED_KINDS: usize = 13;
 /// Ids of each question about an image that is not small.
 const SOME_IDS: u32 = 6;
@@ -84,7 +84,7 @@ fn of_image(sample: &Sample, asked: Asked) -> Recording {
         Err(number) => return refused(name, &bytes, number, asked),
     };
     let program = Program::new(image).expect("Plank's files are there");
-    let plank = program.analyses(Rule::House);
+    let plank = program.analyses(Source::Altered);
     assert!(!plank.shares_a_base() && plank.count(IdKind::Allocation) == paper.count(IdKind::Allocation), "{name}");
     let mut calls: Vec<Recorded> = Vec::new();
     for kind in asked.kinds() {
@@ -235,7 +235,7 @@ fn readme(files: usize, size: usize, by_number: &BTreeMap<u32, usize>) -> String
     format!(
         "Recorded answers, written by `cargo run --release -p compare --bin record` in the folder rust.\n\
          \n\
-         Answers are those of Plank's own analyses, altered in the four arms by which the topics of logs escape (request R-2);\n\
+         Answers are those of Plank's own analyses, its arms for Log1 to Log4 altered so that topics escape (request R-2);\n\
          the rounds, the open allocations and the crossings, which Plank does not report, and the refusals are those of\n\
          rust/paper_reference. The proved library had no part in writing them. src/main.rt states the form of a file.\n\
          \n\
