@@ -14,6 +14,10 @@ wordAt s i = getD s (4 * i) 0 + 256 * getD s (4 * i + 1) 0 + 65536 * getD s (4 *
 abbrev pub pages : List ℕ → ℕ
 pages s = length s / 512
 
+-- the least number of pages that holds n words
+abbrev pub pagesFor : ℕ → ℕ
+pagesFor n = (n + 125) / 126
+
 -- word i of page p: 0 the page number, 1 to 126 payload, 127 the check
 abbrev pub pageWord : List ℕ → ℕ → ℕ → ℕ
 pageWord s p i = wordAt s (128 * p + i)

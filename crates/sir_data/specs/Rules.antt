@@ -1,12 +1,12 @@
 -- Refusals 4 to 11 on payload words w, and which of 1 to 11 is given (document 01, "Refusals, by who causes them"). Each rule
 -- tells whether its refusal applies; a name ending in `Ok` tells the opposite.
 use mathlib.Core.Bool.{Bool, true, not, _&&_, _||_, cond}
-use Prim.Native.Nat.{ℕ, _+_, _-_, _*_, _/_}
+use Prim.Native.Nat.{ℕ, _+_, _-_, _*_}
 use mathlib.Core.List.{List, [], _∷_, _++_}
 use lib.ListN.{length, drop}
 use lib.Dec.{eqb, leb, ltb}
 use Rattle.plank_core.specs.Lists.{upto, count, all, any, distinct}
-use Rattle.sir_data.specs.Pages.{badLength, badNumber, badCheck}
+use Rattle.sir_data.specs.Pages.{pagesFor, badLength, badNumber, badCheck}
 use Rattle.sir_data.specs.Records.{edition, functions, blocks, operations, operandWords, caseTargets, locals, initFunction, mainPlusOne, wordCount, entryBlock, blockWord, opWord, operand, target, inputs, outputs, control, field, successors, optional, code, ins, outs, extra}
 use Rattle.sir_data.specs.Codes.{arityOk, isCall, isStaticAlloc}
 
@@ -23,7 +23,7 @@ rule5 w =
 -- refusal 6: page count not the least that holds the words, or padding not zero; w has 126 words for each page
 unfoldable pub rule6 : List ℕ → Bool
 rule6 w =
-    not (eqb (length w) (126 * ((wordCount w + 125) / 126))) || any (λ x. not (eqb x 0)) (drop (wordCount w) w)
+    not (eqb (length w) (126 * pagesFor (wordCount w))) || any (λ x. not (eqb x 0)) (drop (wordCount w) w)
 
 -- are the control fields of block b zero from field k on?
 abbrev pub zeroFrom : List ℕ → ℕ → ℕ → Bool

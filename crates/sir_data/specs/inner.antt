@@ -2,3 +2,4 @@
 pub mod Cases
 pub mod WellFormed
 pub mod Image
+pub mod LentRecords

@@ -3,3 +3,6 @@ pub mod WellFormed
 pub mod Records
 pub mod Codes
 pub mod Image
+pub mod Bytes
+pub mod Paging
+pub mod LentRecords

@@ -3,6 +3,7 @@ mod block_rules;
 mod bounds;
 pub mod codes;
 pub mod image;
+pub mod lent_records;
 mod operation_rules;
 pub mod pages;
 pub mod records;

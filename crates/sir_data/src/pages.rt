@@ -1,10 +1,10 @@
 // An image's pages: 512 bytes each, word 0 the page number, words 1 to 126 payload, word 127 the check.
 ghost use mathlib.Core.Path.{_≡_};
 ghost use mathlib.Core.List.{_++_, map};
-ghost use Prim.Native.Nat.{_+_, _*_, _≤_, _<_};
+ghost use Prim.Native.Nat.{_+_, _*_, _^_, _≤_, _<_};
 ghost use lib.ListN.{length, drop};
 ghost use Rattle.plank_core.specs.Lists.{upto};
-ghost use Rattle.sir_data.specs.Pages.{wordAt, pages, pageWord, checkOf, payload, badLength, badNumber, badCheck};
+ghost use Rattle.sir_data.specs.Pages.{wordAt, pages, pagesFor, pageWord, checkOf, payload, badLength, badNumber, badCheck};
 ghost use Rattle.sir_data.specs.Rules.{first, pageRules};
 
 // A byte as a word.
@@ -26,7 +26,7 @@ pub fn word_at(bytes: &[u8], i: usize) -> u32
 }
 
 // The check of a page by two running sums: twice the sum of the sums so far, less the sum, weighs the words 253, 251, .., 1.
-fn page_check(image: &[u8], page: usize) -> u32
+pub fn page_check(image: &[u8], page: usize) -> u32
     requires { ⌜ 512 * page + 512 ≤ length (now image) ⌝ }
     ensures { λ r. ⌜ r ≡ checkOf (pageWord (now (image .entry)) page) ⌝ }
 {
@@ -39,6 +39,14 @@ fn page_check(image: &[u8], page: usize) -> u32
         i += 1;
     }
     std::num::wrapping_sub_u32(std::num::wrapping_add_u32(b, b), a)
+}
+
+// The fewest pages that hold n words.
+pub fn pages_for(n: usize) -> usize
+    requires { ⌜ n < 2 ^ 60 ⌝ }
+    ensures { λ r. ⌜ r ≡ pagesFor n ⌝ }
+{
+    (n + 125) / 126
 }
 
 // Refusal 1: no page, a part of a page, or more than 117 pages.

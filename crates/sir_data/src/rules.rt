@@ -8,6 +8,7 @@ use crate::bounds::optional_below;
 use crate::operation_rules::each_op_fields_ok;
 use crate::operation_rules::each_op_ids_ok;
 use crate::operation_rules::rule_9;
+use crate::pages::pages_for;
 use crate::records::block_count;
 use crate::records::function_count;
 use crate::records::local_count;
@@ -72,7 +73,7 @@ fn rule_5(words: &[u32]) -> bool
 }
 
 // How many words the counts call for.
-fn word_count(words: &[u32]) -> usize
+pub fn word_count(words: &[u32]) -> usize
     requires { ⌜ 9 ≤ length (now words) ⌝ }
     ensures { λ r. ⌜ r ≡ wordCount (now (words .entry)) ⌝ }
 {
@@ -105,7 +106,7 @@ fn rule_6(words: &[u32]) -> bool
     ensures { λ r. ⌜ r ≡ rule6 (now (words .entry)) ⌝ }
 {
     let n = word_count(words);
-    if words.len() != 126 * ((n + 125) / 126) {
+    if words.len() != 126 * pages_for(n) {
         return true;
     }
     padding_bad(words, n)
@@ -184,7 +185,7 @@ fn rule_8(words: &[u32]) -> bool
 }
 
 // The first of the head's rules that applies, or 0.
-fn check_head(words: &[u32]) -> u32
+pub fn check_head(words: &[u32]) -> u32
     requires { ⌜ 9 ≤ length (now words) ⌝ }
     ensures { λ r. ⌜ r ≡ first (headRules (now (words .entry))) ⌝ }
 {
@@ -230,7 +231,7 @@ fn check_operands(words: &[u32]) -> u32
 }
 
 // The first of the rules after the fit that applies, or 0, where the counts are in order and their words are there.
-fn check_sized(words: &[u32]) -> u32
+pub fn check_sized(words: &[u32]) -> u32
     requires { ⌜ Sized (now words) ⌝ }
     ensures { λ r. ⌜ r ≡ first (fieldRules (now (words .entry)) ++ operandRules (now (words .entry))) ⌝ }
 {

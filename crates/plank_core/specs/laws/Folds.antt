@@ -2,10 +2,11 @@
 use mathlib.Core.Path.{_≡_, refl, sym, _∙_, ap, ap₂}
 use mathlib.Core.List.{List, [], _∷_, _++_, map, foldr, reverseAux, reverse, List·Memᴰ, List·Memᴰ·head, List·Memᴰ·tail, reverse-append, reverse-cons}
 use mathlib.Core.Bool.{Bool, true, false, cond, _||_}
-use Prim.Native.Nat.{ℕ, suc, _+_, _*_, _≤_}
+use Prim.Native.Nat.{ℕ, zero, suc, _+_, _*_, _≤_, _<_}
 use native.Mathlib.Nat.{mul-suc}
 use native.Mathlib.Omega.{arith}
-use lib.ListN.{length, length-append}
+use lib.ListN.{length, getD, length-append, List·getD-append}
+use lib.Seq.{getD-append-add}
 use Rattle.plank_core.specs.Lists.{foldl, bind, keep, _∈_, any}
 use Rattle.plank_core.specs.laws.Loops.{bind-snoc}
 
@@ -75,6 +76,17 @@ bind-long g n [] h = omega arith
 bind-long g n (x ∷ xs) h =
     let e : n * suc (length xs) ≡ n * length xs + n = mul-suc n (length xs) in
     omega (arith, length-append (g x) (bind xs g), h x, bind-long g n xs h)
+
+-- element j of what the i-th has
+pub bind-at : {A B : Type 0} (g : A → List B) (n : ℕ) (xs : List A) → ((x : A) → length (g x) ≡ n) → (i j : ℕ) (a : A) (d : B) → i < length xs → j < n
+    → getD (bind xs g) (n * i + j) d ≡ getD (g (getD xs i a)) j d
+bind-at g n [] h i j a d l m = absurd (omega arith)
+bind-at g n (x ∷ xs) h zero j a d l m =
+    let e : n * 0 + j ≡ j = omega arith in
+    rw e (List·getD-append (g x) (bind xs g) d j (omega (arith, h x)))
+bind-at g n (x ∷ xs) h (suc i) j a d l m =
+    let e : n * suc i + j ≡ length (g x) + (n * i + j) = omega (arith, h x, mul-suc n i) in
+    rw e (getD-append-add (g x) (bind xs g) (n * i + j) d) ∙ bind-at g n xs h i j a d (omega arith) m
 
 pub bind-most : (g : ℕ → List ℕ) (k : ℕ) (xs : List ℕ) → ((x : ℕ) → x ∈ xs → length (g x) ≤ k) → length (bind xs g) ≤ k * length xs
 bind-most g k [] h = omega arith

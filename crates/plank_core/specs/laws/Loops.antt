@@ -41,6 +41,11 @@ pub length-count : (s n : ℕ) → length (count s n) ≡ n
 length-count s zero = refl
 length-count s (suc n) = ap suc (length-count (suc s) n)
 
+pub getD-count : (s n i d : ℕ) → i < n → getD (count s n) i d ≡ s + i
+getD-count s zero i d h = absurd (omega arith)
+getD-count s (suc n) zero d h = omega arith
+getD-count s (suc n) (suc i) d h = getD-count (suc s) n i d (omega arith) ∙ omega arith
+
 -- the same places, counted from one less
 pub keep-shift : (p : ℕ → Bool) (s n : ℕ) → length (keep p (count (suc s) n)) ≡ length (keep (λ i. p (suc i)) (count s n))
 keep-shift p s zero = refl
@@ -191,12 +196,17 @@ module _ {A : Type 0} (a : ℕ) (xs : List A) where
   pub after-end : drop (length xs - a) (drop a xs) ≡ []
   after-end = drop-of-length-le (drop a xs) {i = length xs - a} (rw length-drop (omega arith))
 
+-- the first n elements of xs are stored, and the end from n on is lent to store m more
+pub fill-more : {A : Type 0} (front more : List A) (n m : ℕ) (d : List A) {xs part : List A} → length front ≡ n → xs ≡ front ++ drop n d → part ≡ more ++ drop m (take (length xs - n) (drop n xs))
+    → take n xs ++ (part ++ drop (length xs - n) (drop n xs)) ≡ (front ++ more) ++ drop (n + m) d
+fill-more front more n m d {xs} {part} l e h =
+    let stored : take n xs ≡ front = rw e (take-at front (drop n d) n l) in
+    let end : drop n xs ≡ drop n d = rw e (drop-at front (drop n d) n l) in
+    rw (h, after-end n xs, lent-end n xs, stored, end, append-nil, drop-drop m n d, append-assoc)
+
 -- f 0, .., f (n - 1) stand at the front of xs, and the end from n on is lent to store the next m
 pub fill-part : {A : Type 0} (f : ℕ → A) (n m : ℕ) (d : List A) {xs part : List A} → xs ≡ map f (upto n) ++ drop n d → part ≡ map (λ i. f (n + i)) (upto m) ++ drop m (take (length xs - n) (drop n xs)) → take n xs ++ (part ++ drop (length xs - n) (drop n xs)) ≡ map f (upto (n + m)) ++ drop (n + m) d
-fill-part {A} f n m d {xs} {part} e h =
-    let front : take n xs ≡ map f (upto n) = rw e (take-at (map f (upto n)) (drop n d) n (length-map-upto f n)) in
-    let end : drop n xs ≡ drop n d = rw e (drop-at (map f (upto n)) (drop n d) n (length-map-upto f n)) in
-    rw (h, after-end n xs, lent-end n xs, front, end, append-nil, drop-drop m n d, map-add f n m, append-assoc)
+fill-part f n m d e h = rw (map-add f n m) (fill-more (map f (upto n)) (map (λ i. f (n + i)) (upto m)) n m d (length-map-upto f n) e h)
 
 -- ---- lists that functions give of each element, one after the other
 

@@ -2,7 +2,7 @@
 use mathlib.Core.Path.{_≡_, refl}
 use mathlib.Core.Logic.{⊎-elim}
 use mathlib.Core.Bool.{Bool, true, false, not, _&&_, _||_, cond}
-use Prim.Native.Nat.{ℕ, zero, suc, _+_, _*_, _/_, _≤_, _<_}
+use Prim.Native.Nat.{ℕ, zero, suc, _+_, _*_, _≤_, _<_}
 use native.Mathlib.Omega.{arith}
 use mathlib.Core.List.{List, [], _∷_, _++_, map, List·Memᴰ, List·Memᴰ·head, List·Memᴰ·not-nil, List·Memᴰ·cases-cons, List·Memᴰ·eq-of-singleton, List·Memᴰ·append-cases}
 use lib.ListN.{length}
@@ -10,6 +10,7 @@ use lib.Dec.{eqb, leb, ltb}
 use borrow.Author.Tests.{ltb-true, ltb-false, leb-true, eqb-true, eqb-false, ne-eqb, not-false}
 use Rattle.plank_core.specs.Lists.{count, range, upto, all, distinct}
 use Rattle.plank_core.specs.laws.Lists.{or-false-left, or-false-right, and-true-left, and-true-right, mem-count, mem-range, map-each, all-mem, all-upto, none}
+use Rattle.sir_data.specs.Pages.{pagesFor}
 use Rattle.sir_data.specs.Records.{functions, blocks, operations, operandWords, caseTargets, locals, initFunction, mainPlusOne, wordCount, entryBlock, blockWord, opWord, operand, target, run, inputs, outputs, ops, control, field, optional, successors, code, ins, outs, extra}
 use Rattle.sir_data.specs.Codes.{arityOk, isCall, isStaticAlloc}
 use Rattle.sir_data.specs.Rules.{rule5, rule6, rule7, rule8, rule9, rule10, rule11, first, headRules, fieldRules, operandRules, rulesOf, recordRules, zeroFrom, blockFieldsOk, opFieldsOk, rangeOk, optionalBelow, controlIdsOk, blockIdsOk, opIdsOk}
@@ -95,7 +96,7 @@ run-ok w s e v h r =
     let l = leb-true e (operandWords w) (and-true-right (leb s e) (leb e (operandWords w)) r) in
     map-each (λ (n : ℕ). n < locals w) (operand w) (range s e) (λ i k. h i (omega (arith, mem-range i s e k))) v
 
-size-ok : (n m : ℕ) → n ≡ 126 * ((m + 125) / 126) → m ≤ n
+size-ok : (n m : ℕ) → n ≡ 126 * pagesFor m → m ≤ n
 size-ok n m e = omega arith
 
 range-ok : (s e n : ℕ) → rangeOk s e n ≡ true → (s ≤ e) × (e ≤ n)
@@ -155,10 +156,20 @@ module _ (w : List ℕ) (head : first (headRules w) ≡ 0) where
         size = fits;
       }
 
+  -- the limits allow 14,665 words, which 117 pages hold
+  pub words-most : wordCount w ≤ 14665
+  words-most =
+      let f = ltb-false 64 (functions w) (five .0) in
+      let b = ltb-false 256 (blocks w) (five .1 .0) in
+      let p = ltb-false 1024 (operations w) (five .1 .1 .0) in
+      let v = ltb-false 4096 (operandWords w) (five .1 .1 .1 .0) in
+      let t = ltb-false 512 (caseTargets w) (five .1 .1 .1 .1 .0) in
+      omega arith
+
 -- the fit of pages
 pub fits : (w : List ℕ) → rule6 w ≡ false → wordCount w ≤ length w
 unfolding rule6
-fits w h = size-ok (length w) (wordCount w) (eqb-true _ _ (not-false _ (or-false-left (not (eqb (length w) (126 * ((wordCount w + 125) / 126)))) _ h)))
+fits w h = size-ok (length w) (wordCount w) (eqb-true _ _ (not-false _ (or-false-left (not (eqb (length w) (126 * pagesFor (wordCount w)))) _ h)))
 
 switch-ok : (c x0 x1 x2 x3 B L C : ℕ)
     → cond (eqb c 2) (ltb x0 B) (cond (eqb c 3) (ltb x0 L && ltb x1 B && ltb x2 B) (cond (eqb c 4) (ltb x0 L && leb (x1 + x2) C && optionalBelow x3 B) true)) ≡ true

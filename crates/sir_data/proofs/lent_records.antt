@@ -1,0 +1,2 @@
+-- What the proofs of the functions of `lent_records` share.
+pub mod LentWords
