@@ -16,8 +16,10 @@ use sir_capi::sir_open;
 use sir_capi::sir_order;
 use sir_capi::sir_owner;
 use sir_capi::sir_predecessors;
+use sir_capi::sir_records;
 use sir_capi::sir_rounds;
 use sir_capi::sir_uses;
+use sir_capi::sir_write;
 use sir_data::pages::word_at;
 
 // What an unknown question gives, or one with another number of ids: a length that no file can state, so that it differs.
@@ -28,7 +30,7 @@ fn unknown() -> Answer {
     }
 }
 
-// The questions without ids: about the image, and for all ids.
+// The questions without ids: about the image, and for all ids. Where records are written, they are lent in the place of an image.
 fn ask_of_image(question: u32, image: &[u8], out: &mut [u8]) -> Answer {
     match question {
         0 => sir_order(image, out),
@@ -40,6 +42,8 @@ fn ask_of_image(question: u32, image: &[u8], out: &mut [u8]) -> Answer {
         13 => sir_all_intervals(image, out),
         14 => sir_all_allocations(image, out),
         15 => sir_all_owners(image, out),
+        18 => sir_records(image, out),
+        19 => sir_write(image, out),
         _ => unknown(),
     }
 }

@@ -9,6 +9,7 @@ use lib.Seq.{getD-append-add}
 use borrow.Author.Tests.{ne-eqb}
 use Rattle.plank_core.specs.Lists.{bind, count, oneIf}
 use Rattle.sir_data.specs.Pages.{wordAt, bytesOf}
+use Rattle.sir_data.specs.laws.Bytes.{word-bytes}
 use Rattle.sir_analyses.specs.Order.{blocksRpo}
 use Rattle.sir_analyses.specs.Liveness.{Interval, intervals}
 use Rattle.sir_analyses.specs.Allocation.{allocs, allocAt, base, marked, merged}
@@ -19,24 +20,6 @@ use Rattle.sir_analyses.specs.laws.Writing.{length-bytes, interval-count}
 use Rattle.report_lines.specs.Lines.{ascii, named, intervalText, interval, localText, allocationText}
 use Rattle.report_lines.specs.inner.Putting.{Words, intervalAt, intervalsAt, EndsSome, localLine, mark, allocationHead, allocationLine}
 use Rattle.report_lines.proofs.Fields.{Good, Goods, intervals-good, merged-good, alloc-small, base-small}
-
--- word i of some words as bytes
-word-bytes : (xs : List ℕ) (i : ℕ) → i < length xs → getD xs i 0 < 4294967296 → wordAt (bind xs bytesOf) i ≡ getD xs i 0
-word-bytes [] i h l = absurd (omega arith)
-word-bytes (x ∷ xs) zero h l =
-    let p : x / 65536 ≡ x / 256 / 256 = omega arith in
-    let q : x / 16777216 ≡ x / 65536 / 256 = omega arith in
-    let a : x ≡ 256 * (x / 256) + x % 256 = omega arith in
-    let b : x / 256 ≡ 256 * (x / 65536) + x / 256 % 256 = omega arith in
-    let d : x / 65536 ≡ 256 * (x / 16777216) + x / 65536 % 256 = omega arith in
-    let f : x / 16777216 % 256 ≡ x / 16777216 = omega arith in
-    rw f (omega (arith, a, b, d))
-word-bytes (x ∷ xs) (suc i) h l =
-    let e₀ : 4 * suc i ≡ suc (suc (suc (suc (4 * i)))) = omega arith in
-    let e₁ : 4 * suc i + 1 ≡ suc (suc (suc (suc (4 * i + 1)))) = omega arith in
-    let e₂ : 4 * suc i + 2 ≡ suc (suc (suc (suc (4 * i + 2)))) = omega arith in
-    let e₃ : 4 * suc i + 3 ≡ suc (suc (suc (suc (4 * i + 3)))) = omega arith in
-    rw (e₁, e₂, e₃, e₀) (word-bytes xs i (omega arith) l)
 
 -- word j after some front
 word-after : {xs : List ℕ} (front ys : List ℕ) (j : ℕ) → xs ≡ front ++ ys → j < length ys → getD ys j 0 < 4294967296 → wordAt (bind xs bytesOf) (length front + j) ≡ getD ys j 0

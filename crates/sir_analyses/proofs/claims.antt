@@ -5,3 +5,4 @@ pub mod source
 pub mod marks
 pub mod lifetimes
 pub mod Proved
+pub mod WriteBackProof

@@ -7,7 +7,7 @@ use lib.ListN.{length, drop}
 use lib.Dec.{eqb, ltb}
 use Rattle.plank_core.specs.Lists.{bind}
 use Rattle.sir_data.specs.Pages.{payload, bytesOf}
-use Rattle.sir_data.specs.Rules.{first, pageRules, recordRules}
+use Rattle.sir_data.specs.Rules.{rule6, first, pageRules, rulesOf}
 use Rattle.sir_analyses.specs.Allocation.{rule12}
 
 -- rules in sequence: the number of each, and whether it applies
@@ -42,9 +42,13 @@ call rules bytes out = cond (eqb (first rules) 0) (answered bytes out) (refused 
 
 -- ---- questions
 
--- the rules of an image: carriage, the front end that wrote it, and 12
+-- the rules of words from 4 on: the front end that wrote them, and 12. `unfit` tells whether 6 applies
+abbrev pub wordRules : Bool → List ℕ → Rules
+wordRules unfit w = rulesOf unfit w ++ ((12, rule12 w) ∷ [])
+
+-- the rules of an image: carriage, then those of the words that are read from its pages
 abbrev pub imageRules : List ℕ → Rules
-imageRules s = pageRules s ++ recordRules (payload s) ++ ((12, rule12 (payload s)) ∷ [])
+imageRules s = pageRules s ++ wordRules (rule6 (payload s)) (payload s)
 
 -- the refusal of an image: the first of its rules that applies, or 0
 abbrev pub refusal : List ℕ → ℕ

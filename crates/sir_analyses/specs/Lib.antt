@@ -14,6 +14,7 @@ pub mod Claims
 pub mod Walk
 pub mod Open
 pub mod Promise
+pub mod WriteBack
 pub mod inner
 pub mod ExampleImages
 pub mod Examples

@@ -28,7 +28,12 @@ fn no_sizes(number: u32) -> Sizes
 }
 
 // The visit and the allocations of an image's words: 12, since rule 12 is the last one, or 0 and how many stand in the arrays.
-fn load_visit(words: &[u32], postorder: &mut [u32], visit: &mut [u32], sites: &mut [u32]) -> Sizes
+pub fn load_visit(
+    words: &[u32],
+    postorder: &mut [u32],
+    visit: &mut [u32],
+    sites: &mut [u32],
+) -> Sizes
     requires { ⌜ WellFormed (now words) × (length (now postorder) ≡ 320) ⌝ }
     requires { ⌜ (now visit ≡ replicate 513 0) × (length (now sites) ≡ 512) ⌝ }
     ensures { λ r. ⌜ VisitLoaded (now (words .entry)) (now (postorder .exit)) (now (visit .exit)) (now (sites .exit)) (r .number) (r .words) (r .finished) (r .allocations) ⌝ }

@@ -1,4 +1,4 @@
-// The questions that can be put to an image, about one id or for all, each a reader of stages.
+// The questions that can be put to an image, about one id or for all, each a reader of stages; and images taken apart and put together.
 pub mod all_allocations;
 pub mod all_intervals;
 pub mod all_predecessors;
@@ -10,6 +10,8 @@ pub mod live_answers;
 pub mod open_allocations;
 pub mod order_answers;
 pub mod owned_tables;
+mod paging;
 pub mod pointer_answers;
 pub mod questions;
 pub mod scatter;
+pub mod write_back;

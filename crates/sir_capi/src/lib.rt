@@ -16,16 +16,20 @@ use sir_answers::questions::LiveQuestion;
 use sir_answers::questions::OrderQuestion;
 use sir_answers::questions::PointerQuestion;
 use sir_answers::questions::Question;
+use sir_answers::write_back::records;
+use sir_answers::write_back::write;
 ghost use mathlib.Core.Path.{_≡_};
 ghost use lib.ListN.{length};
 ghost use Rattle.sir_data.specs.Pages.{payload};
 ghost use Rattle.sir_data.specs.Records.{blocks, locals};
+ghost use Rattle.sir_data.specs.Paging.{recordsOf};
 ghost use Rattle.sir_analyses.specs.All.{all};
 ghost use Rattle.sir_analyses.specs.Allocation.{allocs};
 ghost use Rattle.sir_analyses.specs.Answers.{orderAnswer, predecessorsAnswer, usesAnswer, entryAnswer, exitAnswer, roundsAnswer, intervalsAnswer, allocationAnswer, ownerAnswer};
 ghost use Rattle.sir_analyses.specs.Calls.{made, refusal, asked, noRules, known, inWords};
 ghost use Rattle.sir_analyses.specs.Open.{openAt, openRules, crossing, crossingRules};
 ghost use Rattle.sir_analyses.specs.Promise.{Promise};
+ghost use Rattle.sir_analyses.specs.WriteBack.{lentRefusal, written, WrittenBack, ReadBack, ReadersNumber};
 
 // For each function of `functions_rpo`: its id, its block count, its block ids.
 #[no_mangle]
@@ -222,4 +226,23 @@ pub extern "C" fn sir_crossing(image: &[u8], one: u32, other: u32, out: &mut [u8
         Question::OfPointers(PointerQuestion::Crossing(a, c)),
         out,
     )
+}
+
+// The records of an image: its payload words without padding. Written, they give the image back.
+#[no_mangle]
+pub extern "C" fn sir_records(image: &[u8], out: &mut [u8]) -> Answer
+    ensures { λ r. ⌜ made (r .number) (r .length) (now (out .exit)) ≡ asked noRules (inWords recordsOf) (now (image .entry)) (now (out .entry)) ⌝ }
+    ensures { λ r. ⌜ (refusal (now (image .entry)) ≡ 0 → WrittenBack (now (image .entry))) ⌝ }
+{
+    records(image, out)
+}
+
+// The pages of lent records: an image that is accepted and has those records, or the number that the reader would give.
+#[no_mangle]
+pub extern "C" fn sir_write(records: &[u8], out: &mut [u8]) -> Answer
+    ensures { λ r. ⌜ made (r .number) (r .length) (now (out .exit)) ≡ written (now (records .entry)) (now (out .entry)) ⌝ }
+    ensures { λ r. ⌜ (lentRefusal (now (records .entry)) ≡ 0 → ReadBack (now (records .entry))) ⌝ }
+    ensures { λ r. ⌜ ReadersNumber (now (records .entry)) ⌝ }
+{
+    write(records, out)
 }

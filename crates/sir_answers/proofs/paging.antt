@@ -1,0 +1,2 @@
+-- What the proofs of the functions of `paging` share.
+pub mod WrittenPages
