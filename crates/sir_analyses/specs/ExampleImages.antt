@@ -1,11 +1,10 @@
 -- Images written as blocks with their operations, and rows of computed lists, for the tables of examples.
-use mathlib.Core.Bool.{Bool, true, false, _&&_}
 use mathlib.Core.List.{List, [], _∷_, _++_}
-use Prim.Native.Nat.{ℕ, _+_, _-_, _*_, _/_}
-use lib.ListN.{length, replicate}
-use lib.Dec.{eqb}
+use Prim.Native.Nat.{ℕ, _+_}
+use lib.ListN.{length}
 use Rattle.plank_core.specs.Lists.{bind}
-use Rattle.sir_data.specs.Pages.{pageWord, checkOf, bytesOf}
+use Rattle.sir_data.specs.Paging.{padded}
+pub use Rattle.sir_data.specs.ExampleRows.{Row, same}
 use Rattle.sir_analyses.specs.Liveness.{Interval}
 use Rattle.sir_analyses.specs.Calls.{Outcome}
 
@@ -57,17 +56,9 @@ blockWords p v (b ∷ bs) =
 -- the payload words, padded to whole pages: edition 1, init function 0, no main, no case targets
 abbrev pub wordsOfBlocks : ℕ → List ℕ → List Block → List ℕ
 wordsOfBlocks locals entries bs =
-    let words : List ℕ =
-    1 ∷ length entries ∷ length bs ∷ length (bind bs (λ b. b .ops)) ∷ length (bind bs blockOperands) ∷ 0 ∷ locals ∷ 0 ∷ 0
-    ∷ (entries ++ blockWords 0 0 bs ++ opsWords 0 bs ++ bind bs blockOperands)
-    in
-    words ++ replicate (126 * ((length words + 125) / 126) - length words) 0
-
--- the bytes of page 0 with these payload words
-abbrev pub pageBytes : List ℕ → List ℕ
-pageBytes w =
-    let words : List ℕ = 0 ∷ w in
-    bind words bytesOf ++ bytesOf (checkOf (pageWord (bind words bytesOf) 0))
+    padded
+    (1 ∷ length entries ∷ length bs ∷ length (bind bs (λ b. b .ops)) ∷ length (bind bs blockOperands) ∷ 0 ∷ locals ∷ 0 ∷ 0
+    ∷ (entries ++ blockWords 0 0 bs ++ opsWords 0 bs ++ bind bs blockOperands))
 
 -- ---- operations, by what they define and read, and controls
 
@@ -140,14 +131,3 @@ interval b s e = record { block = b; from = s; to = e }
 -- an outcome as one list
 abbrev pub outcomeWords : Outcome → List ℕ
 outcomeWords o = o .number ∷ o .len ∷ o .result
-
--- a row of the table: what is computed, and what it must be
-abbrev pub Row : Type 0
-Row = List ℕ × List ℕ
-
--- are two lists the same?
-abbrev pub same : List ℕ → List ℕ → Bool
-same [] [] = true
-same [] (y ∷ ys) = false
-same (x ∷ xs) [] = false
-same (x ∷ xs) (y ∷ ys) = eqb x y && same xs ys

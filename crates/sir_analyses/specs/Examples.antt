@@ -10,6 +10,7 @@ use Rattle.plank_core.specs.Lists.{all, bind, upto, oneIf, _∈_}
 use Rattle.sir_data.specs.Pages.{pageWord, checkOf, payload}
 use Rattle.sir_data.specs.Records.{blocks, ins}
 use Rattle.sir_data.specs.Rules.{first, recordRules, rule4, rule5, rule6, rule7, rule8, rule9, rule10, rule11}
+use Rattle.sir_data.specs.Paging.{unchecked, pageOf, pagesOf}
 use Rattle.sir_analyses.specs.Liveness.{has, blockEnd}
 use Rattle.sir_analyses.specs.Allocation.{rule12, sort, merge, marked}
 use Rattle.sir_analyses.specs.SourceUses.{sourcePredecessors, sourceUses}
@@ -19,7 +20,7 @@ use Rattle.sir_analyses.specs.SourceIntervals.{mergeIntervals, sourceInt
 use Rattle.sir_analyses.specs.Answers.{orderAnswer, predecessorsAnswer, entryAnswer, exitAnswer, usesAnswer, intervalsAnswer, intervalWords, allocationAnswer, ownerAnswer, roundsAnswer}
 use Rattle.sir_analyses.specs.Calls.{asked, noRules, known, inWords}
 use Rattle.sir_analyses.specs.Walk.{Event, op, edge, Walk, enter, step, follow, Holds, given, kept, moved, Executed, now, before}
-use Rattle.sir_analyses.specs.ExampleImages.{wordsOfBlocks, pageBytes, setConst, alloc, add, load, store, log, callOp, stop, ends, continues, branches, block, straight, interval, outcomeWords, Row, same}
+use Rattle.sir_analyses.specs.ExampleImages.{wordsOfBlocks, setConst, alloc, add, load, store, log, callOp, stop, ends, continues, branches, block, straight, interval, outcomeWords, Row, same}
 
 -- ---- the images
 
@@ -140,7 +141,7 @@ source-merging = (intervalWords (mergeIntervals (interval 1 0 2 ∷ interval 0 3
 
 -- a block that is not there: 13, and the slice is kept
 abbrev unknown-block : Row
-unknown-block = (outcomeWords (asked (known blocks 2) (inWords (λ w. exitAnswer w 2)) (pageBytes report) (replicate 9 7)), 13 ∷ 0 ∷ replicate 9 7)
+unknown-block = (outcomeWords (asked (known blocks 2) (inWords (λ w. exitAnswer w 2)) (pagesOf report) (replicate 9 7)), 13 ∷ 0 ∷ replicate 9 7)
 
 -- a block's calls are visited before its successors: functions 0, 2, 1
 abbrev calls-first : Row
@@ -213,10 +214,10 @@ table =
     ∷ (usesAnswer report 1, 0 ∷ 0 ∷ 2 ∷ 0 ∷ 2 ∷ 0 ∷ [])
     ∷ (ownerAnswer report 2, 1 ∷ [])
     -- as bytes, into a slice of 9: rounds; exit of block 0; a block that is not there; order, for which it is too short; a bad check
-    ∷ (outcomeWords (asked noRules (inWords roundsAnswer) (pageBytes report) (replicate 9 7)), 0 ∷ 4 ∷ 2 ∷ 0 ∷ 0 ∷ 0 ∷ 7 ∷ 7 ∷ 7 ∷ 7 ∷ 7 ∷ [])
-    ∷ (outcomeWords (asked (known blocks 0) (inWords (λ w. exitAnswer w 0)) (pageBytes report) (replicate 9 7)), 0 ∷ 4 ∷ 1 ∷ 0 ∷ 0 ∷ 0 ∷ 7 ∷ 7 ∷ 7 ∷ 7 ∷ 7 ∷ [])
+    ∷ (outcomeWords (asked noRules (inWords roundsAnswer) (pagesOf report) (replicate 9 7)), 0 ∷ 4 ∷ 2 ∷ 0 ∷ 0 ∷ 0 ∷ 7 ∷ 7 ∷ 7 ∷ 7 ∷ 7 ∷ [])
+    ∷ (outcomeWords (asked (known blocks 0) (inWords (λ w. exitAnswer w 0)) (pagesOf report) (replicate 9 7)), 0 ∷ 4 ∷ 1 ∷ 0 ∷ 0 ∷ 0 ∷ 7 ∷ 7 ∷ 7 ∷ 7 ∷ 7 ∷ [])
     ∷ unknown-block
-    ∷ (outcomeWords (asked noRules (inWords orderAnswer) (pageBytes report) (replicate 9 7)), 14 ∷ 0 ∷ replicate 9 7)
+    ∷ (outcomeWords (asked noRules (inWords orderAnswer) (pagesOf report) (replicate 9 7)), 14 ∷ 0 ∷ replicate 9 7)
     ∷ (outcomeWords (asked (known blocks 0) (inWords (λ w. exitAnswer w 0)) pageOne (replicate 9 7)), 3 ∷ 0 ∷ replicate 9 7)
     -- misreadings: taking non-zero first
     ∷ (orderAnswer (branching 1 2), 0 ∷ 3 ∷ 0 ∷ 1 ∷ 2 ∷ [])
@@ -241,7 +242,7 @@ table =
 
 -- every row holds
 pub examples : all (λ r. same (r .0) (r .1)) table ≡ true
-unfolding checkOf payload rule4 rule5 rule6 rule7 rule8 rule9 rule10 rule11
+unfolding checkOf payload unchecked pageOf pagesOf rule4 rule5 rule6 rule7 rule8 rule9 rule10 rule11
 examples = refl
 
 -- ---- a walk

@@ -19,4 +19,5 @@ pub mod inner
 pub mod ExampleImages
 pub mod Examples
 pub mod OpenExamples
+pub mod WriteBackExamples
 pub mod laws

@@ -7,12 +7,13 @@ use lib.ListN.{replicate}
 use Rattle.plank_core.specs.Lists.{all, keep, upto}
 use Rattle.sir_data.specs.Pages.{checkOf, payload}
 use Rattle.sir_data.specs.Rules.{first, recordRules, rule4, rule5, rule6, rule7, rule8, rule9, rule10, rule11}
+use Rattle.sir_data.specs.Paging.{unchecked, pageOf, pagesOf}
 use Rattle.sir_analyses.specs.Liveness.{Interval, blockEnd}
 use Rattle.sir_analyses.specs.Allocation.{rule12, merged}
 use Rattle.sir_analyses.specs.Answers.{intervalWords}
 use Rattle.sir_analyses.specs.Calls.{asked, inWords}
 use Rattle.sir_analyses.specs.Open.{openAt, openRules, placeOf, isCommon, firstOf, crossing, crossingRules}
-use Rattle.sir_analyses.specs.ExampleImages.{wordsOfBlocks, pageBytes, setConst, alloc, copy, load, store, stop, ends, continues, branches, block, straight, interval, outcomeWords, Row, same}
+use Rattle.sir_analyses.specs.ExampleImages.{wordsOfBlocks, setConst, alloc, copy, load, store, stop, ends, continues, branches, block, straight, interval, outcomeWords, Row, same}
 
 -- ---- the images
 
@@ -67,11 +68,11 @@ crossingOf is js = firstOf (keep (isCommon is js) (map (placeOf 0) (upto 6)))
 
 -- the outcome of asking what is open at operation o of block b
 abbrev openOutcome : List ℕ → ℕ → ℕ → List ℕ → List ℕ
-openOutcome w b o out = outcomeWords (asked (openRules b o) (inWords (λ w. openAt w b o)) (pageBytes w) out)
+openOutcome w b o out = outcomeWords (asked (openRules b o) (inWords (λ w. openAt w b o)) (pagesOf w) out)
 
 -- the outcome of asking whether allocations a and c cross
 abbrev crossingOutcome : List ℕ → ℕ → ℕ → List ℕ → List ℕ
-crossingOutcome w a c out = outcomeWords (asked (crossingRules a c) (inWords (λ w. crossing w a c)) (pageBytes w) out)
+crossingOutcome w a c out = outcomeWords (asked (crossingRules a c) (inWords (λ w. crossing w a c)) (pagesOf w) out)
 
 -- ---- rows with names: for each of these .ci/edits has a wrong definition, under which it is proved that the row does not hold
 
@@ -146,5 +147,5 @@ table =
 
 -- every row holds
 pub examples : all (λ r. same (r .0) (r .1)) table ≡ true
-unfolding checkOf payload rule4 rule5 rule6 rule7 rule8 rule9 rule10 rule11
+unfolding checkOf payload unchecked pageOf pagesOf rule4 rule5 rule6 rule7 rule8 rule9 rule10 rule11
 examples = refl

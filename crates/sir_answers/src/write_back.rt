@@ -59,9 +59,9 @@ fn write_words(words: &[u32], out: &mut [u8]) -> Answer
     requires { ⌜ (length (now words) ≡ 126 * pagesFor (length (now words))) × (length (now words) ≤ 14742) ⌝ }
     ensures { λ r. ⌜ made (r .number) (r .length) (now (out .exit)) ≡ call ((12, rule12 (now (words .entry))) ∷ []) (pagesOf (now (words .entry))) (now (out .entry)) ⌝ }
 {
-    let number = visit_refusal(words);
-    if number != 0 {
-        return refuse(number);
+    let last = visit_refusal(words);
+    if last != 0 {
+        return refuse(last);
     }
     pages_answer(words, out)
 }
@@ -72,11 +72,11 @@ pub fn write(records: &[u8], out: &mut [u8]) -> Answer
     ensures { λ r. ⌜ (lentRefusal (now (records .entry)) ≡ 0 → ReadBack (now (records .entry))) ⌝ }
     ensures { λ r. ⌜ ReadersNumber (now (records .entry)) ⌝ }
 {
-    let mut words = [0u32; WORDS];
-    let number = read_records(records, &mut words);
+    let mut lent = [0u32; WORDS];
+    let number = read_records(records, &mut lent);
     if number != 0 {
         return refuse(number);
     }
     let n = 126 * pages_for(records.len() / 4);
-    write_words(&words[..n], out)
+    write_words(&lent[..n], out)
 }

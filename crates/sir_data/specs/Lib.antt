@@ -3,5 +3,7 @@ pub mod Records
 pub mod Codes
 pub mod Rules
 pub mod Paging
+pub mod ExampleRows
+pub mod PagingExamples
 pub mod inner
 pub mod laws

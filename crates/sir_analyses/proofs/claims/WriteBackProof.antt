@@ -22,6 +22,13 @@ use Rattle.sir_analyses.proofs.answers.Calls.{call-answered, image-acce
 abbrev later : List ℕ → List (ℕ × Bool)
 later w = fieldRules w ++ operandRules w ++ ((12, rule12 w) ∷ [])
 
+pub readers-number : (r : List ℕ) → Bytes r → ReadersNumber r
+readers-number r bytes =
+    record {
+      by-words = λ whole. rw (whole, payload-pages (wordsOf r) (words-small r bytes));
+      by-pages = λ whole fit few. rw whole (L.fitting later (wordsOf r) (words-small r bytes) (eqb-true (length (wordsOf r)) (wordCount (wordsOf r)) (not-false _ fit)) (omega (arith, few, length-words r)));
+    }
+
 pub written-back : (s : List ℕ) → Bytes s → refusal s ≡ 0 → WrittenBack s
 written-back s bytes z =
     let taken : lentRefusal (recordBytes s) ≡ 0 = L.written-well later s bytes z in
@@ -43,11 +50,4 @@ read-back r bytes z =
       records-are = λ out. sym (image-accepted noRules (inWords recordsOf) s out taken) ∙ ap (λ (t : List ℕ). answered t out) same;
       size = L.pages-few later r z;
       answers = λ own answer out. sym (image-accepted own answer s out taken) ∙ ap (λ (w : List ℕ). call (own w) (answer w) out) (payload-pages (wordsOf r) (words-small r bytes));
-    }
-
-pub readers-number : (r : List ℕ) → Bytes r → ReadersNumber r
-readers-number r bytes =
-    record {
-      by-words = λ whole. rw (whole, payload-pages (wordsOf r) (words-small r bytes));
-      by-pages = λ whole fit few. rw whole (L.fitting later (wordsOf r) (words-small r bytes) (eqb-true (length (wordsOf r)) (wordCount (wordsOf r)) (not-false _ fit)) (omega (arith, few, length-words r)));
     }

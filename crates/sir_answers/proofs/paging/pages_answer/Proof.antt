@@ -20,10 +20,10 @@ finish-requires : tie.Need-finish-requires
 finish-requires c κs = search needs
 
 slice-relend-prefix-write-pages : tie.Need-slice-relend-prefix-write-pages
-slice-relend-prefix-write-pages c = finish-fits (c .finish .ensures)
+slice-relend-prefix-write-pages c = omega (arith, finish-fits (c .finish .ensures))
 
 slice-aggregate-write-pages : tie.Need-slice-aggregate-write-pages
-slice-aggregate-write-pages c = sym (length-take-le _ _ (finish-fits (c .before .finish .ensures)))
+slice-aggregate-write-pages c = sym (length-take-le _ _ (omega (arith, finish-fits (c .before .finish .ensures))))
 
 write-pages-requires : tie.Need-write-pages-requires
 write-pages-requires c κs =

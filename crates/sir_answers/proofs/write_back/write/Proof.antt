@@ -41,8 +41,8 @@ mul-n c = search needs
 abbrev at-read : tie.After-pages-for → tie.After-read-records
 at-read c = c .before .before .before
 
-array-share-prefix-words : tie.Need-array-share-prefix-words
-array-share-prefix-words c = omega (arith, c .pages-for .ensures, at-read c .read-records .ensures .room (c .before .if1 .left))
+array-share-prefix-lent : tie.Need-array-share-prefix-lent
+array-share-prefix-lent c = omega (arith, c .pages-for .ensures, at-read c .read-records .ensures .room (c .before .if1 .left))
 
 slice-aggregate-write-words : tie.Need-slice-aggregate-write-words
 slice-aggregate-write-words c =
@@ -79,7 +79,7 @@ write-spec =
     returns
     pages-for-requires
     mul-n
-    array-share-prefix-words
+    array-share-prefix-lent
     slice-aggregate-write-words
     write-words-requires
     same-length

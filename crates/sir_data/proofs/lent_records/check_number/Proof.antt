@@ -31,7 +31,9 @@ returns : tie.Need-returns
 returns c = simp (lt-ltb _ 36 (c .if1 .taken))
 
 returns-2 : tie.Need-returns-2
-returns-2 c = simp (le-ltb _ 36 (c .before .if1 .left), ne-eqb _ 0 (c .if2 .taken))
+returns-2 c =
+    let r = c .before .before .before .args .records .now in
+    simp (le-ltb (length r) 36 (c .before .if1 .left), ne-eqb (length r % 4) 0 (λ e. c .if2 .taken (omega (arith, e))))
 
 slice-aggregate-copy-words : tie.Need-slice-aggregate-copy-words
 slice-aggregate-copy-words c = sym (length-take-le 36 (lent (c .before)) (some (c .before)))
@@ -85,8 +87,11 @@ counts c =
     (length-words (lent past), sym (c .word-count .ensures ∙ head-count (lent past) (some past) (checked at-check-head .copy-words .ensures)))
 
 returns-4 : tie.Need-returns-4
-returns-4 c = let k = counts (c .before) in
-    sym (decided (c .before) ∙ rw (k .0, k .1, ne-eqb _ _ (c .if4 .taken)))
+returns-4 c =
+    let at-count = c .before in
+    let k = counts at-count in
+    let n : ℕ = length (lent (opened (at-count .before .before .before))) / 4 in
+    sym (decided at-count ∙ rw (k .0, k .1, ne-eqb n (at-count .word-count .result) (λ e. omega (arith, e, c .if4 .taken))))
 
 returns-5 : tie.Need-returns-5
 returns-5 c = let k = counts (c .before) in
