@@ -4,6 +4,7 @@
 //! then for each question its number, how many ids it has, the ids, the length of the result slice, the number and the
 //! length that the call is to give, and the bytes that the slice is to hold after it.
 
+use sir_image::pages::to_bytes;
 use sir_questions::Question;
 
 /// Each byte of a result slice before the call.
@@ -69,9 +70,4 @@ impl Recording {
         self.calls.iter().for_each(|call| bytes.extend(call.bytes()));
         bytes
     }
-}
-
-/// Words as they stand in a file or an answer.
-pub fn to_bytes(words: &[u32]) -> Vec<u8> {
-    words.iter().flat_map(|word| word.to_le_bytes()).collect()
 }

@@ -1,6 +1,7 @@
 //! The program `replay`, once it is built, tells what agrees with a file from what does not.
 
-use compare::recording::{Recorded, Recording, to_bytes};
+use compare::recording::{Recorded, Recording};
+use sir_image::pages::to_bytes;
 use sir_image::samples;
 use sir_questions::Question;
 use std::path::{Path, PathBuf};

@@ -1,10 +1,11 @@
 //! The files that are stored: the altered Plank's answers; those that Plank does not have, and the refusals, are the reference's.
 
-use compare::recording::{Recorded, Recording, to_bytes};
+use compare::recording::{Recorded, Recording};
 use compare::sides::{questions, unknown};
 use image_gen::{Kind, Rng, Size, damaged, generate, worst};
 use paper_reference::Reference;
 use plank_oracle::{Analyses, Program, Source};
+use sir_image::pages::to_bytes;
 use sir_image::{Code, Image, samples};
 use sir_questions::{IdKind, Question, QuestionKind, Refusal};
 use std::collections::BTreeMap;
