@@ -93,8 +93,10 @@ fn altered_words() {
 #[test]
 fn refusals_decoded() {
     let mut words = samples::report().words();
-    assert_eq!(sir_analyses::write(&words[1..]), Err(Refusal::COUNT));
     assert_eq!(sir_analyses::write(&words[..8]), Err(Refusal::PAGE_COUNT));
+    assert_eq!(sir_analyses::write(&words[..9]), Err(Refusal::PAGE_COUNT));
+    words[2] = 257;
+    assert_eq!(sir_analyses::write(&words[..9]), Err(Refusal::COUNT));
     words[0] = 2;
     assert_eq!(sir_analyses::write(&words), Err(Refusal::EDITION));
     assert_eq!(sir_analyses::write(&[]), Err(Refusal::PAGE_COUNT));
