@@ -310,9 +310,9 @@ mod tests {
             let paper = paper_reference::write(&lent.records);
             writing.note(&lent.records, &paper)
         });
-        assert!(turns.eq(0..26));
+        assert!(turns.eq(0..30));
         assert_eq!([writing.accepted, writing.full, writing.one_more, writing.most], [9, 2, 2, 1]);
-        assert_eq!(writing.refused, [0, 0, 0, 3, 2, 11, 1, 0, 0, 0, 0, 0, 0, 0, 0]);
-        assert_eq!([writing.outright, writing.nine, writing.images], [4, 3, 0]);
+        assert_eq!(writing.refused, [0, 0, 0, 5, 2, 13, 1, 0, 0, 0, 0, 0, 0, 0, 0]);
+        assert_eq!([writing.outright, writing.nine, writing.images], [5, 3, 0]);
     }
 }

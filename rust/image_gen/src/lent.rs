@@ -85,6 +85,7 @@ fn few_words() -> Vec<Lent> {
     vec![
         of("no_words", 6, &[]),
         of("eight_words", 6, &nine(1, 1)[..8]),
+        of("eight_words_edition_2", 6, &nine(2, 1)[..8]),
         of("nine_words", 6, &nine(1, 1)),
         of("nine_words_edition_2", 4, &nine(2, 0)),
         of("nine_words_no_function", 5, &nine(1, 0)),
@@ -122,16 +123,20 @@ fn at_page_ends() -> Vec<Lent> {
     counts.map(|(name, count)| of(name, 0, &of_length(count).words())).into()
 }
 
-/// As many words as an image can have, and as many as 117 pages hold and one more, which no counts call for.
+/// As many words as an image can have, as many as 117 pages hold, one more, and far more. No counts call for these; their head is
+/// still looked at first.
 fn most_words() -> Vec<Lent> {
     let most = samples::largest().words();
-    let another_edition = [&[2], &most[1..]].concat();
-    let longer = |length: usize| [most.as_slice(), &vec![0; length - most.len()]].concat();
+    let all_pages = MAX_PAGES * PAYLOAD_WORDS;
+    let longer = |edition: u32, length: usize| [&[edition], &most[1..], &vec![0; length - most.len()]].concat();
     vec![
         of("most_words", 0, &most),
-        of("most_words_edition_2", 4, &another_edition),
-        of("117_full_pages", 6, &longer(MAX_PAGES * PAYLOAD_WORDS)),
-        of("118_pages", 6, &longer(MAX_PAGES * PAYLOAD_WORDS + 1)),
+        of("most_words_edition_2", 4, &longer(2, most.len())),
+        of("117_full_pages", 6, &longer(1, all_pages)),
+        of("118_pages", 6, &longer(1, all_pages + 1)),
+        of("118_pages_edition_2", 4, &longer(2, all_pages + 1)),
+        of("1000_pages", 6, &longer(1, 126_000)),
+        of("1000_pages_edition_2", 4, &longer(2, 126_000)),
     ]
 }
 

@@ -36,7 +36,7 @@ const SMALL_FOR_ALL: u64 = 4;
 /// The result slice for an answer to such a question that is longer.
 const TOO_SHORT: usize = 16;
 /// Lent records that are longer than [`LONGEST`] and are recorded: the most that are accepted, and more than any pages hold.
-const LONG_RECORDS: [&str; 2] = ["most_words", "118_pages"];
+const LONG_RECORDS: [&str; 3] = ["most_words", "118_pages", "118_pages_edition_2"];
 
 /// Which questions a file has: those about ids or none, or those for all ids.
 #[derive(Clone, Copy, PartialEq)]
