@@ -233,7 +233,7 @@ impl Writing {
         match paper {
             Ok(_) => {
                 self.accepted += 1;
-                self.full += u64::from(words % PAYLOAD_WORDS == 0);
+                self.full += u64::from(words.is_multiple_of(PAYLOAD_WORDS));
                 self.one_more += u64::from(words % PAYLOAD_WORDS == 1);
                 self.most += u64::from(words == MOST_WORDS);
             }

@@ -117,7 +117,7 @@ fn lent_records_break_each_rule() {
             Ok(pages) => altered += u32::from(pages != image.pages()),
             Err(number) => found[number as usize] += 1,
         }
-        outright += u32::from(records.len() < 36 || records.len() % 4 != 0);
+        outright += u32::from(records.len() < 36 || !records.len().is_multiple_of(4));
     }
     let numbers: Vec<u32> = Refusal::of_images().skip(3).map(Refusal::number).collect();
     assert!(numbers.iter().all(|&number| found[number as usize] > 20), "by number: {found:?}");

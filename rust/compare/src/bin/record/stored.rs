@@ -185,8 +185,8 @@ fn damaged_images() -> Vec<Damaged> {
     found.into_values().flatten().collect()
 }
 
-/// Lent records: those that are known by name, but for some of the longest, and of each refusal that goes by words the first that
-/// come up among records made from generated images.
+/// Lent records: those that are known by name, but for some of the longest, and for each refusal that goes by words the first
+/// that come up among records made from generated images.
 fn lent_records() -> Vec<Recording> {
     let long = |name: &str| LONG_RECORDS.contains(&name);
     let known = known().into_iter().filter(|known| known.records.len() <= LONGEST || long(known.name));
