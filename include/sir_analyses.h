@@ -8,7 +8,7 @@
  * On success the number is 0, `length` counts the bytes of the answer, and the answer stands at the front of the result
  * slice as little-endian 32-bit words, that of sir_write as pages of such words; bytes past it stay as they were. A refusal
  * gives its number and length 0, and the result slice keeps its bytes. Of several refusals that apply the first in the
- * sequence of `enum sir_refusal` is given; sir_write alone has a sequence of its own, which stands there.
+ * sequence of `enum sir_refusal` is given; sir_write alone has a sequence of its own, which stands where it is declared.
  *
  * The caller owes: memory of the stated length at each pointer, readable for the image or the records and writable for the
  * result, both for the time of the call; a result slice that does not overlap the image or the records; a null pointer only
@@ -41,7 +41,7 @@ extern "C" {
 /* Goes up by one where a function, or what one of them takes or gives, is added or changed. */
 #define SIR_ANALYSES_VERSION 5
 
-/* Why a question is refused, in the sequence in which the rules are asked. */
+/* Why a call is refused, in the sequence in which the rules are asked of an image. */
 enum sir_refusal {
     /* length 0, not a multiple of 512, or above 59,904 bytes */
     SIR_REFUSED_LENGTH = 1,
@@ -75,7 +75,7 @@ enum sir_refusal {
     SIR_REFUSED_SHORT_RESULT = 14,
 };
 
-/* What a question gives. */
+/* What a call gives. */
 typedef struct sir_answer {
     uint32_t number; /* 0, or an enum sir_refusal */
     uint64_t length; /* bytes of the answer; 0 for a refusal */
@@ -146,7 +146,7 @@ sir_answer sir_crossing(const uint8_t *image, size_t image_length, uint32_t one,
                         size_t result_length);
 
 /* The records of the image: its payload words without padding, as many as its counts call for; those past them, which fill
- * the last page, are not given, and page numbers and checks are none of them. An answer is never longer than its image. */
+ * the last page, are not given, and page numbers and checks are none of them. The answer is never longer than the image. */
 sir_answer sir_records(const uint8_t *image, size_t image_length, uint8_t *result, size_t result_length);
 
 /* The pages of lent records: an image that every other function accepts and whose sir_records are these records. Of the

@@ -255,12 +255,12 @@ impl Display for Writing {
         let Writing { images, accepted, refused, outright, nine, full, one_more, most } = self;
         let counts = Refusal::ALL.iter().zip(refused).filter(|&(_, &count)| count > 0);
         let counts: Vec<String> = counts.map(|(refusal, count)| format!("{}: {count}", refusal.number())).collect();
+        let counts = if counts.is_empty() { "none".to_string() } else { counts.join(", ") };
         write!(
             f,
             "writing: {images} images written back; {accepted} records accepted, {full} of them fill their pages, {one_more} \
-             are one word longer, {most} are of {MOST_WORDS} words; refused {}, {outright} of them outright; {nine} were of \
-             nine words",
-            counts.join(", ")
+             are one word longer, {most} are of {MOST_WORDS} words; refused {counts}, {outright} of them outright; {nine} were \
+             of nine words"
         )
     }
 }
