@@ -104,7 +104,8 @@ fn known_records() {
     }
 }
 
-/// Lent records are refused by each rule that goes by words, and accepted as they are and altered.
+/// Lent records are refused by each rule that goes by words, and accepted as they are and altered; an image that is written has
+/// the records that were lent.
 #[test]
 fn lent_records_break_each_rule() {
     let rng = &mut Rng::new(0);
@@ -114,7 +115,11 @@ fn lent_records_break_each_rule() {
         let image = generate(Kind::SMALL[seed as usize % Kind::SMALL.len()], seed);
         let records = lent(&image, rng);
         match paper_reference::write(&records) {
-            Ok(pages) => altered += u32::from(pages != image.pages()),
+            Ok(pages) => {
+                altered += u32::from(pages != image.pages());
+                let written = Reference::new(&pages).expect("an accepted image");
+                assert_eq!(written.bytes(Question::Records), Ok(records.clone()));
+            }
             Err(number) => found[number as usize] += 1,
         }
         outright += u32::from(records.len() < 36 || !records.len().is_multiple_of(4));
