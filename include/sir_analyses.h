@@ -1,15 +1,18 @@
-/* Questions about an image of the intermediate form: order, predecessors, uses, liveness, allocations.
+/* Questions about an image of the intermediate form: order, predecessors, uses, liveness, allocations, records; and the
+ * pages of an image from its records.
  *
- * Each function takes the image as a pointer and a length in bytes, the ids asked about where the question has any, and a
- * result slice as a pointer and a length in bytes. It keeps neither pointer.
+ * Each function but sir_write takes the image as a pointer and a length in bytes, the ids asked about where the question has
+ * any, and a result slice as a pointer and a length in bytes. sir_write takes records where the others take an image, and no
+ * ids. No function keeps a pointer.
  *
  * On success the number is 0, `length` counts the bytes of the answer, and the answer stands at the front of the result
- * slice as little-endian 32-bit words; bytes past it stay as they were. A refusal gives its number and length 0, and the
- * result slice keeps its bytes. Of several refusals that apply the first in the sequence of `enum sir_refusal` is given.
+ * slice as little-endian 32-bit words, that of sir_write as pages of such words; bytes past it stay as they were. A refusal
+ * gives its number and length 0, and the result slice keeps its bytes. Of several refusals that apply the first in the
+ * sequence of `enum sir_refusal` is given; sir_write alone has a sequence of its own, which stands where it is declared.
  *
- * The caller owes: memory of the stated length at each pointer, readable for the image and writable for the result,
- * both for the time of the call; an image and a result slice that do not overlap; a null pointer only with length 0. Ids,
- * lengths and the bytes of the image may be any.
+ * The caller owes: memory of the stated length at each pointer, readable for the image or the records and writable for the
+ * result, both for the time of the call; a result slice that does not overlap the image or the records; a null pointer only
+ * with length 0. Ids, lengths and the bytes of the image or the records may be any.
  *
  * A function `sir_all_..` puts a question about one id for all ids: it gives the answers for ids 0, 1, .. in turn, each after
  * its length in words, which is one word. There is no id that could be unknown, so 13 is not given. Every other question
@@ -36,9 +39,9 @@ extern "C" {
 #endif
 
 /* Goes up by one where a function, or what one of them takes or gives, is added or changed. */
-#define SIR_ANALYSES_VERSION 4
+#define SIR_ANALYSES_VERSION 5
 
-/* Why a question is refused, in the sequence in which the rules are asked. */
+/* Why a call is refused, in the sequence in which the rules are asked of an image. */
 enum sir_refusal {
     /* length 0, not a multiple of 512, or above 59,904 bytes */
     SIR_REFUSED_LENGTH = 1,
@@ -50,7 +53,7 @@ enum sir_refusal {
     SIR_REFUSED_EDITION = 4,
     /* a count above its limit, or no function, or no block */
     SIR_REFUSED_COUNT = 5,
-    /* page count not the least that holds the words, or padding not zero */
+    /* page count not the least that holds the words, or padding not zero; lent records of a wrong length */
     SIR_REFUSED_PAGE_COUNT = 6,
     /* operation code or control kind unknown, or an unused field not zero */
     SIR_REFUSED_UNKNOWN = 7,
@@ -72,7 +75,7 @@ enum sir_refusal {
     SIR_REFUSED_SHORT_RESULT = 14,
 };
 
-/* What a question gives. */
+/* What a call gives. */
 typedef struct sir_answer {
     uint32_t number; /* 0, or an enum sir_refusal */
     uint64_t length; /* bytes of the answer; 0 for a refusal */
@@ -141,6 +144,26 @@ sir_answer sir_open(const uint8_t *image, size_t image_length, uint32_t block, u
  * intervals, and not where it has none. */
 sir_answer sir_crossing(const uint8_t *image, size_t image_length, uint32_t one, uint32_t other, uint8_t *result,
                         size_t result_length);
+
+/* The records of the image: its payload words without padding, as many as its counts call for; those past them, which fill
+ * the last page, are not given, and page numbers and checks are none of them. The answer is never longer than the image. */
+sir_answer sir_records(const uint8_t *image, size_t image_length, uint8_t *result, size_t result_length);
+
+/* The pages of lent records: an image that every other function accepts and whose sir_records are these records. Of the
+ * records of an accepted image these are the pages that were read, byte for byte.
+ *
+ * Records are lent as sir_records gives them, payload words without padding, four bytes each and lowest byte first. The
+ * answer is the least number of pages that holds them, 512 bytes for every 126 words or part of 126, with page numbers,
+ * zeros past the records, and checks. 59,904 bytes are enough for any records that are accepted.
+ *
+ * The rules of the image are asked of the records, so 6 comes in two places, and 1, 2, 3, 13 and 15 never come:
+ *
+ *     6           fewer than 9 words (36 bytes), or a length that is no whole number of words
+ *     4, 5        as of an image
+ *     6           more words, or fewer, than the counts call for
+ *     7 to 12     as of an image
+ *     14          a result slice that is shorter than the pages */
+sir_answer sir_write(const uint8_t *records, size_t records_length, uint8_t *result, size_t result_length);
 
 /* The predecessors of all blocks: for each its length in words, then sir_predecessors of it. */
 sir_answer sir_all_predecessors(const uint8_t *image, size_t image_length, uint8_t *result, size_t result_length);

@@ -1,9 +1,9 @@
 //! Links the proved library where it has been built: `libsir_capi.a` in the folder `SIR_ANALYSES_LIB`, absolute or from the
 //! root of the repository, or in `target/staticlib`, where `rt staticlib sir_capi` puts it. The cfg `sir_linked` says that
 //! it is there, and `SIR_LIBRARY` tells where. A folder that is named and has no such library is an error, and so is a library
-//! that lacks a question.
+//! that lacks a function.
 
-use sir_questions::Question;
+use sir_questions::function_names;
 use std::path::PathBuf;
 use std::{env, fs};
 
@@ -19,12 +19,9 @@ fn main() {
     let library = library.display();
     println!("cargo::rerun-if-changed={library}");
     match read {
-        Ok(bytes) => match Question::KINDS.iter().find(|kind| !has(&bytes, kind.name)) {
+        Ok(bytes) => match function_names().find(|name| !has(&bytes, name)) {
             Some(missing) => {
-                println!(
-                    "cargo::error={library} has no sir_{}: build it anew (run rt staticlib sir_capi)",
-                    missing.name
-                )
+                println!("cargo::error={library} has no sir_{missing}: build it anew (run rt staticlib sir_capi)")
             }
             None => {
                 println!("cargo::rustc-cfg=sir_linked");
@@ -38,8 +35,8 @@ fn main() {
     }
 }
 
-/// Whether the table of an archive names the function of a question.
-fn has(archive: &[u8], question: &str) -> bool {
-    let name = format!("sir_{question}\0");
+/// Whether the table of an archive names a function.
+fn has(archive: &[u8], function: &str) -> bool {
+    let name = format!("sir_{function}\0");
     archive.windows(name.len()).any(|part| part == name.as_bytes())
 }

@@ -13,15 +13,16 @@
 //! question is timed by itself, as the mean over some ids of each image, or some pairs of them; for Plank this is the time of
 //! the analyses that it needs and of its answer. Two lines are about all answers, for Plank both one run of all analyses and
 //! all answers from it: "every question about every id" is for the library the sum of the single times, "order, rounds and
-//! the seven together" the time of the two questions without ids and the seven for all ids, one call each; questions about two
-//! ids are in neither. Plank reports no rounds, no open allocations and no crossings, so these have no ratio; its
-//! arms for `Log1` to `Log4` are altered so that topics escape, and both give the same answers. Result slices are lent once,
-//! of 64 MiB, and not cleared between calls: where the answer is longer, the time is that of the refusal. A side that was missing
-//! when this was built is left out, with a message.
+//! the seven together" the time of the order, the rounds and the seven for all ids, one call each; questions about two
+//! ids and the records are in neither. The writer is timed with the records of each image. Plank reports no rounds, no open
+//! allocations, no crossings and no records, and writes no image, so these have no ratio; its arms for `Log1` to `Log4` are
+//! altered so that topics escape, and both give the same answers. Result slices are lent once, of 64 MiB, and not cleared between
+//! calls: where the answer is longer, the time is that of the refusal. A side that was missing when this was built is left out,
+//! with a message.
 //!
 //! With `--old` the other side is the library of an archive, such as a `libsir_capi.a` of an earlier state of the
 //! repository; without further words typical images are taken. The C compiler makes a shared object of each of the two
-//! archives, which are loaded alike at run time, so that nothing needs to be built anew; their calls take turns. Questions
+//! archives, which are loaded alike at run time, so that nothing needs to be built anew; their calls take turns. Functions
 //! that one of them does not have are named and left out. A question that takes other ids than in the old library must not
 //! be compared so.
 
@@ -34,7 +35,7 @@ use image_gen::rings::{self, Rings};
 use image_gen::{Kind, Rng, Size, extremes, generate, worst};
 use sir_analyses::calls;
 use sir_image::{Code, Image, MAX_LOCALS};
-use sir_questions::{AllocId, Question, QuestionKind};
+use sir_questions::{AllocId, Question, QuestionKind, WRITE};
 use std::hint::black_box;
 use std::process::ExitCode;
 use std::time::Duration;
@@ -232,10 +233,17 @@ fn table(group: &Group) {
         row(kind.name, asked.len() as u32, sums[0], sums[1]);
     }
     let count = images.len() as u32;
+    row(WRITE.name, count, time_writing(&images, &mut result), None);
     let whole = plank.then(|| images.iter().map(Timed::plank_whole).sum());
     row(EVERY, count, sir_analyses::LINKED.then_some(every), whole);
     let library = sir_analyses::LINKED.then(|| images.iter().map(|image| time_together(image, &mut result)).sum());
     row(TOGETHER, count, library, whole);
+}
+
+/// The time of writing every image from its records, where there is a library.
+fn time_writing(images: &[Timed], result: &mut [u8]) -> Option<Duration> {
+    let mut write = |image: &Timed| best(|| _ = black_box(calls::write(&image.records, result)));
+    sir_analyses::LINKED.then(|| images.iter().map(&mut write).sum())
 }
 
 /// The time of all answers about an image, one call for each question.

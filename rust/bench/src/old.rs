@@ -3,7 +3,7 @@
 
 use crate::timing::{EVERY, Group, RESULT_BYTES, TOGETHER, Timed, best_of_each, is_in_every, row, together};
 use sir_analyses::Answer;
-use sir_questions::{Question, QuestionKind};
+use sir_questions::{Question, QuestionKind, WRITE};
 use std::ffi::{CString, c_char, c_int, c_void};
 use std::hint::black_box;
 use std::mem::transmute;
@@ -22,7 +22,7 @@ const NOW: c_int = 2;
 /// A library that was loaded from an archive. It stays loaded.
 struct Library(*mut c_void);
 
-/// A question's function of such a library.
+/// A function of such a library.
 #[derive(Clone, Copy)]
 struct Function(*mut c_void);
 
@@ -51,9 +51,9 @@ impl Library {
         if library.is_null() { Err(format!("{} cannot be loaded", object.display())) } else { Ok(Library(library)) }
     }
 
-    /// The function that answers questions of a kind, where the library has one.
-    fn function(&self, kind: &QuestionKind) -> Option<Function> {
-        let name = CString::new(format!("sir_{}", kind.name)).expect("a name");
+    /// The function of this name, where the library has one.
+    fn function(&self, name: &str) -> Option<Function> {
+        let name = CString::new(format!("sir_{name}")).expect("a name");
         // Safety: the library is loaded.
         let function = unsafe { dlsym(self.0, name.as_ptr()) };
         (!function.is_null()).then_some(Function(function))
@@ -66,10 +66,11 @@ type Ids2 = unsafe extern "C" fn(*const u8, usize, u32, u32, *mut u8, usize) -> 
 type Ids3 = unsafe extern "C" fn(*const u8, usize, u32, u32, u32, *mut u8, usize) -> Answer;
 
 impl Function {
-    /// Calls it with these ids. They must be as many as it takes in the library that it is of.
-    fn call(self, image: &[u8], ids: &[u32], result: &mut [u8]) -> Answer {
-        let (at, length, out, room) = (image.as_ptr(), image.len(), result.as_mut_ptr(), result.len());
-        // Safety: a question's function takes an image, its ids and a result slice, both slices lent for the call.
+    /// Calls it with an image, or with lent records, and these ids. They must be as many as it takes in the library that it is
+    /// of.
+    fn call(self, lent: &[u8], ids: &[u32], result: &mut [u8]) -> Answer {
+        let (at, length, out, room) = (lent.as_ptr(), lent.len(), result.as_mut_ptr(), result.len());
+        // Safety: a function takes an image or records, its ids and a result slice, both slices lent for the call.
         unsafe {
             match *ids {
                 [] => transmute::<*mut c_void, Ids0>(self.0)(at, length, out, room),
@@ -94,9 +95,9 @@ impl Libraries {
         Ok(Libraries { new: Library::load("new", new)?, old: Library::load("old", old)? })
     }
 
-    /// The function of each library that answers questions of a kind, where both have one.
-    fn functions(&self, kind: &QuestionKind) -> Option<[Function; 2]> {
-        Some([self.new.function(kind)?, self.old.function(kind)?])
+    /// The function of this name of each library, where both have one.
+    fn functions(&self, name: &str) -> Option<[Function; 2]> {
+        Some([self.new.function(name)?, self.old.function(name)?])
     }
 
     /// Times a group by both and prints a row for each question that both answer.
@@ -106,8 +107,8 @@ impl Libraries {
         let images: Vec<Timed> = group.images.iter().map(Timed::new).collect();
         let mut every = [Duration::ZERO; 2];
         for kind in Question::KINDS {
-            let Some(functions) = self.functions(kind) else {
-                println!("{:36} not in both", kind.name);
+            let Some(functions) = self.functions(kind.name) else {
+                not_in_both(kind.name);
                 continue;
             };
             let mut sums = [Duration::ZERO; 2];
@@ -121,27 +122,37 @@ impl Libraries {
             }
             row(kind.name, asked.len() as u32, Some(sums[0]), Some(sums[1]));
         }
+        let writer = self.functions(WRITE.name).map(|functions| vec![functions]);
+        row_of_calls(WRITE.name, &images, |image| &image.records, writer, &mut results);
         row(EVERY, images.len() as u32, Some(every[0]), Some(every[1]));
-        let Some(functions) = together().map(|kind| self.functions(kind)).collect::<Option<Vec<_>>>() else {
-            println!("{TOGETHER:36} not in both");
-            return;
-        };
-        let mut sums = [Duration::ZERO; 2];
-        for image in &images {
-            let times = times_together(image, &functions, &mut results);
-            sums = [0, 1].map(|side| sums[side] + times[side]);
-        }
-        row(TOGETHER, images.len() as u32, Some(sums[0]), Some(sums[1]));
+        let functions = together().map(|kind| self.functions(kind.name)).collect();
+        row_of_calls(TOGETHER, &images, |image| &image.bytes, functions, &mut results);
     }
 }
 
-/// The times of both libraries for all answers about an image, one call for each question.
-fn times_together(image: &Timed, functions: &[[Function; 2]], [first, second]: &mut [Vec<u8>; 2]) -> [Duration; 2] {
-    let (new, old) = best_of_each(
-        || functions.iter().for_each(|[new, _]| _ = black_box(new.call(&image.bytes, &[], first))),
-        || functions.iter().for_each(|[_, old]| _ = black_box(old.call(&image.bytes, &[], second))),
-    );
-    [new, old]
+fn not_in_both(name: &str) {
+    println!("{name:36} not in both");
+}
+
+/// Prints a row of the times of both libraries for calls without ids, all of them of what is lent of an image, where both have
+/// the functions.
+fn row_of_calls(
+    name: &str,
+    images: &[Timed],
+    lent: impl Fn(&Timed) -> &Vec<u8>,
+    functions: Option<Vec<[Function; 2]>>,
+    [first, second]: &mut [Vec<u8>; 2],
+) {
+    let Some(functions) = functions else { return not_in_both(name) };
+    let mut sums = [Duration::ZERO; 2];
+    for image in images {
+        let (new, old) = best_of_each(
+            || functions.iter().for_each(|[new, _]| _ = black_box(new.call(lent(image), &[], first))),
+            || functions.iter().for_each(|[_, old]| _ = black_box(old.call(lent(image), &[], second))),
+        );
+        sums = [sums[0] + new, sums[1] + old];
+    }
+    row(name, images.len() as u32, Some(sums[0]), Some(sums[1]));
 }
 
 /// The mean times of both libraries over some questions of a kind, of which the image has some.

@@ -4,14 +4,14 @@ use crate::timing::Timed;
 use image_gen::{Size, worst};
 use sir_analyses::calls;
 use sir_image::{Image, samples};
-use sir_questions::{Question, QuestionKind};
+use sir_questions::{Question, QuestionKind, WRITE};
 use std::hint::black_box;
 use std::thread;
 
 /// The stack of the thread. Below the size of a huge page, so that each small page is touched by itself.
 const STACK_BYTES: usize = 3 << 19;
 
-/// Prints the most that each question takes, over the images that nest deepest or take longest.
+/// Prints the most that each question and the writer takes, over the images that nest deepest or take longest.
 pub fn table() {
     let worst = worst(Size::FULL).into_iter().map(|(_, image)| image);
     let images: Vec<Image> = [samples::deepest(), samples::largest()].into_iter().chain(worst).collect();
@@ -22,6 +22,8 @@ pub fn table() {
         let most = images.iter().map(|image| stack_of(kind, image)).max().flatten();
         println!("{:16} {:>10}", kind.name, shown(most));
     }
+    let most = images.iter().map(stack_of_writing).max().flatten();
+    println!("{:16} {:>10}", WRITE.name, shown(most));
 }
 
 /// The stack of the first question of a sample, or of one that is refused where there are no ids.
@@ -31,8 +33,17 @@ fn stack_of(kind: &QuestionKind, image: &Timed) -> Option<u64> {
     touched(|| call(bytes, question))
 }
 
+/// The stack of writing an image from its records.
+fn stack_of_writing(image: &Timed) -> Option<u64> {
+    let records = &image.records;
+    touched(|| _ = black_box(calls::write(records, &mut vec![0; MOST])))
+}
+
+/// The result slice of a call, in bytes.
+const MOST: usize = 1 << 21;
+
 fn call(image: &[u8], question: Question) {
-    let mut result = vec![0; 1 << 21];
+    let mut result = vec![0; MOST];
     black_box(calls::ask(question, image, &mut result));
 }
 

@@ -36,6 +36,8 @@ impl Group {
 pub struct Timed {
     /// The image.
     pub bytes: Vec<u8>,
+    /// Its records, as they are lent to the writer.
+    pub records: Vec<u8>,
     program: Option<Program>,
     reference: Reference,
 }
@@ -45,7 +47,8 @@ impl Timed {
     pub fn new(image: &Image) -> Timed {
         let bytes = image.pages();
         let reference = Reference::new(&bytes).expect("an accepted image");
-        Timed { bytes, program: Program::new(image), reference }
+        let records = reference.bytes(Question::Records).expect("records of an accepted image");
+        Timed { bytes, records, program: Program::new(image), reference }
     }
 
     /// How many questions of a kind there are.
@@ -91,12 +94,17 @@ impl Timed {
 /// Whether a question is about one id or none: what the line [`EVERY`] sums up. Those about two ids are put for some pairs of
 /// an image and not for all, and Plank has none of them.
 pub fn is_in_every(kind: &QuestionKind) -> bool {
-    kind.single().is_none() && kind.ids.len() < 2
+    kind.single().is_none() && kind.ids.len() < 2 && is_of_analyses(kind)
 }
 
-/// The questions that together give all answers about an image: those without ids.
+/// The questions that together give all answers of the analyses of an image: those without ids.
 pub fn together() -> impl Iterator<Item = &'static QuestionKind> {
-    Question::KINDS.iter().filter(|kind| kind.ids.is_empty())
+    Question::KINDS.iter().filter(|kind| kind.ids.is_empty() && is_of_analyses(kind))
+}
+
+/// Whether some analysis answers: not so the records, which are the image itself.
+fn is_of_analyses(kind: &QuestionKind) -> bool {
+    kind.number != Question::Records.number()
 }
 
 /// The line of every question about every id, each by a call of its own.

@@ -5,3 +5,4 @@ pub mod shrink;
 pub mod sides;
 pub mod tally;
 pub mod text;
+pub mod writing;

@@ -18,12 +18,14 @@
 //! altered so that topics escape, and then with Plank unaltered on those in which no topic is a pointer. With the
 //! library every answer is compared, its number, its length, each byte of the result slice, unknown ids and slices that are
 //! too short. Each question about one id is put for every id, and then once for all ids; one about two ids for every pair of
-//! them, or for a choice where these are many. Where two sides disagree, the image is made as small as it goes and shown,
-//! and the program stops with status 1. A side that was missing when this was built is left out, with a message.
+//! them, or for a choice where these are many. The library also writes every image back from its records, and is lent records
+//! that are made from them and ones that are known by name. Where two sides disagree, the image is made as small as it goes
+//! and shown, with the records that were lent if it is about these, and the program stops with status 1. A side that was
+//! missing when this was built is left out, with a message.
 
 use compare::sides::Disagreement;
 use compare::tally::Tally;
-use compare::{shrink, sides, text};
+use compare::{shrink, sides, text, writing};
 use image_gen::{Kind, Rng, Size, damaged, generate, worst};
 use sir_image::Image;
 use sir_questions::Refusal;
@@ -140,6 +142,7 @@ fn run(options: &Options) -> Result<(), Failure> {
     }
     if options.library && sir_analyses::LINKED && options.files.is_empty() {
         refusals(options)?;
+        known_records()?;
         if options.worst {
             for (name, image) in worst(Size::FULL) {
                 let name = format!("the library, {name}");
@@ -157,7 +160,9 @@ fn compare_all(name: &str, images: impl Iterator<Item = (String, Image)>, compar
     for (name, image) in images {
         compare(&image, &mut tally).map_err(|_| (1, explain(&name, &image, compare)))?;
     }
-    let Tally { images, refused, left_out, answers, words, merged, most_rounds, logs, open, crossings, .. } = tally;
+    let Tally {
+        images, refused, left_out, answers, words, merged, most_rounds, logs, open, crossings, writing, ..
+    } = tally;
     let [all, marked] = tally.allocations;
     if images + left_out > 0 {
         println!("{name}: {images} compared, {refused} of them refused by both sides");
@@ -167,6 +172,9 @@ fn compare_all(name: &str, images: impl Iterator<Item = (String, Image)>, compar
         println!("  {answers} answers of {words} words are equal");
         println!("  {all} allocations, {marked} marked, {merged} merged intervals; at most {most_rounds} rounds");
         println!("  {logs}\n  {open}\n  {crossings}");
+        if writing.accepted > 0 {
+            println!("  {writing}");
+        }
         println!("  {:.1} s", started.elapsed().as_secs_f64());
     }
     Ok(())
@@ -196,6 +204,16 @@ fn files(side: &str, names: &[String], compare: Compare) -> Result<(), Failure> 
         }
     }
     compare_all(&format!("{side}, files"), images.into_iter(), compare)
+}
+
+/// Compares what the library writes of records that are known by name.
+fn known_records() -> Result<(), Failure> {
+    let mut tally = Tally::default();
+    match writing::known_with_library(&mut tally) {
+        Ok(()) => println!("the library, records known by name\n  {}", tally.writing),
+        Err(found) => return Err((1, format!("disagreement on records known by name:\n{found}"))),
+    }
+    Ok(())
 }
 
 /// Compares the library's refusals of damaged images with the paper's.

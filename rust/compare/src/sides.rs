@@ -1,6 +1,7 @@
 //! The sides that are compared, and what differs between them.
 
 use crate::tally::Tally;
+use crate::writing;
 use paper_reference::Reference;
 use plank_oracle::{Program, Source};
 use sir_analyses::{Answer, calls};
@@ -28,9 +29,9 @@ impl Display for Disagreement {
 pub const PLANK: &str = "Plank";
 /// The name of the side that is Plank as it is.
 pub const UNALTERED: &str = "Plank unaltered";
-const LIBRARY: &str = "library";
+pub(crate) const LIBRARY: &str = "library";
 
-fn agree<T: Debug + PartialEq>(
+pub(crate) fn agree<T: Debug + PartialEq>(
     question: impl Display,
     paper: T,
     name: &'static str,
@@ -132,10 +133,12 @@ pub fn unknown(paper: &Reference, kind: &QuestionKind, turn: usize) -> Vec<Quest
 }
 
 /// Compares the paper's answers with those of the linked library: number, length and every byte of the result slice,
-/// for every id, one id too many, pairs of ids, and result slices that are just long enough, longer, and too short.
+/// for every id, one id too many, pairs of ids, and result slices that are just long enough, longer, and too short. The image is
+/// written back from its records too, and records that are made from them are lent.
 pub fn with_library(image: &Image, tally: &mut Tally) -> Result<(), Disagreement> {
     let bytes = image.pages();
     tally.images += 1;
+    writing::with_library(image, tally)?;
     let paper = match Reference::new(&bytes) {
         Ok(paper) => paper,
         Err(_) => return refused_alike(&bytes, tally),
@@ -157,6 +160,7 @@ pub fn with_library(image: &Image, tally: &mut Tally) -> Result<(), Disagreement
 pub fn with_library_sparsely(image: &Image, tally: &mut Tally) -> Result<(), Disagreement> {
     let bytes = image.pages();
     tally.images += 1;
+    writing::with_library(image, tally)?;
     let paper = Reference::new(&bytes).expect("an accepted image");
     tally.logs.note(&paper);
     for question in Question::KINDS.iter().flat_map(|kind| questions(&paper, kind, |count| count / 3, 16)) {
@@ -200,12 +204,12 @@ fn same_answer(paper: &Reference, image: &[u8], question: Question, tally: &mut 
     Ok(())
 }
 
-fn words_of(bytes: &[u8]) -> Vec<u32> {
+pub(crate) fn words_of(bytes: &[u8]) -> Vec<u32> {
     bytes.as_chunks().0.iter().map(|&word| u32::from_le_bytes(word)).collect()
 }
 
 /// Bytes to begin with, so that one that is written is seen.
-fn filled(length: usize) -> Vec<u8> {
+pub(crate) fn filled(length: usize) -> Vec<u8> {
     (0..length).map(|at| (at % 251) as u8 ^ 0xa5).collect()
 }
 

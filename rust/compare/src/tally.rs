@@ -1,6 +1,8 @@
 //! What was compared, and how often each case came up that a question turns on.
 
 use paper_reference::{Interval, Reference};
+use sir_image::HEADER_WORDS;
+use sir_image::pages::PAYLOAD_WORDS;
 use sir_questions::{AllocId, BlockId, IdKind, OpIdx, Question, Refusal};
 use std::fmt::{self, Display, Formatter};
 
@@ -29,6 +31,8 @@ pub struct Tally {
     pub open: Open,
     /// What crossed.
     pub crossings: Crossings,
+    /// What was written.
+    pub writing: Writing,
 }
 
 impl Tally {
@@ -199,6 +203,68 @@ fn touch(one: &[Interval], other: &[Interval], (block, at): (u32, u32)) -> bool 
     ends && other.iter().any(|&(of, start, _)| (of, start) == (block, at))
 }
 
+/// What was written of records.
+#[derive(Clone, Copy, Debug, Default)]
+pub struct Writing {
+    /// Images that were written back, byte for byte.
+    pub images: u64,
+    /// Records that were accepted, those of images included.
+    pub accepted: u64,
+    /// Records that were refused, by the place of the refusal in [`Refusal::ALL`].
+    pub refused: [u64; Refusal::ALL.len()],
+    /// Of these, those of fewer than nine words, or of no whole number of words.
+    pub outright: u64,
+    /// Records of nine words.
+    pub nine: u64,
+    /// Accepted records that fill their pages.
+    pub full: u64,
+    /// Accepted records that are one word longer than that.
+    pub one_more: u64,
+    /// Accepted records of as many words as there can be.
+    pub most: u64,
+}
+
+impl Writing {
+    /// Records, and what the paper makes of them: pages, or the number of a refusal. Gives how many there were before them.
+    pub fn note(&mut self, records: &[u8], paper: &Result<Vec<u8>, u32>) -> usize {
+        let before = self.accepted + self.refused.iter().sum::<u64>();
+        let words = records.len() / 4;
+        self.nine += u64::from(records.len() == 4 * HEADER_WORDS);
+        match paper {
+            Ok(_) => {
+                self.accepted += 1;
+                self.full += u64::from(words.is_multiple_of(PAYLOAD_WORDS));
+                self.one_more += u64::from(words % PAYLOAD_WORDS == 1);
+                self.most += u64::from(words == MOST_WORDS);
+            }
+            Err(number) => {
+                let place = Refusal::ALL.iter().position(|refusal| refusal.number() == *number);
+                self.refused[place.expect("a refusal of the table")] += 1;
+                self.outright += u64::from(words < HEADER_WORDS || !records.len().is_multiple_of(4));
+            }
+        }
+        before as usize
+    }
+}
+
+/// The words of an image with every count at its limit.
+const MOST_WORDS: usize = 14_665;
+
+impl Display for Writing {
+    fn fmt(&self, f: &mut Formatter<'_>) -> fmt::Result {
+        let Writing { images, accepted, refused, outright, nine, full, one_more, most } = self;
+        let counts = Refusal::ALL.iter().zip(refused).filter(|&(_, &count)| count > 0);
+        let counts: Vec<String> = counts.map(|(refusal, count)| format!("{}: {count}", refusal.number())).collect();
+        let counts = if counts.is_empty() { "none".to_string() } else { counts.join(", ") };
+        write!(
+            f,
+            "writing: {images} images written back; {accepted} records accepted, {full} of them fill their pages, {one_more} \
+             are one word longer, {most} are of {MOST_WORDS} words; refused {counts}, {outright} of them outright; {nine} were \
+             of nine words"
+        )
+    }
+}
+
 #[cfg(test)]
 mod tests {
     use super::*;
@@ -236,5 +302,17 @@ mod tests {
         assert_eq!([crossings.crossing, crossings.after_bare, crossings.touching], [1, 1, 0]);
         assert_eq!([crossings.never, crossings.bare, crossings.not_itself], [3, 3, 1]);
         assert_eq!(tally(&samples::sum_of_pointers()).crossings.marked, 4);
+    }
+    #[test]
+    fn writing() {
+        let mut writing = Writing::default();
+        let turns = image_gen::known().into_iter().map(|lent| {
+            let paper = paper_reference::write(&lent.records);
+            writing.note(&lent.records, &paper)
+        });
+        assert!(turns.eq(0..30));
+        assert_eq!([writing.accepted, writing.full, writing.one_more, writing.most], [9, 2, 2, 1]);
+        assert_eq!(writing.refused, [0, 0, 0, 5, 2, 13, 1, 0, 0, 0, 0, 0, 0, 0, 0]);
+        assert_eq!([writing.outright, writing.nine, writing.images], [5, 3, 0]);
     }
 }

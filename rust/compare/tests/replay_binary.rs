@@ -1,6 +1,7 @@
 //! The program `replay`, once it is built, tells what agrees with a file from what does not.
 
-use compare::recording::{Recorded, Recording, to_bytes};
+use compare::recording::{Called, Recorded, Recording};
+use sir_image::pages::to_bytes;
 use sir_image::samples;
 use sir_questions::Question;
 use std::path::{Path, PathBuf};
@@ -26,7 +27,7 @@ fn replayed(name: &str, bytes: &[u8]) -> Option<String> {
 
 fn calls(image: &[u8]) -> Vec<Recorded> {
     let questions = Question::KINDS.iter().map(|kind| kind.about_zeros());
-    questions.map(|question| Recorded::by_reference(question, image, 100)).collect()
+    questions.map(|question| Recorded::by_reference(question, image, 400)).collect()
 }
 
 /// Every question is known to the program, by its number and its ids.
@@ -35,9 +36,20 @@ fn every_question() {
     let image = samples::report().pages();
     let calls = calls(&image);
     let count = calls.len();
-    let recording = Recording { name: "every_question".to_string(), image, calls };
+    let recording = Recording { name: "every_question".to_string(), lent: image, calls };
     if let Some(line) = replayed("every_question", &recording.bytes()) {
         assert_eq!(line, format!("every_question agree {count} differ 0\n"));
+    }
+}
+
+/// The writer is known too, and is lent what the file has in the place of an image.
+#[test]
+fn writer() {
+    let lent = to_bytes(&samples::report().words());
+    let calls = [512, 520, 511, 0].map(|room| Recorded::by_reference(Called::Write, &lent, room)).to_vec();
+    let recording = Recording { name: "writer".to_string(), lent, calls };
+    if let Some(line) = replayed("writer", &recording.bytes()) {
+        assert_eq!(line, "writer agree 4 differ 0\n");
     }
 }
 
@@ -51,7 +63,7 @@ fn wrong_answers() {
     calls[1].length = 12;
     calls[2].result[8] ^= 1;
     calls[3].result[19] ^= 1;
-    let recording = Recording { name: "wrong_answers".to_string(), image, calls };
+    let recording = Recording { name: "wrong_answers".to_string(), lent: image, calls };
     if let Some(line) = replayed("wrong_answers", &recording.bytes()) {
         assert_eq!(line, "wrong_answers agree 1 differ 4\n");
     }

@@ -1,5 +1,5 @@
 //! Generates images that no rule refuses, each from a kind and a seed; but in some images of some kinds two allocations may
-//! share a base (12). [`damaged`] breaks them.
+//! share a base (12). [`damaged`] breaks them, and [`lent`](lent()) makes records of them that break rules.
 //!
 //! ```
 //! use image_gen::{Kind, generate};
@@ -10,7 +10,9 @@
 mod crossings;
 mod damaged;
 pub mod extremes;
+mod full_pages;
 mod large;
+mod lent;
 pub mod lifetimes;
 pub mod rings;
 mod rng;
@@ -19,6 +21,7 @@ mod small;
 
 pub use damaged::damaged;
 pub use extremes::Size;
+pub use lent::{Lent, known, lent};
 use rings::Rings;
 pub use rng::Rng;
 use sir_image::Image;
@@ -81,6 +84,8 @@ kinds! {
     Crossings
     /// Logs with pointers as offset, as size and as topics.
     Topics
+    /// Words that just fill their pages, and words that are one more than that.
+    FullPages
 }
 
 impl Kind {
@@ -100,6 +105,7 @@ impl Kind {
         Kind::Mixed,
         Kind::Crossings,
         Kind::Topics,
+        Kind::FullPages,
     ];
 
     /// Kinds of large images, on which plain code still ends.
@@ -141,6 +147,7 @@ pub fn generate(kind: Kind, seed: u64) -> Image {
         Kind::SmallRenaming => large::small_renaming(rng),
         Kind::Crossings => crossings::image(rng),
         Kind::Topics => lifetimes::image(&small::TOPICS, rng),
+        Kind::FullPages => full_pages::image(rng),
     }
 }
 

@@ -1,6 +1,6 @@
 //! Every generated image is accepted, but for shared bases.
 
-use image_gen::{Kind, Size, generate, worst};
+use image_gen::{Kind, Rng, Size, generate, known, lent, worst};
 use paper_reference::{Interval, Reference};
 use sir_questions::{AllocId, BlockId, IdKind, Question, Refusal};
 
@@ -83,6 +83,51 @@ fn topics_have_pointers_in_logs() {
     }
     assert!(positions.iter().all(|&count| count > 20), "pointers by position: {positions:?}");
     assert!(unmarked.iter().all(|&count| count > 20), "images with no mark, by a pointer's position: {unmarked:?}");
+}
+
+/// Words fill their pages, or are one more than that, on one page and on several.
+#[test]
+fn full_pages_are_full() {
+    let counts: Vec<usize> = (0..500).map(|seed| generate(Kind::FullPages, seed).word_count()).collect();
+    assert!(counts.iter().all(|count| count % 126 < 2), "{counts:?}");
+    for wanted in [126, 127, 252, 253, 378, 379] {
+        let found = counts.iter().filter(|&&count| count == wanted).count();
+        assert!(found > 10, "{found} of {wanted} words");
+    }
+}
+
+/// Records that are known by name get the numbers that stand beside them.
+#[test]
+fn known_records() {
+    for lent in known() {
+        assert_eq!(paper_reference::write(&lent.records).err().unwrap_or(0), lent.number, "{}", lent.name);
+    }
+}
+
+/// Lent records are refused by each rule that goes by words, and accepted as they are and altered; an image that is written has
+/// the records that were lent.
+#[test]
+fn lent_records_break_each_rule() {
+    let rng = &mut Rng::new(0);
+    let mut found = [0; 16];
+    let (mut outright, mut altered) = (0, 0);
+    for seed in 0..20_000 {
+        let image = generate(Kind::SMALL[seed as usize % Kind::SMALL.len()], seed);
+        let records = lent(&image, rng);
+        match paper_reference::write(&records) {
+            Ok(pages) => {
+                altered += u32::from(pages != image.pages());
+                let written = Reference::new(&pages).expect("an accepted image");
+                assert_eq!(written.bytes(Question::Records), Ok(records.clone()));
+            }
+            Err(number) => found[number as usize] += 1,
+        }
+        outright += u32::from(records.len() < 36 || !records.len().is_multiple_of(4));
+    }
+    let numbers: Vec<u32> = Refusal::of_images().skip(3).map(Refusal::number).collect();
+    assert!(numbers.iter().all(|&number| found[number as usize] > 20), "by number: {found:?}");
+    assert!(outright > 100 && found[6] > 2 * outright, "{outright} refused outright, {} with 6", found[6]);
+    assert!(altered > 1000, "{altered} accepted that are not those of the image");
 }
 
 /// "The number is at most the final number of exit members plus 1", and at least 1.

@@ -12,13 +12,15 @@ mod open;
 mod pages;
 mod records;
 mod report;
+mod writing;
 
 pub use flow::{BLOCK_END, Interval};
 pub use report::report;
+pub use writing::{call_write, write};
 
 use allocations::Allocation;
 use flow::{Liveness, Operands, Order};
-use records::Records;
+use records::{Fit, Records};
 use sir_questions::{AllocId, BlockId, IdKind, Question, QuestionKind};
 use std::cell::OnceCell;
 use std::collections::BTreeSet;
@@ -42,7 +44,13 @@ pub struct Reference {
 impl Reference {
     /// The image in these bytes, or the number of the first rule of the sequence that refuses it.
     pub fn new(image: &[u8]) -> Result<Reference, u32> {
-        let records = records::records(&pages::payload(image)?)?;
+        Reference::of(&pages::payload(image)?, pages::is_least)
+    }
+
+    /// The image of these payload words, which are to fit their counts so; or the number of the first rule after 3 that
+    /// refuses it.
+    fn of(words: &[u32], fit: Fit) -> Result<Reference, u32> {
+        let records = records::records(words, fit)?;
         let order = Order::of(&records);
         let allocations = allocations::allocations(&records, &order);
         if allocations::breaks_12(&allocations) {
@@ -105,6 +113,7 @@ impl Reference {
             | Question::AllOwners => self.in_turn(question.kind().single().expect("one of all ids"), most)?,
             Question::Open(block, operation) => self.open(block.0 as usize, operation.0 as usize),
             Question::Crossing(one, other) => open::crossing(&self.records, self.lifetime(one), self.lifetime(other)),
+            Question::Records => self.records.words.clone(),
         };
         if answer.len() > most { Err(14) } else { Ok(answer) }
     }
@@ -250,7 +259,12 @@ pub fn refusal(image: &[u8]) -> u32 {
 
 /// A call: the number and the length that it gives, and the result slice as it leaves it.
 pub fn call(image: &[u8], question: Question, result: &mut [u8]) -> (u32, u64) {
-    match Reference::new(image).and_then(|reference| reference.bytes_within(question, result.len())) {
+    put(Reference::new(image).and_then(|reference| reference.bytes_within(question, result.len())), result)
+}
+
+/// What a call gives: bytes, for which the slice has room, or the number of a refusal.
+fn put(answer: Result<Vec<u8>, u32>, result: &mut [u8]) -> (u32, u64) {
+    match answer {
         Ok(bytes) => {
             result[..bytes.len()].copy_from_slice(&bytes);
             (0, bytes.len() as u64)

@@ -57,7 +57,7 @@ mod tests {
             successors: Vec::new(),
         };
         let blocks = ranges.iter().map(block).collect();
-        Records { init: 0, main: None, locals: 0, entries: vec![0], blocks, operations: Vec::new() }
+        Records { words: Vec::new(), init: 0, main: None, locals: 0, entries: vec![0], blocks, operations: Vec::new() }
     }
 
     #[test]

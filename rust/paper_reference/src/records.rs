@@ -1,13 +1,14 @@
 //! The records of an image: refusals 4 to 11, in the sequence in which they are asked.
 
 use crate::codes;
-use crate::pages::PAYLOAD;
 use std::collections::HashSet;
 use std::ops::Range;
 
 /// An image as records, which no rule before 12 refuses.
 #[derive(Clone, Debug)]
 pub struct Records {
+    /// The payload words without padding.
+    pub words: Vec<u32>,
     /// The init function.
     pub init: usize,
     /// The main function, if any.
@@ -64,6 +65,7 @@ struct Counts {
 
 /// The parts of the payload after the counts.
 struct Parts<'a> {
+    words: &'a [u32],
     counts: Counts,
     init: u32,
     main: u32,
@@ -80,13 +82,18 @@ type Rule = (u32, fn(&Parts) -> bool);
 /// The rules that are asked of all records, in sequence.
 const RULES: &[Rule] = &[(7, breaks_7), (8, breaks_8), (9, breaks_9), (10, breaks_10), (11, breaks_11)];
 
-/// The records in these payload words, or the number of the first rule of the sequence that refuses them.
-pub fn records(words: &[u32]) -> Result<Records, u32> {
-    let parts = parts(words)?;
+/// Whether words are as many as they are to be where the counts call for so many; what else rule 6 asks of them.
+pub type Fit = fn(words: &[u32], needed: usize) -> bool;
+
+/// The records in these payload words, of which there are at least 9, or the number of the first rule of the sequence that
+/// refuses them.
+pub fn records(words: &[u32], fit: Fit) -> Result<Records, u32> {
+    let parts = parts(words, fit)?;
     if let Some((number, _)) = RULES.iter().find(|(_, breaks)| breaks(&parts)) {
         return Err(*number);
     }
     Ok(Records {
+        words: parts.words.to_vec(),
         init: parts.init as usize,
         main: (parts.main as usize).checked_sub(1),
         locals: parts.counts.locals as usize,
@@ -123,18 +130,20 @@ fn counts(words: &[u32]) -> Result<Counts, u32> {
 }
 
 /// Rules 4 to 6.
-fn parts(words: &[u32]) -> Result<Parts<'_>, u32> {
+fn parts(words: &[u32], fit: Fit) -> Result<Parts<'_>, u32> {
     let counts = counts(words)?;
     let needed = 9 + counts.functions + 11 * counts.blocks + 7 * counts.operations + counts.operands + counts.targets;
     let needed = needed as usize;
-    if words.len() != needed.div_ceil(PAYLOAD) * PAYLOAD || words[needed..].iter().any(|&word| word != 0) {
+    if !fit(words, needed) {
         return Err(6);
     }
-    let (entries, rest) = words[9..needed].split_at(counts.functions as usize);
+    let words = &words[..needed];
+    let (entries, rest) = words[9..].split_at(counts.functions as usize);
     let (blocks, rest) = rest.split_at(11 * counts.blocks as usize);
     let (operations, rest) = rest.split_at(7 * counts.operations as usize);
     let (operands, targets) = rest.split_at(counts.operands as usize);
     Ok(Parts {
+        words,
         counts,
         init: words[7],
         main: words[8],

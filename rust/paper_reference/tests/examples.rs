@@ -1,6 +1,7 @@
 //! Answers that the paper gives.
 
-use paper_reference::{Reference, call};
+use paper_reference::{Reference, call, call_write, write};
+use sir_image::pages::to_bytes;
 use sir_image::{Code, Control, Image, Span, samples};
 use sir_questions::Question;
 
@@ -205,4 +206,79 @@ fn calls() {
     assert_eq!(call(&image, question("allocation:1"), &mut result), (13, 0));
     assert_eq!(call(&image[..511], question("order"), &mut result), (1, 0));
     assert_eq!(result, [7; 15]);
+}
+
+/// The records of an image are its words, and what is written of them is the image.
+#[test]
+fn there_and_back() {
+    for image in [samples::report(), samples::touching(), samples::largest(), samples::deepest()] {
+        let records = Reference::new(&image.pages()).unwrap().bytes(Question::Records).unwrap();
+        assert_eq!(records, to_bytes(&image.words()));
+        assert_eq!(write(&records), Ok(image.pages()));
+    }
+}
+
+/// One function and one block without operations, and so many operand words that lie in no range.
+fn with_operands(count: usize) -> Vec<u32> {
+    let mut image = Image::new(1);
+    image.operands = vec![0; count];
+    block(&mut image, Control::LastOpTerminates);
+    image.words()
+}
+
+/// 126 words fill a page, and one more begins the next.
+#[test]
+fn as_few_pages_as_hold_the_words() {
+    for (words, pages) in [(21, 1), (125, 1), (126, 1), (127, 2), (252, 2), (253, 3)] {
+        let records = with_operands(words - 21);
+        assert_eq!((records.len(), write(&to_bytes(&records)).map(|image| image.len() / 512)), (words, Ok(pages)));
+    }
+    let one_page = write(&to_bytes(&[&[1, 1, 1], [0; 18].as_slice()].concat())).unwrap();
+    assert_eq!(one_page[..20], to_bytes(&[0, 1, 1, 1, 0]));
+    assert!(one_page[20..508].iter().all(|&byte| byte == 0), "zeros past the records");
+    assert_eq!(one_page[508..], to_bytes(&[251 + 249 + 247]));
+}
+
+/// 6 outright, then 4 and 5, then 6 in its turn, then 7 and on.
+#[test]
+fn refusals_of_lent_records() {
+    let number = |records: &[u8]| call_write(records, &mut [0; 512]).0;
+    let of = |words: &[u32]| number(&to_bytes(words));
+    let mut nine = [1, 1, 1, 0, 0, 0, 0, 0, 0];
+    assert_eq!([of(&[]), of(&nine[..8]), of(&nine)], [6; 3]);
+    nine[1] = 0;
+    assert_eq!([of(&nine[..8]), of(&nine)], [6, 5]);
+    nine[0] = 2;
+    assert_eq!([of(&nine[..8]), of(&nine), number(&[&to_bytes(&nine), [0].as_slice()].concat())], [6, 4, 6]);
+    let records = with_operands(4);
+    let altered = |at: usize, word: u32, more: &[u32]| {
+        let mut altered = [&records, more].concat();
+        altered[at] = word;
+        of(&altered)
+    };
+    assert_eq!([altered(0, 2, &[0]), altered(1, 65, &[0]), altered(6, 513, &[])], [4, 5, 5]);
+    assert_eq!([altered(16, 5, &[0]), altered(16, 5, &[]), altered(9, 1, &[])], [6, 7, 8]);
+    assert_eq!([altered(4, 3, &[]), altered(4, 5, &[]), altered(4, 5, &[0])], [6, 6, 0]);
+}
+
+/// The reader pads with zeros, the writer is lent none: a zero too many is one word too many.
+#[test]
+fn padding_is_not_lent() {
+    let image = samples::report();
+    let mut words = image.words();
+    words.resize(126, 0);
+    assert_eq!((write(&to_bytes(&words)), write(&to_bytes(&image.words()))), (Err(6), Ok(image.pages())));
+}
+
+#[test]
+fn calls_of_the_writer() {
+    let records = to_bytes(&samples::report().words());
+    let mut result = [7; 515];
+    assert_eq!(call_write(&records, &mut result), (0, 512));
+    assert_eq!((&result[..512], &result[512..]), (samples::report().pages().as_slice(), [7; 3].as_slice()));
+    let mut result = [7; 511];
+    assert_eq!(call_write(&records, &mut result), (14, 0));
+    assert_eq!(call_write(&records[1..], &mut result), (6, 0));
+    assert_eq!(result, [7; 511]);
+    assert_eq!((call_write(&records, &mut []), call_write(&[], &mut [])), ((14, 0), (6, 0)));
 }

@@ -1,10 +1,11 @@
-//! `docs/FORMAT.md` says what the tables say: codes, limits, control kinds, refusals, questions and its example.
+//! `docs/FORMAT.md` says what the tables say: codes, limits, control kinds, refusals, questions and its examples.
 
-use paper_reference::{Reference, codes, report};
+use paper_reference::{Reference, call_write, codes, report};
+use sir_image::pages::to_bytes;
 use sir_image::{
     Code, Control, Count, MAX_BLOCKS, MAX_FUNCTIONS, MAX_LOCALS, MAX_OPERANDS, MAX_OPERATIONS, MAX_TARGETS,
 };
-use sir_questions::{IdKind, Question, Refusal};
+use sir_questions::{IdKind, Question, Refusal, WRITE};
 use std::collections::BTreeSet;
 use std::{fs, path::Path};
 
@@ -130,6 +131,29 @@ fn refusals() {
     let expected =
         Refusal::ALL.iter().map(|refusal| (refusal.number().to_string(), refusal.name().unwrap().to_string()));
     assert_eq!(named, expected.collect::<Vec<_>>());
+}
+
+/// The writer's refusals: 6 outright, then those that go by the words of an image, then 14.
+#[test]
+fn refusals_of_the_writer() {
+    let given: Vec<u32> = table("| number | of lent records |").iter().map(|row| row[0].parse().unwrap()).collect();
+    let of_words = Refusal::of_images().skip_while(|&refusal| refusal != Refusal::EDITION);
+    let refusals = [Refusal::PAGE_COUNT].into_iter().chain(of_words).chain([Refusal::SHORT_RESULT]);
+    assert_eq!(given, refusals.map(Refusal::number).collect::<Vec<_>>());
+    assert!(page().contains(&format!("`sir_{}`", WRITE.name)));
+}
+
+/// Records that are shown get the numbers that stand before them.
+#[test]
+fn lent_records() {
+    let mut numbers_given = BTreeSet::new();
+    for line in fenced("lent").lines() {
+        let (number, records) = line.split('#').next().unwrap().split_once(':').expect("a number and words");
+        let records = to_bytes(&numbers(records));
+        assert_eq!(call_write(&records, &mut [0; 512]).0, number.parse().unwrap(), "{line}");
+        numbers_given.insert(number.to_string());
+    }
+    assert!(numbers_given.len() > 4);
 }
 
 /// What an id numbers, by the words for one.

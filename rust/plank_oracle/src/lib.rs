@@ -61,8 +61,8 @@ pub fn takes(number: u32) -> bool {
 }
 
 impl Analyses<'_> {
-    /// Plank's answer to a question, where it has one: it reports no rounds, and neither what is open at an operation nor what
-    /// crosses.
+    /// Plank's answer to a question, where it has one: it reports no rounds, neither what is open at an operation nor what
+    /// crosses, and has no image whose records it could give.
     pub fn answer(&self, question: Question) -> Option<Vec<u32>> {
         if let Some(single) = question.kind().single() {
             return self.in_turn(single);

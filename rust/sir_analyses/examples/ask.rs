@@ -1,5 +1,5 @@
-//! Writes the image of a small program and asks which of its buffers may lie over each other. From the folder `rust`, once
-//! `rt staticlib sir_capi` has built the library:
+//! Writes the image of a small program and asks which of its buffers may lie over each other; then writes it again with one of
+//! them enlarged. From the folder `rust`, once `rt staticlib sir_capi` has built the library:
 //!
 //! ```text
 //! cargo run --offline -p sir_analyses --example ask
@@ -9,7 +9,7 @@
 //! function that makes it, so intervals do not tell that a buffer of the callee is in use while one of the caller waits for
 //! the call to return.
 
-use sir_analyses::{Allocation, BlockId, End, FunctionBlocks, Interval, Refusal, Start};
+use sir_analyses::{AllocId, Allocation, BlockId, End, FunctionBlocks, Interval, Refusal, Start};
 use sir_image::{Code, Control, Image};
 
 /// Two buffers, the first of them read for the last time before the second is made, and one that a call gets to see.
@@ -74,11 +74,25 @@ pub fn pairs(image: &[u8]) -> Result<Vec<(usize, usize)>, Refusal> {
     Ok(pairs.filter(|&(one, other)| may_share(&order, &all[one], &all[other])).collect())
 }
 
-fn main() -> Result<(), Refusal> {
-    let image = program();
-    for (number, allocation) in sir_analyses::all_allocations(&image)?.iter().enumerate() {
+/// The image with another size of a static allocation, all else as it was.
+pub fn resized(image: &[u8], allocation: AllocId, size: u32) -> Result<Vec<u8>, Refusal> {
+    let operation = sir_analyses::allocation(image, allocation)?.operation;
+    let mut program = Image::from_words(&sir_analyses::records(image)?).expect("records of an accepted image");
+    program.operations[operation.0 as usize].extras[0] = size;
+    sir_analyses::write(&program.words())
+}
+
+fn show(image: &[u8]) -> Result<(), Refusal> {
+    for (number, allocation) in sir_analyses::all_allocations(image)?.iter().enumerate() {
         println!("{number}: {allocation:?}");
     }
-    println!("may share their memory: {:?}", pairs(&image)?);
+    println!("may share their memory: {:?}", pairs(image)?);
     Ok(())
+}
+
+fn main() -> Result<(), Refusal> {
+    let image = program();
+    show(&image)?;
+    println!("allocation 0 with 96 bytes:");
+    show(&resized(&image, AllocId(0), 96)?)
 }

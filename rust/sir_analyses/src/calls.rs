@@ -1,8 +1,9 @@
-//! The questions as the library takes them: image, ids, result slice.
+//! The questions as the library takes them: image, ids, result slice; and [`write`](write()), which takes lent records, no ids and
+//! a result slice.
 //!
 //! Success gives number 0 and the answer's length in bytes; the answer stands at the front of the slice as little-endian
 //! 32-bit words, and bytes past it stay. A refusal gives its number and length 0, and the result slice keeps its bytes. Of
-//! several refusals that apply the first in the sequence of [`Refusal::ALL`] is given.
+//! several refusals that apply the first in the sequence of [`Refusal::ALL`] is given; the writer has a sequence of its own.
 //!
 //! The C functions are declared as in `include/sir_analyses.h`, each as the function here after `sir_`.
 #![cfg_attr(sir_linked, allow(unsafe_code))]
@@ -29,7 +30,31 @@ impl Answer {
     }
 }
 
-/// Declares the functions where there is a library, and wraps each in a safe one.
+/// A function of the library: what is lent, ids, result slice. Declared where there is a library, and wrapped in a safe one.
+macro_rules! function {
+    ($(#[$doc:meta])* $name:ident($lent:ident $(, $id:ident: $type:ident)*)) => {
+        $(#[$doc])*
+        #[cfg(sir_linked)]
+        pub fn $name($lent: &[u8], $($id: $type,)* result: &mut [u8]) -> Answer {
+            unsafe extern "C" {
+                #[link_name = concat!("sir_", stringify!($name))]
+                fn linked($lent: *const u8, length: usize, $($id: $type,)* result: *mut u8, room: usize) -> Answer;
+            }
+            // Safety: the function reads the bytes of one slice and writes bytes of the other, both lent for the
+            // time of the call and apart from each other, and asks nothing else of its caller.
+            unsafe { linked($lent.as_ptr(), $lent.len(), $($id,)* result.as_mut_ptr(), result.len()) }
+        }
+
+        $(#[$doc])*
+        #[cfg(not(sir_linked))]
+        pub fn $name($lent: &[u8], $($id: $type,)* result: &mut [u8]) -> Answer {
+            let _ = ($lent, $($id,)* result);
+            panic!("there was no library when this was built: run rt staticlib sir_capi, then build again")
+        }
+    };
+}
+
+/// The functions of the questions.
 macro_rules! functions {
     ($(
         $(#[$doc:meta])*
@@ -42,41 +67,17 @@ macro_rules! functions {
             }
         }
 
-        #[cfg(sir_linked)]
-        mod linked {
-            use super::*;
-
-            unsafe extern "C" {
-                $(
-                    #[link_name = concat!("sir_", stringify!($name))]
-                    pub fn $name(
-                        image: *const u8,
-                        image_length: usize,
-                        $($($id: $type,)+)?
-                        result: *mut u8,
-                        result_length: usize,
-                    ) -> Answer;
-                )*
-            }
-        }
-
-        $(
-            $(#[$doc])*
-            #[cfg(sir_linked)]
-            pub fn $name(image: &[u8], $($($id: $type,)+)? result: &mut [u8]) -> Answer {
-                // Safety: the function reads the bytes of one slice and writes bytes of the other, both lent for the
-                // time of the call and apart from each other, and asks nothing else of its caller.
-                unsafe { linked::$name(image.as_ptr(), image.len(), $($($id,)+)? result.as_mut_ptr(), result.len()) }
-            }
-
-            $(#[$doc])*
-            #[cfg(not(sir_linked))]
-            pub fn $name(image: &[u8], $($($id: $type,)+)? result: &mut [u8]) -> Answer {
-                let _ = (image, $($($id,)+)? result);
-                panic!("there was no library when this was built: run rt staticlib sir_capi, then build again")
-            }
-        )*
+        $(function! { $(#[$doc])* $name(image $($(, $id: $type)+)?) })*
     };
 }
 
 sir_questions::questions!(functions);
+
+function! {
+    /// The pages of lent records: payload words without padding, four bytes each. The least number of pages that holds them,
+    /// with zeros past them.
+    ///
+    /// Refused with 6 for fewer than 9 words and for a length that is no whole number of words; then by 4 and 5; with 6 where
+    /// the counts call for another number of words; then by 7 to 12, as an image is; then with 14.
+    write(records)
+}

@@ -8,6 +8,8 @@
 //! A question about one id has a form for all ids, as [`all_uses`] for [`uses`]: one call, which reads the image once and gives
 //! the answers for ids 0, 1, .. in turn. Questions about two ids, [`open`] and [`crossing`], have none.
 //!
+//! [`records`] takes an image apart, and [`write`](write()) puts one together.
+//!
 //! ```no_run
 //! use sir_analyses::BlockId;
 //!
@@ -56,6 +58,31 @@
 //! `examples/ask.rs` looks for all such pairs, by the intervals of all allocations. Nothing follows for a caller and its
 //! callee, whose buffers are never both in one walk: a buffer that lives across a call and a buffer of the callee must not
 //! share memory, whatever their intervals say.
+//!
+//! # To change an image
+//!
+//! The records of an image are its payload words without padding, as docs/FORMAT.md lays them out and `rust/sir_image` reads
+//! them. Written back as they are they give the image that was read, byte for byte; after a change they give an image of as
+//! many pages as they need, with checks of its own, or the number by which an image with these records is refused.
+//!
+//! ```no_run
+//! use sir_image::Image;
+//!
+//! # fn main() -> Result<(), Box<dyn std::error::Error>> {
+//! let image = std::fs::read("typical.img")?;
+//! let mut records = sir_analyses::records(&image)?;
+//! assert_eq!(sir_analyses::write(&records)?, image);
+//!
+//! records[0] = 2;
+//! assert_eq!(sir_analyses::write(&records), Err(sir_analyses::Refusal::EDITION));
+//! records[0] = 1;
+//!
+//! let mut program = Image::from_words(&records).expect("accepted records");
+//! program.locals += 1;
+//! std::fs::write("one_local_more.img", sir_analyses::write(&program.words())?)?;
+//! # Ok(())
+//! # }
+//! ```
 //!
 //! # How long an answer may be
 //!
@@ -142,6 +169,21 @@ pub fn crossing(image: &[u8], one: AllocId, other: AllocId) -> Result<Crossing, 
     Ok(answers::crossing(&words(image, Question::Crossing(one, other))?))
 }
 
+/// The records of the image: its payload words without padding.
+pub fn records(image: &[u8]) -> Result<Vec<u32>, Refusal> {
+    words(image, Question::Records)
+}
+
+/// The pages of records, which are payload words without padding: an image that is accepted and that has these records.
+///
+/// Refused as an image with these records is, by the first that applies of [`Refusal::EDITION`] and the refusals after it up
+/// to [`Refusal::SHARED_BASE`]; with [`Refusal::PAGE_COUNT`] where the counts call for another number of words, and before all
+/// others where there are fewer than 9.
+pub fn write(records: &[u32]) -> Result<Vec<u8>, Refusal> {
+    let records: Vec<u8> = records.iter().flat_map(|word| word.to_le_bytes()).collect();
+    bytes(MOST_BYTES, |result| calls::write(&records, result))
+}
+
 /// The predecessors of every block, repeats kept.
 pub fn all_predecessors(image: &[u8]) -> Result<Vec<Vec<BlockId>>, Refusal> {
     all(image, Question::AllPredecessors, answers::ids)
@@ -182,10 +224,17 @@ fn all<T>(image: &[u8], question: Question, answer: impl Fn(&[u32]) -> T) -> Res
     Ok(answers::each(&words(image, question)?, answer))
 }
 
+/// The most bytes of an image, and so of its records.
+const MOST_BYTES: usize = 59_904;
+
 /// The words of an answer.
 fn words(image: &[u8], question: Question) -> Result<Vec<u32>, Refusal> {
     // Answers for all ids are long, and a slice that is too short costs a whole call.
-    let first = if question.kind().single().is_some() { 1 << 18 } else { 1 << 12 };
+    let first = match question {
+        Question::Records => MOST_BYTES,
+        _ if question.kind().single().is_some() => 1 << 18,
+        _ => 1 << 12,
+    };
     let bytes = bytes(first, |result| calls::ask(question, image, result))?;
     Ok(bytes.as_chunks().0.iter().map(|&word| u32::from_le_bytes(word)).collect())
 }

@@ -1,6 +1,7 @@
 //! The examples, in Rust and in C, give what they say.
 #![cfg(sir_linked)]
 
+use sir_analyses::{AllocId, Size};
 use sir_image::{Code, Control, Image, samples};
 use std::path::{Path, PathBuf};
 use std::process::Command;
@@ -15,6 +16,17 @@ fn from_rust() {
     let all = sir_analyses::all_allocations(&ask::program()).unwrap();
     assert_eq!(all.iter().map(|allocation| allocation.marked).collect::<Vec<_>>(), [false, false, true]);
     assert_eq!(ask::pairs(&ask::program()), Ok(vec![(0, 1)]));
+}
+
+/// One size is another, and nothing else: back to the old one is back to the old image.
+#[test]
+fn another_size() {
+    let image = ask::program();
+    let larger = ask::resized(&image, AllocId(0), 96).unwrap();
+    let mut all = sir_analyses::all_allocations(&image).unwrap();
+    all[0].size = Size::Static { size: 96, id: 0 };
+    assert_eq!(sir_analyses::all_allocations(&larger), Ok(all));
+    assert_eq!(ask::resized(&larger, AllocId(0), 64), Ok(image));
 }
 
 /// A function whose buffer lives across a call, and one whose buffer is in use during the call. No walk has both, so their

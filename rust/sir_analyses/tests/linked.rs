@@ -95,7 +95,7 @@ fn slices_and_ids() {
     for kind in Question::KINDS {
         for id in [0, 1, 2, 3, 4, 5, u32::MAX - 1] {
             let question = kind.about(&vec![id; kind.ids.len()]);
-            let enough = assert_as_the_paper(question, &image, 100);
+            let enough = assert_as_the_paper(question, &image, 400);
             for length in 0..enough.length as usize + 6 {
                 assert_as_the_paper(question, &image, length);
             }
@@ -132,7 +132,7 @@ fn long_answers() {
     assert_as_the_paper(Question::AllEntrySets, &image, 1 << 20);
 }
 
-/// Every question keeps within the stack that the header states.
+/// Every question, and the writer, keeps within the stack that the header states.
 #[test]
 fn stack() {
     let images = [samples::deepest().pages(), samples::largest().pages()];
@@ -145,6 +145,8 @@ fn stack() {
                 calls::ask(kind.about(&vec![1; kind.ids.len()]), image, &mut result);
             }
             assert_eq!(calls::ask(open, image, &mut result).number, 0);
+            let records = sir_analyses::records(image).unwrap();
+            assert_eq!(sir_analyses::write(&records).as_ref(), Ok(image));
         }
     };
     std::thread::Builder::new().stack_size(1 << 20).spawn(calls).unwrap().join().unwrap();

@@ -48,6 +48,11 @@ pub fn push_page(pages: &mut Vec<u8>, payload: &[u32]) {
     }
 }
 
+/// Words as bytes, lowest byte first: of the words of an image, its records as they are lent.
+pub fn to_bytes(words: &[u32]) -> Vec<u8> {
+    words.iter().flat_map(|word| word.to_le_bytes()).collect()
+}
+
 /// Word `i` of a page.
 pub fn word(pages: &[u8], page: usize, i: usize) -> u32 {
     let at = byte_at(page, i);

@@ -2,7 +2,8 @@
 //! table.
 //!
 //! The bindings, the reference, Plank's analyses, the comparison, the recording and the benchmarks all speak in these
-//! terms. A new sort of id, a new question and a new refusal are one line of their table each.
+//! terms. A new sort of id, a new question and a new refusal are one line of their table each. What writes an image takes
+//! lent records and is no question: [`WRITE`] has its number and its name.
 //!
 //! ```
 //! use sir_questions::{LocalId, Question, Refusal};
@@ -18,5 +19,5 @@ mod question;
 mod refusal;
 
 pub use ids::{AllocId, BlockId, FunctionId, Id, IdKind, LocalId, OpIdx, spread};
-pub use question::{Question, QuestionKind, Unknown};
+pub use question::{Question, QuestionKind, Unknown, WRITE, Writer, function_names};
 pub use refusal::{Cause, Refusal};

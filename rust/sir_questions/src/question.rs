@@ -49,6 +49,8 @@ macro_rules! questions {
             /// Whether two allocations cross: 1 or 0, then block + 1 and operation + 1 of the first operation in intervals
             /// of both. One that is marked crosses all, with no operation named: 1, 0, 0.
             17 Crossing(one: AllocId, other: AllocId) = crossing;
+            /// The records of the image: its payload words without padding.
+            18 Records = records;
         }
     };
 }
@@ -173,6 +175,23 @@ impl QuestionKind {
     }
 }
 
+/// What writes lent records as the pages of an image. It takes no image, and so is no [`Question`].
+pub const WRITE: Writer = Writer { number: 19, name: "write" };
+
+/// A function that takes lent records.
+#[derive(Clone, Copy, Debug, PartialEq, Eq)]
+pub struct Writer {
+    /// Its number in recorded files, one that no question has.
+    pub number: u32,
+    /// Its name, in C after `sir_`.
+    pub name: &'static str,
+}
+
+/// The names of all functions of the library, in C after `sir_`: those that answer questions, and the writer's.
+pub fn function_names() -> impl Iterator<Item = &'static str> {
+    Question::KINDS.iter().map(|kind| kind.name).chain([WRITE.name])
+}
+
 /// As a user types it: the name; after a colon the ids, separated by commas.
 impl Display for Question {
     fn fmt(&self, f: &mut Formatter<'_>) -> fmt::Result {
@@ -237,6 +256,14 @@ mod tests {
             assert!(all.iter().all(|all| all.ids.is_empty()));
             assert_eq!(kind.single().is_some(), kind.name.starts_with("all_"), "{}", kind.name);
         }
+    }
+
+    /// The writer is told from every question, and is none.
+    #[test]
+    fn the_writer_is_no_question() {
+        assert!(Question::KINDS.iter().all(|kind| kind.number != WRITE.number && kind.name != WRITE.name));
+        assert!(WRITE.name.parse::<Question>().is_err());
+        assert_eq!(function_names().count(), Question::KINDS.len() + 1);
     }
 
     #[test]

@@ -55,7 +55,7 @@ refusals! {
     3 PAGE_CHECK Carriage "some page check wrong";
     4 EDITION FrontEnd "edition not 1";
     5 COUNT FrontEnd "a count above its limit, or no function, or no block";
-    6 PAGE_COUNT FrontEnd "page count not the least that holds the words, or padding not zero";
+    6 PAGE_COUNT FrontEnd "page count not the least that holds the words, or padding not zero; lent records of a wrong length";
     7 UNKNOWN FrontEnd "operation code or control kind unknown, or an unused field not zero";
     8 RANGE FrontEnd "a range with start above end or end above its list, an id not below its count, or static id 4294967295";
     9 OPERAND_COUNT FrontEnd "operand counts wrong for the code";

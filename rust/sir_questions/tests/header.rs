@@ -1,6 +1,6 @@
 //! The C header says what the tables say.
 
-use sir_questions::{Question, Refusal};
+use sir_questions::{Question, Refusal, WRITE, function_names};
 use std::fs;
 use std::path::Path;
 
@@ -20,14 +20,30 @@ fn refusals() {
     assert_eq!(header().matches("SIR_REFUSED_").count(), Refusal::ALL.len());
 }
 
-/// Each question is declared, and takes as many ids.
+/// The parameters of the function of this name.
+fn parameters(header: &str, name: &str) -> String {
+    let begin = format!("\nsir_answer sir_{name}(");
+    let (_, rest) = header.split_once(&begin).unwrap_or_else(|| panic!("the header has no sir_{name}"));
+    let (parameters, _) = rest.split_once(");").expect("the declaration ends");
+    parameters.split_whitespace().collect::<Vec<_>>().join(" ")
+}
+
+/// Each question is declared, and takes an image and as many ids.
 #[test]
 fn questions() {
     let header = header();
     for kind in Question::KINDS {
-        let begin = format!("\nsir_answer sir_{}(", kind.name);
-        let (_, rest) = header.split_once(&begin).unwrap_or_else(|| panic!("the header has no sir_{}", kind.name));
-        let (parameters, _) = rest.split_once(");").expect("the declaration ends");
+        let parameters = parameters(&header, kind.name);
+        assert!(parameters.starts_with("const uint8_t *image, size_t image_length, "), "{}", kind.name);
         assert_eq!(parameters.matches("uint32_t ").count(), kind.ids.len(), "{}", kind.name);
     }
+}
+
+/// The writer takes lent records, and there is no other function.
+#[test]
+fn writer() {
+    let header = header();
+    let expected = "const uint8_t *records, size_t records_length, uint8_t *result, size_t result_length";
+    assert_eq!(parameters(&header, WRITE.name), expected);
+    assert_eq!(header.matches("\nsir_answer sir_").count(), function_names().count());
 }

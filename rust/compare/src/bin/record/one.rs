@@ -1,7 +1,8 @@
-//! One file about one image, for questions that are chosen.
+//! One file about one image, for questions that are chosen, or of lent records.
 
-use compare::recording::{Recorded, Recording};
+use compare::recording::{Called, Recorded, Recording};
 use paper_reference::Reference;
+use sir_questions::{Question, Unknown, WRITE};
 use std::fs;
 use std::path::Path;
 
@@ -13,20 +14,24 @@ pub fn write(file: &str, image: &str, questions: &[String]) -> Result<(), String
         println!("{text} gives {} and {} bytes{}", call.number, call.length, shown(&call.result[..call.length]));
     }
     let name = Path::new(file).file_name().unwrap_or_default().to_string_lossy().into_owned();
-    let recording = Recording { name, image: bytes, calls };
+    let recording = Recording { name, lent: bytes, calls };
     fs::write(file, recording.bytes()).map_err(|error| format!("{file}: {error}"))
 }
 
-/// The call that a text states: a question, and after a slash the length of the result slice.
-fn call(text: &str, image: &[u8]) -> Result<Recorded, String> {
-    let (question, room) = match text.split_once('/') {
-        Some((question, room)) => (question, Some(room.parse().map_err(|_| format!("{room} is no length"))?)),
+/// The call that a text states: a question or the writer, and after a slash the length of the result slice.
+fn call(text: &str, lent: &[u8]) -> Result<Recorded, String> {
+    let (name, room) = match text.split_once('/') {
+        Some((name, room)) => (name, Some(room.parse().map_err(|_| format!("{room} is no length"))?)),
         None => (text, None),
     };
-    let question = question.parse().map_err(|unknown: sir_questions::Unknown| unknown.to_string())?;
-    let answer = Reference::new(image).and_then(|reference| reference.bytes(question));
+    let (called, answer) = if name == WRITE.name {
+        (Called::Write, paper_reference::write(lent))
+    } else {
+        let question: Question = name.parse().map_err(|unknown: Unknown| unknown.to_string())?;
+        (question.into(), Reference::new(lent).and_then(|reference| reference.bytes(question)))
+    };
     let room = room.unwrap_or(answer.map_or(0, |bytes| bytes.len()));
-    Ok(Recorded::by_reference(question, image, room))
+    Ok(Recorded::by_reference(called, lent, room))
 }
 
 /// Bytes after a colon, in hexadecimal.
@@ -49,5 +54,14 @@ mod tests {
         assert_eq!(given("uses:4/7"), Ok((13, 0, 7)));
         assert_eq!(call("exit_set:0", &image).map(|call| call.result), Ok(vec![1, 0, 0, 0]));
         assert!(given("exit_set").is_err() && given("order/x").is_err());
+    }
+
+    #[test]
+    fn writer() {
+        let records = call("records", &sir_image::samples::report().pages()).unwrap().result;
+        let given = |text: &str| call(text, &records).map(|call| (call.number, call.length, call.result.len()));
+        assert_eq!(given("write"), Ok((0, 512, 512)));
+        assert_eq!(given("write/511"), Ok((14, 0, 511)));
+        assert_eq!(call("write", &records[4..]).map(|call| call.number), Ok(6));
     }
 }

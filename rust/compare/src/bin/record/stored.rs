@@ -1,10 +1,12 @@
-//! The files that are stored: the altered Plank's answers; those that Plank does not have, and the refusals, are the reference's.
+//! The files that are stored: the altered Plank's answers; those that Plank does not have, what is written of lent records, and
+//! the refusals are the reference's.
 
-use compare::recording::{Recorded, Recording, to_bytes};
+use compare::recording::{Called, Recorded, Recording};
 use compare::sides::{questions, unknown};
-use image_gen::{Kind, Rng, Size, damaged, generate, worst};
+use image_gen::{Kind, Rng, Size, damaged, generate, known, lent, worst};
 use paper_reference::Reference;
 use plank_oracle::{Analyses, Program, Source};
+use sir_image::pages::{PAGE_BYTES, to_bytes};
 use sir_image::{Code, Image, samples};
 use sir_questions::{IdKind, Question, QuestionKind, Refusal};
 use std::collections::BTreeMap;
@@ -27,10 +29,14 @@ const SOME_IDS: u32 = 6;
 const PAIRS: u32 = 48;
 /// Answers that are longer are left out.
 const LONGEST: usize = 12_000;
+/// The same for records, which would double the size of every image's file.
+const LONGEST_RECORDS: usize = 4_000;
 /// Of how many small images of each kind the questions for all ids are recorded; of large ones the first of each kind.
 const SMALL_FOR_ALL: u64 = 4;
 /// The result slice for an answer to such a question that is longer.
 const TOO_SHORT: usize = 16;
+/// Lent records that are longer than [`LONGEST`] and are recorded: the most that are accepted, and more than any pages hold.
+const LONG_RECORDS: [&str; 3] = ["most_words", "118_pages", "118_pages_edition_2"];
 
 /// Which questions a file has: those about ids or none, or those for all ids.
 #[derive(Clone, Copy, PartialEq)]
@@ -99,7 +105,7 @@ fn of_image(sample: &Sample, asked: Asked) -> Recording {
                 }
             };
             let length = answer.len();
-            if length > LONGEST {
+            if length > if question == Question::Records { LONGEST_RECORDS } else { LONGEST } {
                 let short = Recorded::refusal(question, Refusal::SHORT_RESULT.number(), TOO_SHORT);
                 calls.extend((asked == Asked::All).then_some(short));
                 continue;
@@ -114,7 +120,7 @@ fn of_image(sample: &Sample, asked: Asked) -> Recording {
         let refused = short.into_iter().chain(unknown.map(|question| (question, Refusal::UNKNOWN_ID, 5)));
         calls.extend(refused.map(|(question, refusal, room)| Recorded::refusal(question, refusal.number(), room)));
     }
-    Recording { name: asked.file(name), image: bytes, calls }
+    Recording { name: asked.file(name), lent: bytes, calls }
 }
 
 /// Plank's answer, or what the reference gives where Plank has none: an answer, or the number of a refusal.
@@ -130,7 +136,7 @@ fn agreed(paper: &Reference, plank: &Analyses, question: Question) -> Result<Vec
 fn refused(name: &str, image: &[u8], number: u32, asked: Asked) -> Recording {
     let questions = asked.kinds().map(QuestionKind::about_zeros);
     let calls = questions.map(|question| Recorded::refusal(question, number, 9)).collect();
-    Recording { name: asked.file(name), image: image.to_vec(), calls }
+    Recording { name: asked.file(name), lent: image.to_vec(), calls }
 }
 
 /// Images that Plank takes: by kinds, the worst, two that have a case each of crossings, and two with a pointer at every input
@@ -179,7 +185,36 @@ fn damaged_images() -> Vec<Damaged> {
     found.into_values().flatten().collect()
 }
 
-/// The questions about ids of all images, then those for all ids.
+/// Lent records: those that are known by name, but for some of the longest, and for each refusal that goes by words the first
+/// that come up among records made from generated images.
+fn lent_records() -> Vec<Recording> {
+    let long = |name: &str| LONG_RECORDS.contains(&name);
+    let known = known().into_iter().filter(|known| known.records.len() <= LONGEST || long(known.name));
+    let named = known.map(|known| writing(known.name.to_string(), known.records));
+    let rng = &mut Rng::new(SEED);
+    let of_words = Refusal::of_images().skip_while(|&refusal| refusal != Refusal::EDITION);
+    let refused = of_words.map(|refusal| {
+        let number = refusal.number();
+        let mut made = || lent(&generate(rng.pick(&Kind::SMALL[..DAMAGED_KINDS]), rng.next_u64()), rng);
+        let records = std::iter::repeat_with(&mut made).find(|records| paper_reference::write(records) == Err(number));
+        writing(format!("refused_{number:02}"), records.expect("they do not end"))
+    });
+    named.chain(refused).collect()
+}
+
+/// What is written of records, in slices just long enough, longer, one byte too short and empty; of those that are refused, in
+/// slices with room for a page, for no word and for nothing. The longest pages have no slice that is longer.
+fn writing(name: String, lent: Vec<u8>) -> Recording {
+    let rooms = match paper_reference::write(&lent).map(|pages| pages.len()) {
+        Ok(length) if length > LONGEST => vec![length, length - 1, 0],
+        Ok(length) => vec![length, length + 7, length - 1, 0],
+        Err(_) => vec![PAGE_BYTES, 3, 0],
+    };
+    let calls = rooms.into_iter().map(|room| Recorded::by_reference(Called::Write, &lent, room)).collect();
+    Recording { name: format!("write_{name}"), lent, calls }
+}
+
+/// The questions about ids of all images, then those for all ids, then lent records.
 fn recordings() -> Vec<Recording> {
     let (samples, damaged) = (taken(), damaged_images());
     let of = |asked: Asked| {
@@ -188,7 +223,7 @@ fn recordings() -> Vec<Recording> {
         let samples = samples.map(move |sample| of_image(sample, asked));
         samples.chain(damaged.map(move |image| refused(&image.name, &image.image, image.number, asked)))
     };
-    of(Asked::Ids).chain(of(Asked::All)).collect()
+    of(Asked::Ids).chain(of(Asked::All)).chain(lent_records()).collect()
 }
 
 /// The files of `crates/replay` that are written, by their names there.
@@ -236,19 +271,23 @@ fn readme(files: usize, size: usize, by_number: &BTreeMap<u32, usize>) -> String
         "Recorded answers, written by `cargo run --release -p compare --bin record` in the folder rust.\n\
          \n\
          Answers are those of Plank's own analyses, its arms for Log1 to Log4 altered so that topics escape (request R-2);\n\
-         the rounds, the open allocations and the crossings, which Plank does not report, and the refusals are those of\n\
-         rust/paper_reference. The proved library had no part in writing them. src/main.rt states the form of a file.\n\
+         the rounds, the open allocations, the crossings and the records, which Plank does not report, what is written of\n\
+         lent records, and the refusals are those of rust/paper_reference. The proved library had no part in writing them.\n\
+         src/main.rt states the form of a file.\n\
          \n\
          {files} files, {size} bytes. Seeds from {SEED} on: {SMALL} small images of each of {} kinds, all ids; {LARGE} large\n\
-         ones of each of {} kinds and the worst of medium size, about {SOME_IDS} ids of each question and no answer above\n\
-         {LONGEST} bytes; the images touching, bare_ends, logs and input_positions of rust/sir_image/src/samples.rs; {DAMAGED}\n\
-         damaged images of each number that refuses an image. Of questions about two ids all pairs, or some where these are\n\
-         more than {PAIRS}. Each accepted image also has an unknown id (13) and a slice one byte too short (14) for each question\n\
-         that can be so refused. Where an operation is not of its block (15) the slice is too short for any answer but an empty\n\
-         one.\n\
+         ones of each of {} kinds and the worst of medium size, about {SOME_IDS} ids of each question, no answer above {LONGEST}\n\
+         bytes and no records above {LONGEST_RECORDS}; the images touching, bare_ends, logs and input_positions of\n\
+         rust/sir_image/src/samples.rs; {DAMAGED} damaged images of each number that refuses an image. Of questions about two\n\
+         ids all pairs, or some where these are more than {PAIRS}. Each accepted image also has an unknown id (13) and a slice\n\
+         one byte too short (14) for each question that can be so refused. Where an operation is not of its block (15) the\n\
+         slice is too short for any answer but an empty one.\n\
          \n\
          Files all_* have the questions for all ids: of {SMALL_FOR_ALL} small images of each kind, of one large one, of the worst, of\n\
          input_positions, and of one damaged image of each number; where an answer is longer, with a slice of {TOO_SHORT} bytes (14).\n\
+         \n\
+         Files write_* hold lent records in the place of an image, and calls of the writer: records that are known by name in\n\
+         rust/image_gen/src/lent.rs, and write_refused_* some that were made from generated images, one of each number.\n\
          \n\
          How often each number is to be given: {}.\n",
         Kind::SMALL.len(),
