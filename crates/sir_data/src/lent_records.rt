@@ -10,7 +10,7 @@ ghost use Prim.Native.Nat.{_/_, _≤_};
 ghost use lib.ListN.{length, drop, replicate};
 ghost use Rattle.sir_data.specs.Rules.{first};
 ghost use Rattle.sir_data.specs.Paging.{wordsOf};
-ghost use Rattle.sir_data.specs.inner.LentRecords.{numberRules, Lent};
+ghost use Rattle.sir_data.specs.inner.LentRecords.{fitRules, Lent};
 
 // The words of some bytes, to the front of `words`.
 fn copy_words(bytes: &[u8], words: &mut [u32])
@@ -26,8 +26,8 @@ fn copy_words(bytes: &[u8], words: &mut [u32])
 }
 
 // The first rule that refuses lent records by their length and their head, or 0: 6 outright, 4, 5, or 6 in its turn.
-fn check_number(records: &[u8]) -> u32
-    ensures { λ r. ⌜ r ≡ first (numberRules (now (records .entry))) ⌝ }
+fn check_fit(records: &[u8]) -> u32
+    ensures { λ r. ⌜ r ≡ first (fitRules (now (records .entry))) ⌝ }
 {
     if records.len() < 36 {
         return 6;
@@ -53,7 +53,7 @@ pub fn read_records(records: &[u8], words: &mut [u32]) -> u32
     requires { ⌜ now words ≡ replicate 14742 0 ⌝ }
     ensures { λ r. ⌜ Lent (now (records .entry)) (now (words .exit)) r ⌝ }
 {
-    let broken = check_number(records);
+    let broken = check_fit(records);
     if broken != 0 {
         return broken;
     }

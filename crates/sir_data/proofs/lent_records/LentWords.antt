@@ -13,7 +13,7 @@ use Rattle.sir_data.specs.Records.{word, wordCount}
 use Rattle.sir_data.specs.Rules.{first, headRules, fieldRules, operandRules}
 use Rattle.sir_data.specs.Paging.{wordsOf, badRecords, unfit, padded}
 use Rattle.sir_data.specs.inner.WellFormed.{Sized}
-use Rattle.sir_data.specs.inner.LentRecords.{numberRules, Lent}
+use Rattle.sir_data.specs.inner.LentRecords.{fitRules, Lent}
 use Rattle.sir_data.specs.laws.Rules.{by-later, by-earlier, first-left, first-right}
 use Rattle.sir_data.specs.laws.WellFormed.{sized}
 use Rattle.sir_data.specs.laws.Bytes.{length-words, words-at}
@@ -55,11 +55,11 @@ module _ (r : List ℕ) (some : 36 ≤ length r) where
     good = rw (le-ltb (length r) 36 some, eq-eqb (length r % 4) 0 whole)
 
     -- the head decides, or the number of words
-    pub by-head : ¬ (first head ≡ 0) → first (numberRules r) ≡ first head
+    pub by-head : ¬ (first head ≡ 0) → first (fitRules r) ≡ first head
     by-head n = rw good (by-earlier head ((6, unfit (wordsOf r)) ∷ []) refl n)
 
-    pub by-number : first head ≡ 0 → first (numberRules r) ≡ cond (unfit (wordsOf r)) 6 0
-    by-number z = rw good (by-later head ((6, unfit (wordsOf r)) ∷ []) refl z)
+    pub by-count : first head ≡ 0 → first (fitRules r) ≡ cond (unfit (wordsOf r)) 6 0
+    by-count z = rw good (by-later head ((6, unfit (wordsOf r)) ∷ []) refl z)
 
 -- ---- all words
 
@@ -73,10 +73,10 @@ module _ (r : List ℕ) where
   abbrev rest : List (ℕ × Bool)
   rest = fieldRules (padded (wordsOf r)) ++ operandRules (padded (wordsOf r))
 
-  pub refused-early : {number : ℕ} {new : List ℕ} → ¬ (number ≡ 0) → number ≡ first (numberRules r) → Lent r new number
-  refused-early n e = record { number-is = e ∙ sym (by-earlier (numberRules r) rest refl (λ z. n (e ∙ z))); room = λ z. absurd (n z); words = λ z. absurd (n z) }
+  pub refused-early : {number : ℕ} {new : List ℕ} → ¬ (number ≡ 0) → number ≡ first (fitRules r) → Lent r new number
+  refused-early n e = record { number-is = e ∙ sym (by-earlier (fitRules r) rest refl (λ z. n (e ∙ z))); room = λ z. absurd (n z); words = λ z. absurd (n z) }
 
-  module _ (passed : first (numberRules r) ≡ 0) where
+  module _ (passed : first (fitRules r) ≡ 0) where
     pub words-few : length r / 4 ≤ 14665
     words-few = omega (arith, L.few (λ w. []) r passed, length-words r)
 
@@ -113,7 +113,7 @@ module _ (r : List ℕ) where
 
       pub read : {number : ℕ} → number ≡ first (fieldRules (take (126 * pagesFor (length r / 4)) new) ++ operandRules (take (126 * pagesFor (length r / 4)) new)) → Lent r new number
       read e = record {
-        number-is = e ∙ ap (λ (w : List ℕ). first (fieldRules w ++ operandRules w)) front-is ∙ sym (by-later (numberRules r) rest refl passed);
+        number-is = e ∙ ap (λ (w : List ℕ). first (fieldRules w ++ operandRules w)) front-is ∙ sym (by-later (fitRules r) rest refl passed);
         room = λ z. front-fits;
         words = λ z. front-is;
       }

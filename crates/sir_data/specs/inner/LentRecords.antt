@@ -9,8 +9,8 @@ use Rattle.sir_data.specs.Rules.{first, headRules, rulesOf}
 use Rattle.sir_data.specs.Paging.{wordsOf, badRecords, unfit, padded}
 
 -- the rules that go by the length of lent records r and by their head: 6 outright, 4, 5, and 6 in its turn
-abbrev pub numberRules : List ℕ → List (ℕ × Bool)
-numberRules r = (6, badRecords r) ∷ headRules (padded (wordsOf r)) ++ ((6, unfit (wordsOf r)) ∷ [])
+abbrev pub fitRules : List ℕ → List (ℕ × Bool)
+fitRules r = (6, badRecords r) ∷ headRules (padded (wordsOf r)) ++ ((6, unfit (wordsOf r)) ∷ [])
 
 -- lent records r read into a slice that held zeros and is `new` after it
 pub record Lent (r new : List ℕ) (number : ℕ) : Type 0 where

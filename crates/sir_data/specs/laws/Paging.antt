@@ -201,7 +201,7 @@ unfolding pagesOf
 pages-same w v e h =
     rw e (ap (λ (xs : List ℕ). bind xs bytesOf) (bind-same (pageOf w) (pageOf v) (upto (pagesFor (length v))) (λ p. page-same w v p h)))
 
--- padding is made as it is found
+-- words with their padding have the pages of the words alone
 pub padded-pages : (w : List ℕ) → pagesOf (padded w) ≡ pagesOf w
 padded-pages w = pages-same (padded w) w (omega (arith, padded-length w)) (padded-word w)
 

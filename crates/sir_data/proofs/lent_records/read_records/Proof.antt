@@ -8,24 +8,24 @@ use lib.Seq.{length-take-le}
 use Rattle.sir_data.specs.Rules.{first, fieldRules, operandRules}
 use Rattle.sir_data.specs.Paging.{wordsOf}
 use Rattle.sir_data.specs.inner.WellFormed.{Sized}
-use Rattle.sir_data.specs.inner.LentRecords.{numberRules}
+use Rattle.sir_data.specs.inner.LentRecords.{fitRules}
 use Rattle.sir_data.proofs.lent_records.LentWords.{refused-early, words-few, front-fits, front-sized, read}
 use borrow.Author.Needs.{needs}
 use Rattle.sir_data.proofs.lent_records.read_records.Statement.{statement}
 use Rattle.sir_data.proofs.lent_records.read_records.Tie as tie
 
-check-number-requires : tie.Need-check-number-requires
-check-number-requires c κs = search needs
+check-fit-requires : tie.Need-check-fit-requires
+check-fit-requires c κs = search needs
 
-abbrev lent : tie.After-check-number → List ℕ
+abbrev lent : tie.After-check-fit → List ℕ
 lent c = c .before .before .before .args .records .now
 
 returns : tie.Need-returns
-returns c = refused-early (lent (c .before)) (c .if1 .taken) (c .before .check-number .ensures)
+returns c = refused-early (lent (c .before)) (c .if1 .taken) (c .before .check-fit .ensures)
 
 -- past the test the number of words is right
-passed : (c : tie.Else1) → first (numberRules (lent (c .before))) ≡ 0
-passed c = sym (c .before .check-number .ensures) ∙ c .if1 .left
+passed : (c : tie.Else1) → first (fitRules (lent (c .before))) ≡ 0
+passed c = sym (c .before .check-fit .ensures) ∙ c .if1 .left
 
 copy-words-requires : tie.Need-copy-words-requires
 copy-words-requires c κs =
@@ -87,7 +87,7 @@ pub read-records-spec : {M : Type 1} → statement M
 read-records-spec =
     tie.close
     (tie.spec
-    check-number-requires
+    check-fit-requires
     returns
     copy-words-requires
     pages-for-requires

@@ -1,4 +1,4 @@
--- `check_number` meets its contract: the length decides, then the head, then the number of words.
+-- `check_fit` meets its contract: the length decides, then the head, then the number of words.
 use mathlib.Core.Path.{_≡_, sym, ap, _∙_}
 use mathlib.Core.Bool.{Bool, not, cond}
 use mathlib.Core.List.{List}
@@ -10,12 +10,12 @@ use borrow.Author.Tests.{eq-eqb, ne-eqb, lt-ltb, le-ltb}
 use Rattle.sir_data.specs.Records.{wordCount}
 use Rattle.sir_data.specs.Rules.{first, headRules}
 use Rattle.sir_data.specs.Paging.{wordsOf, padded, unfit}
-use Rattle.sir_data.specs.inner.LentRecords.{numberRules}
+use Rattle.sir_data.specs.inner.LentRecords.{fitRules}
 use Rattle.sir_data.specs.laws.Bytes.{length-words}
-use Rattle.sir_data.proofs.lent_records.LentWords.{head-rules, head-count, by-head, by-number}
+use Rattle.sir_data.proofs.lent_records.LentWords.{head-rules, head-count, by-head, by-count}
 use borrow.Author.Needs.{needs}
-use Rattle.sir_data.proofs.lent_records.check_number.Statement.{statement}
-use Rattle.sir_data.proofs.lent_records.check_number.Tie as tie
+use Rattle.sir_data.proofs.lent_records.check_fit.Statement.{statement}
+use Rattle.sir_data.proofs.lent_records.check_fit.Tie as tie
 
 -- the lent bytes, once they are nine whole words or more
 abbrev lent : tie.Else2 → List ℕ
@@ -33,7 +33,7 @@ returns c = simp (lt-ltb _ 36 (c .if1 .taken))
 returns-2 : tie.Need-returns-2
 returns-2 c =
     let r = c .before .before .before .args .records .now in
-    simp (le-ltb (length r) 36 (c .before .if1 .left), ne-eqb (length r % 4) 0 (λ e. c .if2 .taken (omega (arith, e))))
+    simp (le-ltb (length r) 36 (c .before .if1 .left), ne-eqb (length r % 4) 0 (λ e. omega (arith, e, c .if2 .taken)))
 
 slice-aggregate-copy-words : tie.Need-slice-aggregate-copy-words
 slice-aggregate-copy-words c = sym (length-take-le 36 (lent (c .before)) (some (c .before)))
@@ -73,11 +73,11 @@ word-count-requires : tie.Need-word-count-requires
 word-count-requires c κs = search needs
 
 -- the head broke no rule: the number of words decides
-decided : (c : tie.After-word-count) → first (numberRules (lent (opened (c .before .before .before)))) ≡ cond (unfit (wordsOf (lent (opened (c .before .before .before))))) 6 0
+decided : (c : tie.After-word-count) → first (fitRules (lent (opened (c .before .before .before)))) ≡ cond (unfit (wordsOf (lent (opened (c .before .before .before))))) 6 0
 decided c =
     let at-check-head = c .before .before .before in
     let past = opened at-check-head in
-    by-number (lent past) (some past) (whole past) (sym (head-is at-check-head) ∙ c .before .before .if3 .left)
+    by-count (lent past) (some past) (whole past) (sym (head-is at-check-head) ∙ c .before .before .if3 .left)
 
 -- how many words there are, and are called for
 counts : (c : tie.After-word-count) → (length (wordsOf (lent (opened (c .before .before .before)))) ≡ length (lent (opened (c .before .before .before))) / 4) × (wordCount (wordsOf (lent (opened (c .before .before .before)))) ≡ c .word-count .result)
@@ -97,8 +97,8 @@ returns-5 : tie.Need-returns-5
 returns-5 c = let k = counts (c .before) in
     sym (decided (c .before) ∙ rw (k .0, k .1, eq-eqb _ _ (c .if4 .left)))
 
-pub check-number-spec : {M : Type 1} → statement M
-check-number-spec =
+pub check-fit-spec : {M : Type 1} → statement M
+check-fit-spec =
     tie.close
     (tie.spec
     returns
