@@ -1,5 +1,5 @@
-// Replays recorded answers. Each argument names a file that holds an image, questions about it, and what each of them is to
-// give. For each file a line is printed: its name, how many answers agree, and how many differ.
+// Replays recorded answers. Each argument names a file that holds an image or lent records, questions about it, and what each of
+// them is to give. For each file a line is printed: its name, how many answers agree, and how many differ.
 //
 // A file is made of little-endian words and bytes: the image's length and the number of questions; the image; then for
 // each question its number, how many ids it has, the ids, the length of the result slice, the number and the length that

@@ -1,11 +1,15 @@
 // The exported functions, and with their contracts the whole of what a caller relies on. Nothing is required of a caller.
 //
-// Each function takes an image and a result slice, and gives a number and the answer's length in bytes. Its first promise is
+// Each question takes an image and a result slice, and gives a number and the answer's length in bytes. Its first promise is
 // always the same, `asked`: of the rules of the image and then those of the question the first that applies is the number, with
 // length 0 and every byte of the slice as it was; where none applies the number is 0 and the answer's bytes stand at the front of
 // the slice, whose other bytes are as they were; and where the slice is shorter than the answer, the number is 14. The second,
 // `Promise`, is a theorem on the definitions that the first one names: what holds of all answers about an image that is not refused,
 // whichever call is made. What is asked of one id can be asked of all in one call: the answers in turn, each after its length in words.
+//
+// The last two take an image apart and put one together. `sir_records` is asked like a question. `sir_write` takes lent records in
+// the place of an image; its first promise, `written`, is a call like the others, with the rules of lent records and their pages. What
+// they promise beside the outcome are the claims of `WriteBack`: on the image or the records of the call, whichever these are.
 use plank_core::index::AllocId;
 use plank_core::index::BlockId;
 use plank_core::index::LocalId;
