@@ -2,7 +2,6 @@
 use mathlib.Core.Path.{_≡_, refl}
 use mathlib.Core.Bool.{true}
 use mathlib.Core.List.{List, [], _∷_, _++_, map}
-use Prim.Native.Nat.{ℕ}
 use lib.ListN.{length, replicate}
 use Rattle.plank_core.specs.Lists.{all, oneIf}
 use Rattle.sir_data.specs.Pages.{pagesFor, checkOf, payload}

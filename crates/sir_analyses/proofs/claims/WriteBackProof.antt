@@ -1,20 +1,19 @@
 -- The claims of WriteBack, proved, whatever the bytes of the image or of the records.
-use mathlib.Core.Path.{_≡_, refl, sym, ap, _∙_}
+use mathlib.Core.Path.{_≡_, sym, ap, _∙_}
 use mathlib.Core.Bool.{Bool}
 use Prim.Native.Nat.{ℕ}
 use native.Mathlib.Omega.{arith}
 use mathlib.Core.List.{List, [], _∷_, _++_}
 use lib.ListN.{length}
 use borrow.Author.Tests.{eqb-true, not-false}
-use Rattle.sir_data.specs.Pages.{payload}
 use Rattle.sir_data.specs.Records.{wordCount}
 use Rattle.sir_data.specs.Rules.{fieldRules, operandRules}
-use Rattle.sir_data.specs.Paging.{Bytes, recordsOf, wordsOf, padded, pagesOf}
+use Rattle.sir_data.specs.Paging.{Bytes, recordsOf, wordsOf, pagesOf}
 use Rattle.sir_data.specs.laws.Bytes.{length-words, words-small}
 use Rattle.sir_data.specs.laws.Paging.{payload-pages}
 use Rattle.sir_data.specs.laws.LentRecords as L
 use Rattle.sir_analyses.specs.Allocation.{rule12}
-use Rattle.sir_analyses.specs.Calls.{Rules, answered, call, refusal, noRules, inWords}
+use Rattle.sir_analyses.specs.Calls.{answered, call, refusal, noRules, inWords}
 use Rattle.sir_analyses.specs.WriteBack.{recordBytes, lentRules, lentRefusal, WrittenBack, ReadBack, ReadersNumber}
 use Rattle.sir_analyses.proofs.answers.Calls.{call-answered, image-accepted}
 

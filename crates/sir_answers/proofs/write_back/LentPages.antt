@@ -4,9 +4,8 @@ use mathlib.Core.Bool.{Bool}
 use mathlib.Core.List.{List, [], _∷_, _++_}
 use Prim.Native.Nat.{ℕ, _*_, _/_, _≤_, _<_}
 use native.Mathlib.Omega.{arith}
-use lib.ListN.{length, getD, take, drop, take-append-drop}
+use lib.ListN.{length, take, drop, take-append-drop}
 use lib.Seq.{getD-take, take-append-le, length-take-le}
-use borrow.Author.Tests.{eq-eqb}
 use Rattle.sir_data.specs.Pages.{pagesFor}
 use Rattle.sir_data.specs.Records.{word, wordCount}
 use Rattle.sir_data.specs.Rules.{first, fieldRules, operandRules, rulesOf}

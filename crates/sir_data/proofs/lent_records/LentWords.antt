@@ -1,12 +1,11 @@
 -- Lent records read into words: their head, and all of them.
 use mathlib.Core.Path.{_≡_, refl, sym, ap, _∙_, subst}
-use mathlib.Core.Bool.{Bool, false, not, cond}
+use mathlib.Core.Bool.{Bool, false, cond}
 use mathlib.Core.List.{List, [], _∷_, _++_}
 use Prim.Native.Nat.{ℕ, zero, suc, _+_, _-_, _*_, _/_, _%_, _≤_}
 use native.Mathlib.Omega.{arith}
-use lib.ListN.{length, getD, take, drop, replicate, length-append, length-drop, length-replicate, List·getD-append}
-use lib.Seq.{getD-take, getD-drop, ext-getD, length-take-le}
-use lib.Dec.{eqb, ltb}
+use lib.ListN.{length, take, drop, replicate, length-append, length-drop, length-replicate, List·getD-append}
+use lib.Seq.{getD-take, ext-getD, length-take-le}
 use borrow.Author.Tests.{eq-eqb, le-ltb}
 use Rattle.sir_data.specs.Pages.{wordAt, pagesFor}
 use Rattle.sir_data.specs.Records.{word, wordCount}

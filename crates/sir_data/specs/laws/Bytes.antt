@@ -3,10 +3,10 @@ use mathlib.Core.Path.{_≡_, refl, sym, ap, _∙_}
 use Prim.Native.Nat.{ℕ, zero, suc, _+_, _*_, _/_, _%_, _^_, _≤_, _<_}
 use native.Mathlib.Omega.{arith}
 use native.Mathlib.Nat.{div-div-eq-div-mul, mod-eq-of-lt}
-use mathlib.Core.List.{List, [], _∷_, map}
+use mathlib.Core.List.{List, [], _∷_}
 use lib.ListN.{length, getD}
 use lib.Seq.{ext-getD}
-use Rattle.plank_core.specs.Lists.{upto, bind}
+use Rattle.plank_core.specs.Lists.{bind}
 use Rattle.plank_core.specs.laws.Loops.{length-map-upto, getD-map-upto}
 use Rattle.plank_core.specs.laws.Folds.{bind-long, bind-at}
 use Rattle.sir_data.specs.Pages.{wordAt, bytesOf}

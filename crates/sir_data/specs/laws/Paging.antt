@@ -86,9 +86,6 @@ module _ (w : List ℕ) (p : ℕ) where
   unfolding pageOf
   page-part i h = List·getD-append (unchecked w p) _ 0 i (omega (arith, unchecked-length))
 
-  page-number : word (pageOf w p) 0 ≡ p
-  page-number = page-part 0 (omega arith) ∙ unchecked-first
-
   page-payload : (k : ℕ) → k < 126 → word (pageOf w p) (1 + k) ≡ word w (126 * p + k)
   page-payload k h = page-part (1 + k) (omega arith) ∙ unchecked-next k h
 

@@ -1,5 +1,5 @@
 -- `pages_answer` meets its contract.
-use mathlib.Core.Path.{_≡_, refl, sym, ap, _∙_, subst}
+use mathlib.Core.Path.{_≡_, refl, sym, subst}
 use Prim.Native.Nat.{ℕ, _*_, _/_}
 use native.Mathlib.Omega.{arith}
 use lib.ListN.{length}

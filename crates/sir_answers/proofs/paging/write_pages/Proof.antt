@@ -1,7 +1,7 @@
 -- `write_pages` meets its contract. The loop's invariant: p pages are written, and the rest is as it was.
-use mathlib.Core.Path.{_≡_, refl, ap, _∙_}
+use mathlib.Core.Path.{_≡_, refl, _∙_}
 use mathlib.Core.List.{_++_}
-use Prim.Native.Nat.{ℕ, _*_, _-_, _/_, _≤_}
+use Prim.Native.Nat.{_*_, _-_, _/_, _≤_}
 use native.Mathlib.Omega.{arith}
 use lib.ListN.{length, drop}
 use Rattle.sir_answers.proofs.paging.WrittenPages.{pagesTo, page-more}

@@ -3,10 +3,9 @@ use mathlib.Core.Path.{_≡_, sym, ap, _∙_}
 use mathlib.Core.List.{List}
 use Prim.Native.Nat.{ℕ}
 use native.Mathlib.Omega.{arith}
-use lib.ListN.{length}
 use Rattle.plank_core.specs.Lists.{bind}
 use Rattle.sir_data.specs.Pages.{bytesOf}
-use Rattle.sir_data.specs.Paging.{Bytes, recordsOf}
+use Rattle.sir_data.specs.Paging.{recordsOf}
 use Rattle.sir_analyses.specs.Calls.{answered, refusal, noRules, inWords}
 use Rattle.sir_analyses.proofs.answers.Calls.{image-refused, image-accepted}
 use Rattle.sir_analyses.proofs.loading.Loads.{front-length}

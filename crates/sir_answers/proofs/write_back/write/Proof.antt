@@ -1,9 +1,6 @@
 -- `write` meets its contract.
-use mathlib.Core.Path.{_≡_, refl, sym, ap, _∙_}
-use mathlib.Core.List.{List}
-use Prim.Native.Nat.{ℕ, _*_, _≤_}
+use mathlib.Core.Path.{sym, _∙_}
 use native.Mathlib.Omega.{arith}
-use lib.ListN.{length, take}
 use lib.Seq.{length-take-le}
 use Rattle.sir_data.specs.Paging.{Bytes}
 use Rattle.sir_analyses.proofs.claims.WriteBackProof.{read-back, readers-number}

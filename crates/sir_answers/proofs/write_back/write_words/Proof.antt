@@ -1,6 +1,7 @@
 -- `write_words` meets its contract: rule 12 decides, or the pages are written.
-use mathlib.Core.Path.{_≡_, sym, _∙_}
+use mathlib.Core.Path.{sym, _∙_}
 use mathlib.Core.List.{[], _∷_}
+use native.Mathlib.Omega.{arith}
 use Rattle.sir_data.specs.Paging.{pagesOf}
 use Rattle.sir_analyses.specs.Allocation.{rule12}
 use Rattle.sir_analyses.proofs.answers.Calls.{call-refused, call-answered}
@@ -21,7 +22,7 @@ returns c =
     let a = at-visit .before .before .before .args in
     let w = a .words .now in
     let e = at-visit .visit-refusal .ensures in
-    call-refused ((12, rule12 w) ∷ []) (pagesOf w) (a .out .now) (λ z. at-if1 .if1 .taken (e ∙ z)) (c .refuse .ensures .0 ∙ e) (c .refuse .ensures .1)
+    call-refused ((12, rule12 w) ∷ []) (pagesOf w) (a .out .now) (λ z. omega (arith, e, z, at-if1 .if1 .taken)) (c .refuse .ensures .0 ∙ e) (c .refuse .ensures .1)
 
 pages-answer-requires : tie.Need-pages-answer-requires
 pages-answer-requires c κs = search needs

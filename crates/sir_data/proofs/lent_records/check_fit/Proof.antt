@@ -1,6 +1,6 @@
 -- `check_fit` meets its contract: the length decides, then the head, then the number of words.
 use mathlib.Core.Path.{_≡_, sym, ap, _∙_}
-use mathlib.Core.Bool.{Bool, not, cond}
+use mathlib.Core.Bool.{cond}
 use mathlib.Core.List.{List}
 use Prim.Native.Nat.{ℕ, _/_, _%_, _≤_}
 use native.Mathlib.Omega.{arith}
@@ -22,7 +22,7 @@ abbrev lent : tie.Else2 → List ℕ
 lent c = c .before .before .before .args .records .now
 
 some : (c : tie.Else2) → 36 ≤ length (lent c)
-some c = c .before .if1 .left
+some c = omega (arith, c .before .if1 .left)
 
 whole : (c : tie.Else2) → length (lent c) % 4 ≡ 0
 whole c = c .if2 .left
@@ -33,7 +33,7 @@ returns c = simp (lt-ltb _ 36 (c .if1 .taken))
 returns-2 : tie.Need-returns-2
 returns-2 c =
     let r = c .before .before .before .args .records .now in
-    simp (le-ltb (length r) 36 (c .before .if1 .left), ne-eqb (length r % 4) 0 (λ e. omega (arith, e, c .if2 .taken)))
+    simp (le-ltb (length r) 36 (omega (arith, c .before .if1 .left)), ne-eqb (length r % 4) 0 (λ e. omega (arith, e, c .if2 .taken)))
 
 slice-aggregate-copy-words : tie.Need-slice-aggregate-copy-words
 slice-aggregate-copy-words c = sym (length-take-le 36 (lent (c .before)) (some (c .before)))
