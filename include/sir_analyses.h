@@ -145,8 +145,8 @@ sir_answer sir_open(const uint8_t *image, size_t image_length, uint32_t block, u
 sir_answer sir_crossing(const uint8_t *image, size_t image_length, uint32_t one, uint32_t other, uint8_t *result,
                         size_t result_length);
 
-/* The records of the image: its payload words without padding, as many as its counts call for; those past them, which fill
- * the last page, are not given, and page numbers and checks are none of them. The answer is never longer than the image. */
+/* The records of the image: its payload words, as many as its counts call for, without page numbers, checks and the zeros that
+ * fill the last page. The answer is never longer than the image. */
 sir_answer sir_records(const uint8_t *image, size_t image_length, uint8_t *result, size_t result_length);
 
 /* The pages of lent records: an image that every other function accepts and whose sir_records are these records. Of the

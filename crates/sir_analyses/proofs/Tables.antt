@@ -2,9 +2,9 @@
 use mathlib.Core.Path.{_≡_, refl, sym, ap, _∙_}
 use mathlib.Core.Bool.{Bool, false, _&&_, _||_, or-false, or-assoc, and-false}
 use mathlib.Core.List.{List, [], _∷_}
-use Prim.Native.Nat.{ℕ, _+_, _*_, _≤_, _<_, zero, suc}
+use Prim.Native.Nat.{ℕ, _+_, _*_, _≤_, _<_}
 use native.Mathlib.Omega.{arith}
-use lib.ListN.{length, replicate, length-replicate, getD}
+use lib.ListN.{length, replicate, length-replicate}
 use lib.Dec.{eqb, ltb}
 use borrow.Author.Tests.{lt-ltb, le-ltb}
 use Rattle.plank_core.specs.Lists.{mem}
@@ -14,11 +14,6 @@ use Rattle.sir_analyses.specs.inner.Tables.{Rows, Adds}
 use Rattle.plank_core.specs.laws.Prefixes.{below-more}
 
 -- ---- a table of zeros
-
-pub zero-at : (m v : ℕ) → _≡_ {A = ℕ} (getD (replicate m 0) v 0) 0
-zero-at zero v = refl
-zero-at (suc m) zero = refl
-zero-at (suc m) (suc v) = zero-at m v
 
 pub cleared-long : (t : List ℕ) (m : ℕ) → t ≡ replicate m 0 → length t ≡ m
 cleared-long t m e = ap length e ∙ length-replicate m 0

@@ -1,5 +1,5 @@
--- The one shape of every call (document 01, "Refusals, by who causes them"): numbered rules in sequence, the image's first and then
--- the question's own, then the bytes of the answer. Every exported promise is an instance.
+-- The one shape of every call (document 01, "Refusals, by who causes them"): numbered rules in sequence, those of the image or of
+-- lent records first and then the question's own, then the bytes of the answer. Every exported promise is an instance.
 use mathlib.Core.Bool.{Bool, not, cond}
 use Prim.Native.Nat.{ℕ}
 use mathlib.Core.List.{List, [], _∷_, _++_}

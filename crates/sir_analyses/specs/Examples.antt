@@ -9,16 +9,16 @@ use lib.ListN.{replicate, set}
 use Rattle.plank_core.specs.Lists.{all, bind, upto, oneIf, _∈_}
 use Rattle.sir_data.specs.Pages.{pageWord, checkOf, payload}
 use Rattle.sir_data.specs.Records.{blocks, ins}
-use Rattle.sir_data.specs.Rules.{first, recordRules, rule4, rule5, rule6, rule7, rule8, rule9, rule10, rule11}
+use Rattle.sir_data.specs.Rules.{first, rule4, rule5, rule6, rule7, rule8, rule9, rule10, rule11}
 use Rattle.sir_data.specs.Paging.{unchecked, pageOf, pagesOf}
 use Rattle.sir_analyses.specs.Liveness.{has, blockEnd}
-use Rattle.sir_analyses.specs.Allocation.{rule12, sort, merge, marked}
+use Rattle.sir_analyses.specs.Allocation.{sort, merge, marked}
 use Rattle.sir_analyses.specs.SourceUses.{sourcePredecessors, sourceUses}
 use Rattle.sir_analyses.specs.SourceLiveness.{sourceLive, sourceLocalIntervals}
 use Rattle.sir_analyses.specs.Source.{sourceState, sourceMarked}
 use Rattle.sir_analyses.specs.SourceIntervals.{mergeIntervals, sourceIntervals}
 use Rattle.sir_analyses.specs.Answers.{orderAnswer, predecessorsAnswer, entryAnswer, exitAnswer, usesAnswer, intervalsAnswer, intervalWords, allocationAnswer, ownerAnswer, roundsAnswer}
-use Rattle.sir_analyses.specs.Calls.{asked, noRules, known, inWords}
+use Rattle.sir_analyses.specs.Calls.{wordRules, asked, noRules, known, inWords}
 use Rattle.sir_analyses.specs.Walk.{Event, op, edge, Walk, enter, step, follow, Holds, given, kept, moved, Executed, now, before}
 use Rattle.sir_analyses.specs.ExampleImages.{wordsOfBlocks, setConst, alloc, add, load, store, log, callOp, stop, ends, continues, branches, block, straight, interval, outcomeWords, Row, same}
 
@@ -154,7 +154,7 @@ calls-first = (orderAnswer callsAndGoes, 0 ∷ 2 ∷ 0 ∷ 1 ∷ 2 ∷ 1 ∷ 3 �
 abbrev table : List Row
 table =
     -- rules 4 to 12 refuse none of the images
-    (map (λ w. first (recordRules w ++ ((12, rule12 w) ∷ []))) images, replicate 32 0)
+    (map (λ w. first (wordRules (rule6 w) w)) images, replicate 32 0)
     -- function 0 calls 1 and 1 calls 0: order 0, 1
     ∷ (orderAnswer calls, 0 ∷ 1 ∷ 0 ∷ 1 ∷ 1 ∷ 1 ∷ [])
     ∷ calls-first

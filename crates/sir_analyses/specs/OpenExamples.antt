@@ -1,17 +1,17 @@
 -- Examples of what is open and of what crosses (document 02, request R-1), as one table that one proof computes.
 use mathlib.Core.Path.{_≡_, refl}
 use mathlib.Core.Bool.{true}
-use mathlib.Core.List.{List, [], _∷_, _++_, map}
+use mathlib.Core.List.{List, [], _∷_, map}
 use Prim.Native.Nat.{ℕ}
 use lib.ListN.{replicate}
 use Rattle.plank_core.specs.Lists.{all, keep, upto}
 use Rattle.sir_data.specs.Pages.{checkOf, payload}
-use Rattle.sir_data.specs.Rules.{first, recordRules, rule4, rule5, rule6, rule7, rule8, rule9, rule10, rule11}
+use Rattle.sir_data.specs.Rules.{first, rule4, rule5, rule6, rule7, rule8, rule9, rule10, rule11}
 use Rattle.sir_data.specs.Paging.{unchecked, pageOf, pagesOf}
 use Rattle.sir_analyses.specs.Liveness.{Interval, blockEnd}
-use Rattle.sir_analyses.specs.Allocation.{rule12, merged}
+use Rattle.sir_analyses.specs.Allocation.{merged}
 use Rattle.sir_analyses.specs.Answers.{intervalWords}
-use Rattle.sir_analyses.specs.Calls.{asked, inWords}
+use Rattle.sir_analyses.specs.Calls.{wordRules, asked, inWords}
 use Rattle.sir_analyses.specs.Open.{openAt, openRules, placeOf, isCommon, firstOf, crossing, crossingRules}
 use Rattle.sir_analyses.specs.ExampleImages.{wordsOfBlocks, setConst, alloc, copy, load, store, stop, ends, continues, branches, block, straight, interval, outcomeWords, Row, same}
 
@@ -98,7 +98,7 @@ crossing-marked = (crossing marking 0 1, 1 ∷ 0 ∷ 0 ∷ [])
 abbrev table : List Row
 table =
     -- rules 4 to 12 refuse none of the images
-    (map (λ w. first (recordRules w ++ ((12, rule12 w) ∷ []))) images, replicate 6 0)
+    (map (λ w. first (wordRules (rule6 w) w)) images, replicate 6 0)
     -- 1..3 and 3..5 cross at operation 2
     ∷ (intervalWords (merged touching 0), 0 ∷ 1 ∷ 3 ∷ [])
     ∷ (intervalWords (merged touching 1), 0 ∷ 3 ∷ 5 ∷ 1 ∷ 6 ∷ 7 ∷ [])

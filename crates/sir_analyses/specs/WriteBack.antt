@@ -1,12 +1,13 @@
 -- Writing an image back (document 02, R-3): when lent records are refused, what is written, and what is claimed of records and
 -- pages. Definitions and statements only.
 use mathlib.Core.Path.{_≡_}
+use mathlib.Core.Logic.{_↔_}
 use mathlib.Core.Bool.{false}
 use Prim.Native.Nat.{ℕ, _/_, _≤_}
 use mathlib.Core.List.{List, _∷_}
 use lib.ListN.{length}
-use Rattle.sir_data.specs.Pages.{pagesFor, payload}
-use Rattle.sir_data.specs.Rules.{first}
+use Rattle.sir_data.specs.Pages.{pages, pagesFor, payload}
+use Rattle.sir_data.specs.Rules.{first, pageRules}
 use Rattle.sir_data.specs.Paging.{recordsOf, wordsOf, badRecords, unfit, padded, pagesOf}
 use Rattle.sir_analyses.specs.Calls.{Rules, Outcome, answered, call, wordRules, refusal, asked, noRules, inWords}
 
@@ -28,6 +29,10 @@ abbrev pub written : List ℕ → List ℕ → Outcome
 written r out = call (lentRules r) (pagesOf (wordsOf r)) out
 
 -- ---- claims
+
+-- of any image s: carriage (refusals 1 to 3) is in order just where s is the pages of its payload words, 1 to 117 of them
+abbrev pub PageRule : List ℕ → Type 0
+PageRule s = (first (pageRules s) ≡ 0) ↔ ((pagesOf (payload s) ≡ s) × (1 ≤ pages s) × (pages s ≤ 117))
 
 -- of an accepted image s
 pub record WrittenBack (s : List ℕ) : Type 0 where

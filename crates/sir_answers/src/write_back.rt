@@ -21,12 +21,13 @@ ghost use Rattle.sir_data.specs.Paging.{recordsOf, pagesOf};
 ghost use Rattle.sir_data.specs.inner.WellFormed.{WellFormed};
 ghost use Rattle.sir_analyses.specs.Allocation.{rule12};
 ghost use Rattle.sir_analyses.specs.Calls.{made, call, asked, refusal, noRules, inWords};
-ghost use Rattle.sir_analyses.specs.WriteBack.{lentRefusal, written, WrittenBack, ReadBack, ReadersNumber};
+ghost use Rattle.sir_analyses.specs.WriteBack.{lentRefusal, written, PageRule, WrittenBack, ReadBack, ReadersNumber};
 
 // The records of an image: its payload words without padding.
 pub fn records(image: &[u8], out: &mut [u8]) -> Answer
     ensures { λ r. ⌜ made (r .number) (r .length) (now (out .exit)) ≡ asked noRules (inWords recordsOf) (now (image .entry)) (now (out .entry)) ⌝ }
     ensures { λ r. ⌜ (refusal (now (image .entry)) ≡ 0 → WrittenBack (now (image .entry))) ⌝ }
+    ensures { λ r. ⌜ PageRule (now (image .entry)) ⌝ }
 {
     let mut words = [0u32; WORDS];
     let mut postorder = [0u32; POSTORDER];

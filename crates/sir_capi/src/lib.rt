@@ -9,7 +9,7 @@
 //
 // The last two take an image apart and put one together. `sir_records` is asked like a question. `sir_write` takes lent records in
 // the place of an image; its first promise, `written`, is a call like the others, with the rules of lent records and their pages. What
-// they promise beside the outcome are the claims of `WriteBack`: on the image or the records of the call, whichever these are.
+// they promise beside the outcome are the claims of `WriteBack`, on the image that is taken apart and on the records that are lent.
 use plank_core::index::AllocId;
 use plank_core::index::BlockId;
 use plank_core::index::LocalId;
@@ -33,7 +33,7 @@ ghost use Rattle.sir_analyses.specs.Answers.{orderAnswer, predecessorsAnswer, u
 ghost use Rattle.sir_analyses.specs.Calls.{made, refusal, asked, noRules, known, inWords};
 ghost use Rattle.sir_analyses.specs.Open.{openAt, openRules, crossing, crossingRules};
 ghost use Rattle.sir_analyses.specs.Promise.{Promise};
-ghost use Rattle.sir_analyses.specs.WriteBack.{lentRefusal, written, WrittenBack, ReadBack, ReadersNumber};
+ghost use Rattle.sir_analyses.specs.WriteBack.{lentRefusal, written, PageRule, WrittenBack, ReadBack, ReadersNumber};
 
 // For each function of `functions_rpo`: its id, its block count, its block ids.
 #[no_mangle]
@@ -237,6 +237,7 @@ pub extern "C" fn sir_crossing(image: &[u8], one: u32, other: u32, out: &mut [u8
 pub extern "C" fn sir_records(image: &[u8], out: &mut [u8]) -> Answer
     ensures { λ r. ⌜ made (r .number) (r .length) (now (out .exit)) ≡ asked noRules (inWords recordsOf) (now (image .entry)) (now (out .entry)) ⌝ }
     ensures { λ r. ⌜ (refusal (now (image .entry)) ≡ 0 → WrittenBack (now (image .entry))) ⌝ }
+    ensures { λ r. ⌜ PageRule (now (image .entry)) ⌝ }
 {
     records(image, out)
 }

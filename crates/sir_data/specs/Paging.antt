@@ -1,21 +1,13 @@
 -- Putting an image together (document 02, R-3): records as bytes, and the pages of words. A page is that of Pages: the check and the
 -- least number of pages are the reader's own.
 use mathlib.Core.Bool.{Bool, not, _||_}
-use Prim.Native.Nat.{ℕ, _+_, _-_, _*_, _/_, _%_, _^_, _<_}
+use Prim.Native.Nat.{ℕ, _+_, _-_, _*_, _/_, _%_}
 use lib.Dec.{eqb, ltb}
 use mathlib.Core.List.{List, [], _∷_, _++_, map}
-use lib.ListN.{length, getD, take, replicate}
+use lib.ListN.{length, take, replicate}
 use Rattle.plank_core.specs.Lists.{upto, bind}
 use Rattle.sir_data.specs.Pages.{wordAt, pagesFor, checkOf, bytesOf}
 use Rattle.sir_data.specs.Records.{word, wordCount}
-
--- the elements of a byte slice
-abbrev pub Bytes : List ℕ → Type 0
-Bytes s = (i : ℕ) → i < length s → getD s i 0 < 256
-
--- words of 32 bits
-abbrev pub Words : List ℕ → Type 0
-Words w = (i : ℕ) → i < length w → getD w i 0 < 2 ^ 32
 
 -- ---- records
 

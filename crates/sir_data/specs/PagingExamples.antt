@@ -32,7 +32,7 @@ padding = (padded (replicate 124 9), replicate 124 9 ++ (0 ∷ 0 ∷ []))
 abbrev nine-records : Row
 nine-records = (recordsOf (1 ∷ replicate 20 0), 1 ∷ replicate 8 0)
 
--- bytes that give 6 outright: 35, 37 and 39 of them, and 32, eight words; not so 36 and 40
+-- bytes that give 6 outright: 32 of them, eight words, 35, 37, 38 and 39; not so 36 and 40
 abbrev outright : Row
 outright = (map (λ n. oneIf (badRecords (replicate n 0))) (32 ∷ 35 ∷ 36 ∷ 37 ∷ 38 ∷ 39 ∷ 40 ∷ []), 1 ∷ 1 ∷ 0 ∷ 1 ∷ 1 ∷ 1 ∷ 0 ∷ [])
 

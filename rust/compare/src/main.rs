@@ -209,10 +209,9 @@ fn files(side: &str, names: &[String], compare: Compare) -> Result<(), Failure> 
 /// Compares what the library writes of records that are known by name.
 fn known_records() -> Result<(), Failure> {
     let mut tally = Tally::default();
-    match writing::known_with_library(&mut tally) {
-        Ok(()) => println!("the library, records known by name\n  {}", tally.writing),
-        Err(found) => return Err((1, format!("disagreement on records known by name:\n{found}"))),
-    }
+    writing::known_with_library(&mut tally)
+        .map_err(|found| (1, format!("disagreement on records known by name:\n{found}")))?;
+    println!("the library, records known by name\n  {}", tally.writing);
     Ok(())
 }
 

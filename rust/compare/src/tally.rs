@@ -303,6 +303,7 @@ mod tests {
         assert_eq!([crossings.never, crossings.bare, crossings.not_itself], [3, 3, 1]);
         assert_eq!(tally(&samples::sum_of_pointers()).crossings.marked, 4);
     }
+
     #[test]
     fn writing() {
         let mut writing = Writing::default();

@@ -29,7 +29,8 @@ fn agrees(lent: &[u8], rest: &mut &[u8]) -> bool {
             calls::write(lent, &mut result)
         }
     };
-    given == expected && result == take(rest, room)
+    let stored = take(rest, room);
+    given == expected && result == stored
 }
 
 #[test]

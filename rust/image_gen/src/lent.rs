@@ -39,8 +39,8 @@ fn alter(words: &mut [u32], rng: &mut Rng) {
     words[at as usize] = value;
 }
 
-/// Takes words away or adds some: one, the counts left alone or one of them told; a few; all but the head; or up to more than any
-/// image has.
+/// Takes words away or adds some: one, with the counts left alone or one of them told; all past the head; part of the head; any
+/// number; zeros up to whole pages; or up to more than any image has.
 fn resize(words: &mut Vec<u32>, rng: &mut Rng) {
     let length = match rng.below(40) {
         0..8 => words.len() - 1,

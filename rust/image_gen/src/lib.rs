@@ -1,5 +1,5 @@
 //! Generates images that no rule refuses, each from a kind and a seed; but in some images of some kinds two allocations may
-//! share a base (12). [`damaged`] breaks them, and [`lent`](lent()) makes records of them that break rules.
+//! share a base (12). [`damaged`] breaks them, and [`lent`](lent()) makes records of them, most of which break a rule.
 //!
 //! ```
 //! use image_gen::{Kind, generate};

@@ -124,7 +124,7 @@ fn lent_records_break_each_rule() {
         }
         outright += u32::from(records.len() < 36 || !records.len().is_multiple_of(4));
     }
-    let numbers: Vec<u32> = Refusal::of_images().skip(3).map(Refusal::number).collect();
+    let numbers: Vec<u32> = Refusal::of_words().map(Refusal::number).collect();
     assert!(numbers.iter().all(|&number| found[number as usize] > 20), "by number: {found:?}");
     assert!(outright > 100 && found[6] > 2 * outright, "{outright} refused outright, {} with 6", found[6]);
     assert!(altered > 1000, "{altered} accepted that are not those of the image");

@@ -137,8 +137,7 @@ fn refusals() {
 #[test]
 fn refusals_of_the_writer() {
     let given: Vec<u32> = table("| number | of lent records |").iter().map(|row| row[0].parse().unwrap()).collect();
-    let of_words = Refusal::of_images().skip_while(|&refusal| refusal != Refusal::EDITION);
-    let refusals = [Refusal::PAGE_COUNT].into_iter().chain(of_words).chain([Refusal::SHORT_RESULT]);
+    let refusals = [Refusal::PAGE_COUNT].into_iter().chain(Refusal::of_words()).chain([Refusal::SHORT_RESULT]);
     assert_eq!(given, refusals.map(Refusal::number).collect::<Vec<_>>());
     assert!(page().contains(&format!("`sir_{}`", WRITE.name)));
 }

@@ -49,7 +49,7 @@ fn the_examples() {
     }
 }
 
-/// Every length of the result slice around that of a page.
+/// Some lengths of the result slice, those around a page among them.
 #[test]
 fn slices() {
     let records = to_bytes(&samples::report().words());
@@ -67,7 +67,9 @@ fn lengths() {
         words[..2].copy_from_slice(&[edition, functions]);
         let records = to_bytes(&words);
         for length in 0..records.len() {
-            assert_as_the_paper(&records[..length], [0, 600][length % 2]);
+            for room in [0, 600] {
+                assert_as_the_paper(&records[..length], room);
+            }
         }
     }
     let more = to_bytes(&[samples::largest().words(), vec![0; 100]].concat());

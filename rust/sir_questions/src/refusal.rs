@@ -78,6 +78,11 @@ impl Refusal {
         TABLE.iter().filter(|row| row.cause != Cause::Caller).map(|row| row.refusal)
     }
 
+    /// Those of them that go by the words of the image, from the edition on.
+    pub fn of_words() -> impl Iterator<Item = Refusal> {
+        Refusal::of_images().skip_while(|&refusal| refusal != Refusal::EDITION)
+    }
+
     /// The paper's number.
     pub const fn number(self) -> u32 {
         self.0

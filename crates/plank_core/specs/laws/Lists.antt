@@ -6,7 +6,7 @@ use mathlib.Core.Option.{some}
 use Prim.Native.Nat.{ℕ, zero, suc, _+_, _-_, _≤_, _<_}
 use native.Mathlib.Omega.{arith}
 use mathlib.Core.List.{List, [], _∷_, _++_, map, reverse, reverseAux, reverse-reverse, List·Memᴰ, List·Memᴰ·head, List·Memᴰ·tail, List·Memᴰ·not-nil, List·Memᴰ·cases-cons, List·Memᴰ·append-cases, Memᴰ·append-left, Memᴰ·append-right, Memᴰ·cast}
-use lib.ListN.{length, getD, drop, getElem?}
+use lib.ListN.{length, getD, drop, replicate, getElem?}
 use lib.Dec.{eqb, T}
 use borrow.Author.Tests.{eqb-true, eqb-false, eq-eqb, not-true}
 use Rattle.plank_core.specs.Lists.{count, range, upto, foldl, bind, all, any, keep, mem, distinct, oneIf, times, _∈_}
@@ -227,6 +227,12 @@ pub all-upto : (p : ℕ → Bool) (n : ℕ) → all p (upto n) ≡ true → (i :
 all-upto p n h i l = all-mem p (upto n) h i (upto-mem i n l)
 
 -- one of those from a place on
+-- a list of zeros has no other number, past its end either
+pub zero-at : (m v : ℕ) → _≡_ {A = ℕ} (getD (replicate m 0) v 0) 0
+zero-at zero v = refl
+zero-at (suc m) zero = refl
+zero-at (suc m) (suc v) = zero-at m v
+
 pub drop-mem : (x : ℕ) (xs : List ℕ) (i : ℕ) → List·Memᴰ x (drop i xs) → List·Memᴰ x xs
 drop-mem x xs zero m = m
 drop-mem x [] (suc i) m = m

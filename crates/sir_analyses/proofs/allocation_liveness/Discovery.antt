@@ -8,7 +8,7 @@ use native.Mathlib.Numerals.{add-one}
 use borrow.Author.Tests.{not-true, not-false}
 use lib.ListN.{length, getD, drop, set, replicate, length-set, length-replicate, length-map, List·getD-map}
 use Rattle.plank_core.specs.Lists.{foldl, range, bind, keep, upto, distinct, _∈_}
-use Rattle.plank_core.specs.laws.Lists.{map-each, foldl-keeps, mem-place, getD-any}
+use Rattle.plank_core.specs.laws.Lists.{map-each, foldl-keeps, mem-place, getD-any, zero-at}
 use Rattle.plank_core.specs.laws.Loops.{upto-suc, range-next, range-none, map-append, distinct-few}
 use Rattle.plank_core.specs.inner.DenseIndexSet.{contains, wordOf, setOf, emptySet, added, fresh}
 use Rattle.plank_core.specs.laws.Distinct.{fresh-all, fresh-step, fresh-stop, fresh-end}
@@ -23,7 +23,6 @@ use Rattle.sir_analyses.proofs.Accepted.{listed-op}
 use Rattle.sir_analyses.proofs.claims.marks.Marks.{allocOf, alloc-known, alloc-in, base-less}
 use Rattle.plank_core.specs.laws.Folds.{foldl-snoc}
 use Rattle.sir_analyses.proofs.allocation_liveness.Linking.{set-both, set-most}
-use Rattle.sir_analyses.proofs.Tables.{zero-at}
 
 -- ---- operation by operation
 

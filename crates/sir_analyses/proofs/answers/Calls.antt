@@ -106,3 +106,11 @@ finish-fits {n} {room} {number} {len} f = go (ltb room (4 * n)) refl
     go : (t : Bool) → ltb room (4 * n) ≡ t → len ≤ room
     go true e = let z : len ≡ 0 = rw e at (f .len-is) in omega arith
     go false e = let z : len ≡ 4 * n = rw e at (f .len-is) in omega (arith, ltb-false room (4 * n) e)
+
+-- and no longer than its words
+pub finish-most : {n room number len : ℕ} → Finished n room number len → len ≤ 4 * n
+finish-most {n} {room} {number} {len} f = go (ltb room (4 * n)) refl
+  where
+    go : (t : Bool) → ltb room (4 * n) ≡ t → len ≤ 4 * n
+    go true e = let z : len ≡ 0 = rw e at (f .len-is) in omega arith
+    go false e = let z : len ≡ 4 * n = rw e at (f .len-is) in omega arith

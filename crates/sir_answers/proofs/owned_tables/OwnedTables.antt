@@ -11,7 +11,7 @@ use lib.Seq.{take-all, getD-take, getD-drop}
 use lib.Dec.{eqb, ltb}
 use borrow.Author.Tests.{eq-eqb, ne-eqb, eqb-true, eqb-false, lt-ltb, le-ltb, ltb-true, ltb-false}
 use Rattle.plank_core.specs.Lists.{mem, oneIf}
-use Rattle.plank_core.specs.laws.Lists.{split, any-some, oneIf-told}
+use Rattle.plank_core.specs.laws.Lists.{split, any-some, oneIf-told, zero-at}
 use Rattle.plank_core.specs.laws.Distinct.{eqb-swap}
 use Rattle.plank_core.specs.inner.DenseIndexSet.{contains, added, members, meets, rowOf, rowUnion, rowDifference}
 use Rattle.plank_core.specs.laws.DenseIndexSet.{contains-row, contains-cleared, set-union, set-difference, length-union}
@@ -27,7 +27,7 @@ use Rattle.sir_answers.specs.inner.AllocationPieces.{ownReach, unownedIn
 use Rattle.sir_analyses.proofs.SetLaws.{none-in}
 use Rattle.sir_analyses.proofs.claims.liveness.GenKill.{beyond}
 use Rattle.sir_analyses.proofs.claims.marks.Marks.{reach-length}
-use Rattle.sir_analyses.proofs.Tables.{adds-as, adds-then, adds-none, adds-one, cleared-row, cleared-long, zero-at}
+use Rattle.sir_analyses.proofs.Tables.{adds-as, adds-then, adds-none, adds-one, cleared-row, cleared-long}
 use Rattle.plank_core.specs.laws.Prefixes.{mapped-next, below-more}
 use Rattle.sir_analyses.proofs.stages.Parts.{length-part, putBack, put-part, put-low, put-high, put-long, contains-part}
 use Rattle.sir_analyses.proofs.local_liveness.LivenessTables.{cleared-part}

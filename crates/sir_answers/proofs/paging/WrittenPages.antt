@@ -13,8 +13,8 @@ use Rattle.plank_core.specs.laws.Loops.{length-count, fill-more}
 use Rattle.plank_core.specs.laws.Folds.{bind-long}
 use Rattle.sir_data.specs.Pages.{wordAt, pagesFor, pageWord, checkOf, bytesOf}
 use Rattle.sir_data.specs.Records.{word}
-use Rattle.sir_data.specs.Paging.{Words, unchecked, pageOf, pageWords}
-use Rattle.sir_data.specs.laws.Bytes.{length-bytes, word-bytes}
+use Rattle.sir_data.specs.Paging.{unchecked, pageOf, pageWords}
+use Rattle.sir_data.specs.laws.Bytes.{Words, length-bytes, word-bytes}
 use Rattle.sir_data.specs.laws.Paging.{check-same, unchecked-length, unchecked-small, page-length, page-words-length, pages-next}
 use Rattle.sir_data.specs.laws.Records.{count-part}
 use Rattle.sir_analyses.specs.inner.Writing.{wordsPut, Puts, Finished}
@@ -81,14 +81,6 @@ module _ (w : List ℕ) where
       ∙ ap (λ (xs : List ℕ). xs ++ drop (start + 512) d) (sym (pages-next w p))
 
 -- ---- all pages of an answer: as many as the slice is long, or none
-
--- an answer is no longer than its words
-pub finish-most : {n room number len : ℕ} → Finished n room number len → len ≤ 4 * n
-finish-most {n} {room} {number} {len} f = go (ltb room (4 * n)) refl
-  where
-    go : (t : Bool) → ltb room (4 * n) ≡ t → len ≤ 4 * n
-    go true e = let z : len ≡ 0 = rw e at (f .len-is) in omega arith
-    go false e = let z : len ≡ 4 * n = rw e at (f .len-is) in omega arith
 
 pub pages-put : (w out : List ℕ) {number len : ℕ} {part : List ℕ} → Finished (length (pageWords w)) (length out) number len
     → part ≡ pagesTo w (length (take len out) / 512) ++ drop (512 * (length (take len out) / 512)) (take len out)

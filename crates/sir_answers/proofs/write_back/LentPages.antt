@@ -13,7 +13,7 @@ use Rattle.sir_data.specs.Paging.{recordsOf, wordsOf, badRecords, unfit, padded
 use Rattle.sir_data.specs.inner.WellFormed.{Sized, WellFormed}
 use Rattle.sir_data.specs.inner.LentRecords.{Lent}
 use Rattle.sir_data.specs.laws.Rules.{by-later, by-earlier, first-right}
-use Rattle.sir_data.specs.laws.WellFormed.{formed}
+use Rattle.sir_data.specs.laws.WellFormed.{words-most, formed}
 use Rattle.sir_data.specs.laws.Bytes.{length-words}
 use Rattle.sir_data.specs.laws.Paging.{padded-length, padded-pages}
 use Rattle.sir_data.specs.laws.LentRecords as L
@@ -40,7 +40,7 @@ module _ {w words postorder visit sites : List ℕ} {n k a : ℕ} (p : Prepared 
   same-count = rw (same-word 1 (omega arith), same-word 2 (omega arith), same-word 3 (omega arith), same-word 4 (omega arith), same-word 5 (omega arith))
 
   pub count-few : {m : ℕ} → m ≡ wordCount words → (m ≤ length words) × (m ≤ 14665)
-  count-few e = omega (arith, e, same-count, long, p .words-fit, good .size, good .functions-most, good .blocks-most, good .operations-most, good .operands-most, good .targets-most)
+  count-few e = omega (arith, e, same-count, long, p .words-fit, good .size, words-most good)
 
   pub front-few : {m : ℕ} → m ≡ wordCount words → length (take m words) ≤ 14665
   front-few {m} e = let few = count-few e in omega (arith, few .1, length-take-le m words (few .0))
@@ -73,18 +73,12 @@ module _ {r new : List ℕ} {number : ℕ} (k : Lent r new number) where
     abbrev later : List ℕ → List (ℕ × Bool)
     later w = fieldRules w ++ operandRules w
 
-    words-few : length (wordsOf r) ≤ 14665
-    words-few = L.few later r none-broken
-
-    pub lent-few : length r / 4 ≤ 14665
-    lent-few = omega (arith, words-few, length-words r)
-
     abbrev front : List ℕ
     front = take (126 * pagesFor (length r / 4)) new
 
     padded-formed : WellFormed (padded (wordsOf r))
     padded-formed =
-        formed (padded (wordsOf r)) (unfit (wordsOf r)) (omega (arith, L.lent-fits later r none-broken, L.padded-count (wordsOf r), padded-length (wordsOf r)))
+        formed (padded (wordsOf r)) (unfit (wordsOf r)) (L.lent-sized later r none-broken .size)
         (first-right ((6, badRecords r) ∷ []) (rulesOf (unfit (wordsOf r)) (padded (wordsOf r))) refl none-broken)
 
     pub front-formed : WellFormed front
@@ -93,7 +87,7 @@ module _ {r new : List ℕ} {number : ℕ} (k : Lent r new number) where
     pub front-paged : (length front ≡ 126 * pagesFor (length front)) × (length front ≤ 14742)
     front-paged =
         let e : length front ≡ 126 * pagesFor (length (wordsOf r)) = ap length (k .words z) ∙ padded-length (wordsOf r) in
-        omega (arith, e, words-few)
+        omega (arith, e, k .few z, length-words r)
 
     pub lent-written : (out : List ℕ) → call ((12, rule12 front) ∷ []) (pagesOf front) out ≡ written r out
     lent-written out =

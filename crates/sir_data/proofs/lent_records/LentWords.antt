@@ -13,8 +13,7 @@ use Rattle.sir_data.specs.Rules.{first, headRules, fieldRules, operandRu
 use Rattle.sir_data.specs.Paging.{wordsOf, badRecords, unfit, padded}
 use Rattle.sir_data.specs.inner.WellFormed.{Sized}
 use Rattle.sir_data.specs.inner.LentRecords.{fitRules, Lent}
-use Rattle.sir_data.specs.laws.Rules.{by-later, by-earlier, first-left, first-right}
-use Rattle.sir_data.specs.laws.WellFormed.{sized}
+use Rattle.sir_data.specs.laws.Rules.{by-later, by-earlier}
 use Rattle.sir_data.specs.laws.Bytes.{length-words, words-at}
 use Rattle.sir_data.specs.laws.Paging.{zeros-after, padded-word, padded-length}
 use Rattle.sir_data.specs.laws.LentRecords as L
@@ -47,18 +46,18 @@ module _ (r : List ℕ) (some : 36 ≤ length r) where
         rw (head-word 1 (omega arith), head-word 2 (omega arith), head-word 3 (omega arith), head-word 4 (omega arith), head-word 5 (omega arith)) (L.padded-count (wordsOf r))
 
   module _ (whole : length r % 4 ≡ 0) where
-    abbrev head : List (ℕ × Bool)
-    head = headRules (padded (wordsOf r))
+    abbrev head-asked : List (ℕ × Bool)
+    head-asked = headRules (padded (wordsOf r))
 
     good : badRecords r ≡ false
     good = rw (le-ltb (length r) 36 some, eq-eqb (length r % 4) 0 whole)
 
     -- the head decides, or the number of words
-    pub by-head : ¬ (first head ≡ 0) → first (fitRules r) ≡ first head
-    by-head n = rw good (by-earlier head ((6, unfit (wordsOf r)) ∷ []) refl n)
+    pub by-head : ¬ (first head-asked ≡ 0) → first (fitRules r) ≡ first head-asked
+    by-head n = rw good (by-earlier head-asked ((6, unfit (wordsOf r)) ∷ []) refl n)
 
-    pub by-count : first head ≡ 0 → first (fitRules r) ≡ cond (unfit (wordsOf r)) 6 0
-    by-count z = rw good (by-later head ((6, unfit (wordsOf r)) ∷ []) refl z)
+    pub by-count : first head-asked ≡ 0 → first (fitRules r) ≡ cond (unfit (wordsOf r)) 6 0
+    by-count z = rw good (by-later head-asked ((6, unfit (wordsOf r)) ∷ []) refl z)
 
 -- ---- all words
 
@@ -73,16 +72,11 @@ module _ (r : List ℕ) where
   rest = fieldRules (padded (wordsOf r)) ++ operandRules (padded (wordsOf r))
 
   pub refused-early : {number : ℕ} {new : List ℕ} → ¬ (number ≡ 0) → number ≡ first (fitRules r) → Lent r new number
-  refused-early n e = record { number-is = e ∙ sym (by-earlier (fitRules r) rest refl (λ z. n (e ∙ z))); room = λ z. absurd (n z); words = λ z. absurd (n z) }
+  refused-early n e = record { number-is = e ∙ sym (by-earlier (fitRules r) rest refl (λ z. n (e ∙ z))); few = λ z. absurd (n z); room = λ z. absurd (n z); words = λ z. absurd (n z) }
 
   module _ (passed : first (fitRules r) ≡ 0) where
     pub words-few : length r / 4 ≤ 14665
     words-few = omega (arith, L.few (λ w. []) r passed, length-words r)
-
-    head-passed : first (headRules (padded (wordsOf r))) ≡ 0
-    head-passed =
-        let head = headRules (padded (wordsOf r)) in
-        first-left head ((6, unfit (wordsOf r)) ∷ []) (first-right ((6, badRecords r) ∷ []) (head ++ ((6, unfit (wordsOf r)) ∷ [])) refl passed)
 
     module _ {new : List ℕ} (copied : new ≡ wordsOf r ++ drop (length r / 4) (replicate 14742 0)) where
       new-length : length new ≡ 14742
@@ -106,13 +100,12 @@ module _ (r : List ℕ) where
 
       pub front-sized : Sized (take (126 * pagesFor (length r / 4)) new)
       front-sized =
-          let w : List ℕ = padded (wordsOf r) in
-          let fit = L.lent-fits (λ v. []) r passed in
-          subst Sized (sym front-is) (sized w head-passed (omega (arith, fit, L.padded-count (wordsOf r), padded-length (wordsOf r))))
+          subst Sized (sym front-is) (L.lent-sized (λ w. []) r passed)
 
       pub read : {number : ℕ} → number ≡ first (fieldRules (take (126 * pagesFor (length r / 4)) new) ++ operandRules (take (126 * pagesFor (length r / 4)) new)) → Lent r new number
       read e = record {
         number-is = e ∙ ap (λ (w : List ℕ). first (fieldRules w ++ operandRules w)) front-is ∙ sym (by-later (fitRules r) rest refl passed);
+        few = λ z. words-few;
         room = λ z. front-fits;
         words = λ z. front-is;
       }

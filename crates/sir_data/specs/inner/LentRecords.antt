@@ -16,5 +16,6 @@ fitRules r = (6, badRecords r) ∷ headRules (padded (wordsOf r)) ++ ((6, unfit 
 pub record Lent (r new : List ℕ) (number : ℕ) : Type 0 where
   pub number-is : number ≡ first ((6, badRecords r) ∷ rulesOf (unfit (wordsOf r)) (padded (wordsOf r)))
   -- no rule refuses them: their words stand at the front, with the padding
+  pub few : number ≡ 0 → length r / 4 ≤ 14665
   pub room : number ≡ 0 → 126 * pagesFor (length r / 4) ≤ length new
   pub words : number ≡ 0 → take (126 * pagesFor (length r / 4)) new ≡ padded (wordsOf r)

@@ -10,7 +10,15 @@ use Rattle.plank_core.specs.Lists.{bind}
 use Rattle.plank_core.specs.laws.Loops.{length-map-upto, getD-map-upto}
 use Rattle.plank_core.specs.laws.Folds.{bind-long, bind-at}
 use Rattle.sir_data.specs.Pages.{wordAt, bytesOf}
-use Rattle.sir_data.specs.Paging.{Bytes, Words, wordsOf}
+use Rattle.sir_data.specs.Paging.{wordsOf}
+
+-- each below 256, as the elements of a byte slice are
+abbrev pub Bytes : List ℕ → Type 0
+Bytes s = (i : ℕ) → i < length s → getD s i 0 < 256
+
+-- each below 2^32, as words are
+abbrev pub Words : List ℕ → Type 0
+Words w = (i : ℕ) → i < length w → getD w i 0 < 2 ^ 32
 
 pub length-bytes : (xs : List ℕ) → length (bind xs bytesOf) ≡ 4 * length xs
 length-bytes xs = bind-long bytesOf 4 xs (λ x. refl)

@@ -1,7 +1,7 @@
 -- Records of an image that is taken, and lent records that are: `later` are the rules after 6, whatever they are.
 use mathlib.Core.Path.{_≡_, refl, sym, ap, _∙_}
 use mathlib.Core.Bool.{Bool, true, false, not}
-use Prim.Native.Nat.{ℕ, zero, suc, _+_, _-_, _*_, _%_, _≤_}
+use Prim.Native.Nat.{ℕ, zero, suc, _-_, _*_, _%_, _≤_}
 use native.Mathlib.Omega.{arith}
 use mathlib.Core.List.{List, [], _∷_, _++_}
 use lib.Dec.{eqb, ltb}
@@ -13,21 +13,19 @@ use Rattle.plank_core.specs.laws.Lists.{or-false-left, or-false-right, none, an
 use Rattle.sir_data.specs.Pages.{pagesFor, payload, bytesOf}
 use Rattle.sir_data.specs.Records.{word, wordCount}
 use Rattle.sir_data.specs.Rules.{rule4, rule5, rule6, first, pageRules, headRules}
-use Rattle.sir_data.specs.Paging.{Bytes, Words, recordsOf, wordsOf, badRecords, unfit, padded, pagesOf}
+use Rattle.sir_data.specs.Paging.{recordsOf, wordsOf, badRecords, unfit, padded, pagesOf}
+use Rattle.sir_data.specs.inner.WellFormed.{Sized}
 use Rattle.sir_data.specs.laws.Rules.{by-later, first-left, first-right, kept}
-use Rattle.sir_data.specs.laws.WellFormed.{words-most}
-use Rattle.sir_data.specs.laws.Bytes.{length-bytes, words-back, words-small, bytes-back}
+use Rattle.sir_data.specs.laws.WellFormed.{sized, fits, words-most}
+use Rattle.sir_data.specs.laws.Bytes.{Bytes, Words, length-bytes, words-back, words-small, bytes-back}
 use Rattle.sir_data.specs.laws.Paging.{word-range, padded-word, padded-length, pages-length, payload-pages, pages-kept, pages-same, payload-small, pages-back}
 
 -- ---- rule 6 does not apply: the records, and zeros up to whole pages
 
 module _ (w : List ℕ) (fit : rule6 w ≡ false) where
-  pub page-count : length w ≡ 126 * pagesFor (wordCount w)
+  page-count : length w ≡ 126 * pagesFor (wordCount w)
   unfolding rule6
   page-count = eqb-true (length w) (126 * pagesFor (wordCount w)) (not-false _ (or-false-left (not (eqb (length w) (126 * pagesFor (wordCount w)))) (any (λ x. not (eqb x 0)) (drop (wordCount w) w)) fit))
-
-  records-within : wordCount w ≤ length w
-  records-within = omega (arith, page-count)
 
   no-padding-bad : any (λ x. not (eqb x 0)) (drop (wordCount w) w) ≡ false
   unfolding rule6
@@ -49,11 +47,11 @@ module _ (w : List ℕ) (fit : rule6 w ≡ false) where
       go true e = zeros (eqb (word w i) 0) refl e
       go false e = List·getD-eq-default w 0 (ltb-false i (length w) e)
 
-  pub records-length : length (recordsOf w) ≡ wordCount w
-  records-length = length-take-le (wordCount w) w records-within
+  records-length : length (recordsOf w) ≡ wordCount w
+  records-length = length-take-le (wordCount w) w (fits w fit)
 
   -- without their padding they are the same words, and take as many pages
-  pub records-word : (i : ℕ) → word (recordsOf w) i ≡ word w i
+  records-word : (i : ℕ) → word (recordsOf w) i ≡ word w i
   records-word i = go (ltb i (wordCount w)) refl
     where
       go : (t : Bool) → ltb i (wordCount w) ≡ t → word (recordsOf w) i ≡ word w i
@@ -77,10 +75,10 @@ module _ (w : List ℕ) where
   padded-count = simp (padded-word w)
 
   module _ (fit : length w ≡ wordCount w) where
-    pub fit-records : recordsOf (padded w) ≡ w
+    fit-records : recordsOf (padded w) ≡ w
     fit-records = rw padded-count (take-at w (replicate (126 * pagesFor (length w) - length w) 0) (wordCount w) fit)
 
-    pub fit-six : rule6 (padded w) ≡ false
+    fit-six : rule6 (padded w) ≡ false
     unfolding rule6
     fit-six =
         let z : ℕ = 126 * pagesFor (length w) - length w in
@@ -132,7 +130,7 @@ module _ (later : List ℕ → List (ℕ × Bool)) where
     no-rule : first (ruled (rule6 (payload s)) (payload s)) ≡ 0
     no-rule = sym (by-words s in-order) ∙ accepted
 
-    pub image-fits : rule6 (payload s) ≡ false
+    image-fits : rule6 (payload s) ≡ false
     image-fits = ruled-fit (rule6 (payload s)) (payload s) no-rule
 
     abbrev records : List ℕ
@@ -169,8 +167,13 @@ module _ (later : List ℕ → List (ℕ × Bool)) where
     pub lent-fits : length lent ≡ wordCount lent
     lent-fits = eqb-true (length lent) (wordCount lent) (not-false _ (ruled-fit (unfit lent) (padded lent) no-lent-rule))
 
+    pub lent-sized : Sized (padded lent)
+    lent-sized =
+        sized (padded lent) (first-left (headRules (padded lent)) ((6, unfit lent) ∷ later (padded lent)) no-lent-rule)
+        (omega (arith, lent-fits, padded-count lent, padded-length lent))
+
     pub few : length lent ≤ 14665
-    few = omega (arith, lent-fits, padded-count lent, words-most (padded lent) (first-left (headRules (padded lent)) ((6, unfit lent) ∷ later (padded lent)) no-lent-rule))
+    few = omega (arith, lent-fits, padded-count lent, words-most lent-sized)
 
     -- 117 pages hold them
     pub pages-few : length (pagesOf lent) ≤ 59904

@@ -10,14 +10,14 @@ use lib.ListN.{length, replicate, length-append, length-replicate, List·getD-ap
 use lib.Seq.{getD-append-seam, ext-getD}
 use borrow.Author.Tests.{eq-eqb, ne-eqb, le-ltb, ltb-true, ltb-false, eqb-true, not-false}
 use Rattle.plank_core.specs.Lists.{upto, bind, sum}
-use Rattle.plank_core.specs.laws.Lists.{any-none, any-not}
+use Rattle.plank_core.specs.laws.Lists.{zero-at, any-none, any-not}
 use Rattle.plank_core.specs.laws.Loops.{upto-more, bind-snoc, bind-append, length-count, getD-count, length-map-upto, getD-map-upto, map-same, bind-same}
 use Rattle.plank_core.specs.laws.Folds.{bind-long, bind-at}
 use Rattle.sir_data.specs.Pages.{wordAt, pages, pagesFor, pageWord, checkOf, payload, bytesOf, badNumber, badCheck}
 use Rattle.sir_data.specs.Records.{word}
 use Rattle.sir_data.specs.Rules.{first, pageRules}
-use Rattle.sir_data.specs.Paging.{Bytes, Words, padded, unchecked, pageOf, pageWords, pagesOf, wordsOf}
-use Rattle.sir_data.specs.laws.Bytes.{length-bytes, word-bytes, length-words, words-at, word-small, bytes-back}
+use Rattle.sir_data.specs.Paging.{padded, unchecked, pageOf, pageWords, pagesOf, wordsOf}
+use Rattle.sir_data.specs.laws.Bytes.{Bytes, Words, length-bytes, word-bytes, length-words, words-at, word-small, bytes-back}
 use Rattle.sir_data.specs.laws.Image.{length-payload}
 use Rattle.sir_data.specs.laws.Rules.{kept}
 use Rattle.sir_data.specs.laws.WellFormed.{ors-each}
@@ -26,12 +26,7 @@ use Rattle.sir_data.specs.laws.WellFormed.{ors-each}
 
 -- zeros after words change no word
 pub zeros-after : (w : List ℕ) (n i : ℕ) → word (w ++ replicate n 0) i ≡ word w i
-zeros-after [] n i = go n i
-  where
-    go : (n i : ℕ) → word (replicate n 0) i ≡ 0
-    go zero i = refl
-    go (suc n) zero = refl
-    go (suc n) (suc i) = go n i
+zeros-after [] n i = zero-at n i
 zeros-after (x ∷ w) n zero = refl
 zeros-after (x ∷ w) n (suc i) = zeros-after w n i
 
@@ -110,7 +105,7 @@ module _ (w : List ℕ) where
   page-words-length = bind-long (pageOf w) 128 (upto n) (page-length w) ∙ rw (length-count 0 n)
 
   -- word i of page q
-  pub page-words-at : (q i : ℕ) → q < n → i < 128 → word (pageWords w) (128 * q + i) ≡ word (pageOf w q) i
+  page-words-at : (q i : ℕ) → q < n → i < 128 → word (pageWords w) (128 * q + i) ≡ word (pageOf w q) i
   page-words-at q i l h =
       bind-at (pageOf w) 128 (upto n) (page-length w) q i 0 0 (omega (arith, length-count 0 n)) h
       ∙ ap (λ (p : ℕ). word (pageOf w p) i) (getD-count 0 n q 0 l ∙ omega arith)

@@ -9,7 +9,7 @@ use lib.ListN.{length}
 use lib.Dec.{eqb, leb, ltb}
 use borrow.Author.Tests.{ltb-true, ltb-false, leb-true, eqb-true, eqb-false, ne-eqb, not-false}
 use Rattle.plank_core.specs.Lists.{count, range, upto, all, distinct}
-use Rattle.plank_core.specs.laws.Lists.{or-false-left, or-false-right, and-true-left, and-true-right, mem-count, mem-range, map-each, all-mem, all-upto, none}
+use Rattle.plank_core.specs.laws.Lists.{or-false-left, or-false-right, and-true-left, and-true-right, mem-count, mem-range, map-each, all-mem, all-upto}
 use Rattle.sir_data.specs.Pages.{pagesFor}
 use Rattle.sir_data.specs.Records.{functions, blocks, operations, operandWords, caseTargets, locals, initFunction, mainPlusOne, wordCount, entryBlock, blockWord, opWord, operand, target, run, inputs, outputs, ops, control, field, optional, successors, code, ins, outs, extra}
 use Rattle.sir_data.specs.Codes.{arityOk, isCall, isStaticAlloc}
@@ -156,15 +156,9 @@ module _ (w : List ℕ) (head : first (headRules w) ≡ 0) where
         size = fits;
       }
 
-  -- the limits allow 14,665 words, which 117 pages hold
-  pub words-most : wordCount w ≤ 14665
-  words-most =
-      let f = ltb-false 64 (functions w) (five .0) in
-      let b = ltb-false 256 (blocks w) (five .1 .0) in
-      let p = ltb-false 1024 (operations w) (five .1 .1 .0) in
-      let v = ltb-false 4096 (operandWords w) (five .1 .1 .1 .0) in
-      let t = ltb-false 512 (caseTargets w) (five .1 .1 .1 .1 .0) in
-      omega arith
+-- the limits allow 14,665 words, which 117 pages hold
+pub words-most : {w : List ℕ} → Sized w → wordCount w ≤ 14665
+words-most s = omega (arith, s .functions-most, s .blocks-most, s .operations-most, s .operands-most, s .targets-most)
 
 -- the fit of pages
 pub fits : (w : List ℕ) → rule6 w ≡ false → wordCount w ≤ length w

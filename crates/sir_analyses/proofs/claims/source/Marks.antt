@@ -9,7 +9,7 @@ use mathlib.Core.List.{List, [], _∷_, _++_, map, List·Memᴰ, List·Memᴰ·h
 use lib.ListN.{length, getD, replicate, length-map, length-replicate, List·getD-map}
 use borrow.Author.Tests.{not-false}
 use Rattle.plank_core.specs.Lists.{foldl, bind, any, upto, count, distinct, _∈_}
-use Rattle.plank_core.specs.laws.Lists.{or-true-left, or-true-right, or-cases, none, same-tests, any-mem, bind-out, bind-mem, upto-mem, mem-upto, length-none, distinct-places}
+use Rattle.plank_core.specs.laws.Lists.{or-true-left, or-true-right, or-cases, none, same-tests, any-mem, bind-out, bind-mem, upto-mem, mem-upto, length-none, zero-at, distinct-places}
 use Rattle.sir_data.specs.Records.{locals}
 use Rattle.sir_data.specs.inner.WellFormed.{WellFormed}
 use Rattle.sir_analyses.specs.Liveness.{Use, uses, Set, has}
@@ -23,7 +23,6 @@ use Rattle.sir_analyses.proofs.claims.marks.Marks.{next-less, base-less
 use Rattle.sir_analyses.proofs.claims.source.Discovery.{after-same}
 use Rattle.sir_analyses.proofs.claims.source.Steps.{marksAt, follow-use, zeros-most, bases-out, bases-in, Meets, same, each, Joined, meets-trans, joined-grow, baseOf, start-length, Done, Inv, Grown, grown-trans, grown-refl, remark, fold-step}
 use Rattle.plank_core.specs.laws.Folds.{any-or}
-use Rattle.sir_analyses.proofs.Tables.{zero-at}
 
 module _ (w : List ℕ) where
   -- some use of v marks where v escapes or is returned

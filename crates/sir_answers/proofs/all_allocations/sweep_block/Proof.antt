@@ -7,6 +7,7 @@ use lib.ListN.{length, replicate}
 use Rattle.plank_core.specs.Lists.{bind, range}
 use Rattle.plank_core.specs.laws.Loops.{range-before, range-none}
 use Rattle.plank_core.specs.inner.DenseIndexSet.{rowOf}
+use Rattle.plank_core.specs.laws.Lists.{zero-at}
 use Rattle.sir_data.specs.Records.{operations, blockWord, ops}
 use Rattle.sir_answers.specs.inner.Scatter.{backward, numberAt}
 use Rattle.sir_answers.specs.inner.IntervalPieces.{closedPieces}
@@ -19,7 +20,6 @@ use Rattle.sir_answers.proofs.LiveSets.{LiveBefore, live-none, live-mor
 use Rattle.sir_answers.proofs.all_allocations.SweptEnds.{swept-none, swept-closed, swept-more, open-closed}
 use Rattle.sir_answers.proofs.all_allocations.sweep_block.Statement.{statement}
 use Rattle.sir_answers.proofs.all_allocations.sweep_block.Tie as tie
-use Rattle.sir_analyses.proofs.Tables.{zero-at}
 
 abbrev Inv-loop : tie.InvT-loop
 Inv-loop words live owned b cursors₀ out₀ set₀ ids₀ till₀ n first o₀ cursors out set ids till o = (first ≤ o) × (o ≤ operations words) × (o ≤ o₀) × (length ids ≡ 512) × LiveBefore words (b .0) (range o o₀) set × SweptEnds words (b .0) (range o o₀) till × Scattering backward (sweepPieces words (b .0)) cursors₀ out₀ (sweptLeft words (b .0) first o) cursors out

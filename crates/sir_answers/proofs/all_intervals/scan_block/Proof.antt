@@ -3,6 +3,7 @@ use mathlib.Core.Path.{refl, sym, _∙_}
 use mathlib.Core.List.{[]}
 use native.Mathlib.Omega.{arith}
 use borrow.Author.Needs.{needs}
+use Rattle.plank_core.specs.laws.Lists.{zero-at}
 use Rattle.sir_answers.specs.inner.Scatter.{forward}
 use Rattle.sir_answers.specs.inner.IntervalPieces.{OpenEnds, operationsPieces, startPieces}
 use Rattle.sir_answers.specs.laws.Scatter.{room-first}
@@ -10,7 +11,6 @@ use Rattle.sir_answers.proofs.scatter.Scattering.{scattering-none, scat
 use Rattle.sir_answers.proofs.all_intervals.OpenEnds.{ends-none}
 use Rattle.sir_answers.proofs.all_intervals.scan_block.Statement.{statement}
 use Rattle.sir_answers.proofs.all_intervals.scan_block.Tie as tie
-use Rattle.sir_analyses.proofs.Tables.{zero-at}
 
 slice-aggregate-open-block : tie.Need-slice-aggregate-open-block
 slice-aggregate-open-block c = search needs

@@ -3,6 +3,7 @@ use mathlib.Core.Path.{refl}
 use borrow.Author.Needs.{needs}
 use native.Mathlib.Omega.{arith}
 use Rattle.plank_core.specs.Lists.{bind}
+use Rattle.plank_core.specs.laws.Lists.{zero-at}
 use Rattle.sir_analyses.specs.Order.{blocksRpo}
 use Rattle.sir_answers.specs.inner.Pieces.{endPieces, inputPieces}
 use Rattle.sir_answers.proofs.scatter.Scattering.{scatters-then, fits-first, fits-rest}
@@ -10,7 +11,6 @@ use Rattle.sir_answers.proofs.all_uses.UsePieces.{uses-small, uses-coun
 use Rattle.sir_answers.proofs.scatter.AllAnswers.{zero-fits, counted-all}
 use Rattle.sir_answers.proofs.all_uses.count_uses.Statement.{statement}
 use Rattle.sir_answers.proofs.all_uses.count_uses.Tie as tie
-use Rattle.sir_analyses.proofs.Tables.{zero-at}
 
 slice-aggregate-operation-times : tie.Need-slice-aggregate-operation-times
 slice-aggregate-operation-times c = search needs

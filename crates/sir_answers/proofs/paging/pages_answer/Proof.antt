@@ -7,8 +7,8 @@ use lib.Seq.{length-take-le}
 use Rattle.sir_data.specs.Paging.{pageWords, pagesOf}
 use Rattle.sir_data.specs.laws.Paging.{page-words-length}
 use Rattle.sir_analyses.specs.inner.Writing.{Finished}
-use Rattle.sir_analyses.proofs.answers.Calls.{finish-fits, finished}
-use Rattle.sir_answers.proofs.paging.WrittenPages.{finish-most, pages-put}
+use Rattle.sir_analyses.proofs.answers.Calls.{finish-fits, finish-most, finished}
+use Rattle.sir_answers.proofs.paging.WrittenPages.{pages-put}
 use borrow.Author.Needs.{needs}
 use Rattle.sir_answers.proofs.paging.pages_answer.Statement.{statement}
 use Rattle.sir_answers.proofs.paging.pages_answer.Tie as tie

@@ -3,7 +3,7 @@ use mathlib.Core.Path.{_≡_, ap}
 use Prim.Native.Nat.{ℕ, _+_, _-_, _*_}
 use native.Mathlib.Omega.{arith}
 use lib.ListN.{take, drop}
-use Rattle.sir_data.specs.Paging.{Words}
+use Rattle.sir_data.specs.laws.Bytes.{Words}
 use Rattle.sir_answers.proofs.paging.WrittenPages.{numbered-put, page-written}
 use borrow.Author.Needs.{needs}
 use Rattle.sir_answers.proofs.paging.write_page.Statement.{statement}

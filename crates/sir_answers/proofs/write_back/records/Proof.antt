@@ -6,10 +6,11 @@ use native.Mathlib.Omega.{arith}
 use Rattle.plank_core.specs.Lists.{bind}
 use Rattle.sir_data.specs.Pages.{bytesOf}
 use Rattle.sir_data.specs.Paging.{recordsOf}
+use Rattle.sir_data.specs.laws.Bytes.{Bytes}
 use Rattle.sir_analyses.specs.Calls.{answered, refusal, noRules, inWords}
 use Rattle.sir_analyses.proofs.answers.Calls.{image-refused, image-accepted}
 use Rattle.sir_analyses.proofs.loading.Loads.{front-length}
-use Rattle.sir_analyses.proofs.claims.WriteBackProof.{written-back}
+use Rattle.sir_analyses.proofs.claims.WriteBackProof.{written-back, page-rule}
 use Rattle.sir_answers.proofs.write_back.LentPages.{count-few, front-few, records-front}
 use borrow.Author.Needs.{needs}
 use Rattle.sir_answers.proofs.write_back.records.Statement.{statement}
@@ -40,7 +41,8 @@ returns c =
     let at-known = at-load .before .before .before .before .before .before in
     let a = at-known .before .args in
     let image = a .image .now in
-    (image-refused noRules (inWords recordsOf) image (a .out .now) (λ z. at-if1 .if1 .taken (at-load .load .ensures .number-is ∙ z)) (c .refuse .ensures .0 ∙ at-load .load .ensures .number-is) (c .refuse .ensures .1), written-back image (λ i l. omega (arith, at-known .shared-slice-known .given i)))
+    let bytes : Bytes image = λ i l. omega (arith, at-known .shared-slice-known .given i) in
+    (image-refused noRules (inWords recordsOf) image (a .out .now) (λ z. at-if1 .if1 .taken (at-load .load .ensures .number-is ∙ z)) (c .refuse .ensures .0 ∙ at-load .load .ensures .number-is) (c .refuse .ensures .1), (written-back image bytes, page-rule image bytes))
 
 slice-aggregate-word-count : tie.Need-slice-aggregate-word-count
 slice-aggregate-word-count c = search needs
@@ -78,9 +80,10 @@ returns-2 c =
     let at-known = loaded at-count .before .before .before .before .before .before in
     let a = at-known .before .args in
     let image = a .image .now in
+    let bytes : Bytes image = λ i l. omega (arith, at-known .shared-slice-known .given i) in
     let front = records-front (loaded at-count .load .ensures .prepared (accepted at-count)) (at-count .word-count .ensures) in (
       at-answer .words-answer .ensures ∙ ap (λ (ws : List ℕ). answered (bind ws bytesOf) (a .out .now)) front ∙ image-accepted noRules (inWords recordsOf) image (a .out .now) (accepted at-count),
-      written-back image (λ i l. omega (arith, at-known .shared-slice-known .given i)),
+      (written-back image bytes, page-rule image bytes),
     )
 
 pub records-spec : {M : Type 1} → statement M

@@ -2,9 +2,9 @@
 use mathlib.Core.Path.{sym, _∙_}
 use native.Mathlib.Omega.{arith}
 use lib.Seq.{length-take-le}
-use Rattle.sir_data.specs.Paging.{Bytes}
+use Rattle.sir_data.specs.laws.Bytes.{Bytes}
 use Rattle.sir_analyses.proofs.claims.WriteBackProof.{read-back, readers-number}
-use Rattle.sir_answers.proofs.write_back.LentPages.{lent-refused, lent-few, front-formed, front-paged, lent-written}
+use Rattle.sir_answers.proofs.write_back.LentPages.{lent-refused, front-formed, front-paged, lent-written}
 use borrow.Author.Needs.{needs}
 use Rattle.sir_answers.proofs.write_back.write.Statement.{statement}
 use Rattle.sir_answers.proofs.write_back.write.Tie as tie
@@ -29,7 +29,7 @@ returns c =
     (lent-refused (at-read .read-records .ensures) (a .out .now) (at-if1 .if1 .taken) (c .refuse .ensures .0) (c .refuse .ensures .1), (read-back r bytes, readers-number r bytes))
 
 pages-for-requires : tie.Need-pages-for-requires
-pages-for-requires c κs = omega (arith, lent-few (c .before .before .read-records .ensures) (c .if1 .left))
+pages-for-requires c κs = omega (arith, c .before .before .read-records .ensures .few (c .if1 .left))
 
 mul-n : tie.Need-mul-n
 mul-n c = search needs

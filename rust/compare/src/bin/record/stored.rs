@@ -192,8 +192,7 @@ fn lent_records() -> Vec<Recording> {
     let known = known().into_iter().filter(|known| known.records.len() <= LONGEST || long(known.name));
     let named = known.map(|known| writing(known.name.to_string(), known.records));
     let rng = &mut Rng::new(SEED);
-    let of_words = Refusal::of_images().skip_while(|&refusal| refusal != Refusal::EDITION);
-    let refused = of_words.map(|refusal| {
+    let refused = Refusal::of_words().map(|refusal| {
         let number = refusal.number();
         let mut made = || lent(&generate(rng.pick(&Kind::SMALL[..DAMAGED_KINDS]), rng.next_u64()), rng);
         let records = std::iter::repeat_with(&mut made).find(|records| paper_reference::write(records) == Err(number));
