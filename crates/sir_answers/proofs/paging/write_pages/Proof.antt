@@ -40,8 +40,9 @@ loop-less c = omega arith
 
 loop-again : tie.Need-loop-again Inv-loop μ-loop
 loop-again c =
-    let first = c .before .before .before .before .before .before .before .before .args in
-    let l = c .before .before .before .before .before .loop in (
+    let at-loop = c .before .before .before .before .before in
+    let first = at-loop .before .before .before .args in
+    let l = at-loop .loop in (
       omega arith,
       omega arith,
       omega arith,

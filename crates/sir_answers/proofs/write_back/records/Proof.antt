@@ -16,6 +16,13 @@ use borrow.Author.Needs.{needs}
 use Rattle.sir_answers.proofs.write_back.records.Statement.{statement}
 use Rattle.sir_answers.proofs.write_back.records.Tie as tie
 
+-- where the call begins, seen from past `load`
+abbrev arrays : tie.After-load → tie.After-words
+arrays c = c .before .before .before .before
+
+abbrev known : tie.After-load → tie.After-shared-slice-known
+known c = arrays c .before .before
+
 slice-aggregate-load : tie.Need-slice-aggregate-load
 slice-aggregate-load c = search needs
 
@@ -38,7 +45,7 @@ returns : tie.Need-returns
 returns c =
     let at-if1 = c .before in
     let at-load = at-if1 .before .before .before .before .before in
-    let at-known = at-load .before .before .before .before .before .before in
+    let at-known = known at-load in
     let a = at-known .before .args in
     let image = a .image .now in
     let bytes : Bytes image = λ i l. omega (arith, at-known .shared-slice-known .given i) in
@@ -51,11 +58,14 @@ word-count-requires : tie.Need-word-count-requires
 word-count-requires c κs = search needs
 
 -- past `word_count`, where the image was loaded, and was accepted
-abbrev loaded : tie.After-word-count → tie.After-load
-loaded c = c .before .before .before .before .before .before .before
+abbrev taken : tie.After-word-count → tie.Else1
+taken c = c .before .before
 
-accepted : (c : tie.After-word-count) → refusal (loaded c .before .before .before .before .before .before .before .args .image .now) ≡ 0
-accepted c = sym (loaded c .load .ensures .number-is) ∙ c .before .before .if1 .left
+abbrev loaded : tie.After-word-count → tie.After-load
+loaded c = taken c .before .before .before .before .before
+
+accepted : (c : tie.After-word-count) → refusal (known (loaded c) .before .args .image .now) ≡ 0
+accepted c = sym (loaded c .load .ensures .number-is) ∙ taken c .if1 .left
 
 array-share-prefix-words : tie.Need-array-share-prefix-words
 array-share-prefix-words c = count-few (loaded c .load .ensures .prepared (accepted c)) (c .word-count .ensures) .0
@@ -77,7 +87,7 @@ returns-2 : tie.Need-returns-2
 returns-2 c =
     let at-answer = c .before .before in
     let at-count = at-answer .before .before .before in
-    let at-known = loaded at-count .before .before .before .before .before .before in
+    let at-known = known (loaded at-count) in
     let a = at-known .before .args in
     let image = a .image .now in
     let bytes : Bytes image = λ i l. omega (arith, at-known .shared-slice-known .given i) in

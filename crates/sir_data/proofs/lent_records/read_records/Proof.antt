@@ -33,11 +33,15 @@ copy-words-requires c κs =
     let start = past .before .before .before .before in
     omega (arith, words-few (lent (past .before)) (passed past), ap length (start .pre), length-replicate {A = ℕ} 14742 0)
 
--- what stands in the slice after the copy
-copied : (c : tie.After-copy-words) → c .copy-words .last .1 .0 ≡ wordsOf (lent (c .before .before .before)) ++ drop (length (lent (c .before .before .before)) / 4) (replicate 14742 0)
+-- past the copy, where the number of words was asked
+abbrev checked : tie.After-copy-words → tie.After-check-fit
+checked c = c .before .before .before
+
+-- what stands in the slice after it
+copied : (c : tie.After-copy-words) → c .copy-words .last .1 .0 ≡ wordsOf (lent (checked c)) ++ drop (length (lent (checked c)) / 4) (replicate 14742 0)
 copied c =
-    let start = c .before .before .before .before .before .before in
-    c .copy-words .ensures ∙ ap (λ (xs : List ℕ). wordsOf (lent (c .before .before .before)) ++ drop (length (lent (c .before .before .before)) / 4) xs) (start .pre)
+    let start = checked c .before .before .before in
+    c .copy-words .ensures ∙ ap (λ (xs : List ℕ). wordsOf (lent (checked c)) ++ drop (length (lent (checked c)) / 4) xs) (start .pre)
 
 -- past `pages_for`, where the words were copied
 abbrev at-copy : tie.After-pages-for → tie.After-copy-words
