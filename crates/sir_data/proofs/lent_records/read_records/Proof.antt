@@ -33,22 +33,19 @@ copy-words-requires c κs =
     let start = past .before .before .before .before in
     omega (arith, words-few (lent (past .before)) (passed past), ap length (start .pre), length-replicate {A = ℕ} 14742 0)
 
--- past the copy, where the number of words was asked
-abbrev checked : tie.After-copy-words → tie.After-check-fit
-checked c = c .before .before .before
+-- past the copy, where the number of words was right
+abbrev at-test : tie.After-copy-words → tie.Else1
+at-test c = c .before .before
 
 -- what stands in the slice after it
-copied : (c : tie.After-copy-words) → c .copy-words .last .1 .0 ≡ wordsOf (lent (checked c)) ++ drop (length (lent (checked c)) / 4) (replicate 14742 0)
+copied : (c : tie.After-copy-words) → c .copy-words .last .1 .0 ≡ wordsOf (lent (at-test c .before)) ++ drop (length (lent (at-test c .before)) / 4) (replicate 14742 0)
 copied c =
-    let start = checked c .before .before .before in
-    c .copy-words .ensures ∙ ap (λ (xs : List ℕ). wordsOf (lent (checked c)) ++ drop (length (lent (checked c)) / 4) xs) (start .pre)
+    let start = at-test c .before .before .before .before in
+    c .copy-words .ensures ∙ ap (λ (xs : List ℕ). wordsOf (lent (at-test c .before)) ++ drop (length (lent (at-test c .before)) / 4) xs) (start .pre)
 
 -- past `pages_for`, where the words were copied
 abbrev at-copy : tie.After-pages-for → tie.After-copy-words
 at-copy c = c .before .before .before
-
-abbrev at-test : tie.After-copy-words → tie.Else1
-at-test c = c .before .before
 
 pages-for-requires : tie.Need-pages-for-requires
 pages-for-requires c κs =
