@@ -6,6 +6,14 @@ use image_gen::{Kind, Size, generate, worst};
 use sir_analyses::LINKED;
 use sir_image::Image;
 
+/// Whether there is a library; where there is none, nothing is compared.
+fn is_linked() -> bool {
+    if !LINKED {
+        println!("no library: nothing is compared");
+    }
+    LINKED
+}
+
 /// Compares what is written of these images and of records made from them.
 fn compared(images: impl Iterator<Item = Image>) -> Tally {
     let mut tally = Tally::default();
@@ -19,8 +27,7 @@ fn compared(images: impl Iterator<Item = Image>) -> Tally {
 
 #[test]
 fn small_images() {
-    if !LINKED {
-        println!("no library: nothing is compared");
+    if !is_linked() {
         return;
     }
     let images = Kind::SMALL.iter().flat_map(|&kind| (0..300).map(move |seed| generate(kind, seed)));
@@ -31,8 +38,7 @@ fn small_images() {
 
 #[test]
 fn large_images() {
-    if !LINKED {
-        println!("no library: nothing is compared");
+    if !is_linked() {
         return;
     }
     let large = Kind::LARGE.iter().flat_map(|&kind| (0..3).map(move |seed| generate(kind, seed)));
@@ -42,8 +48,7 @@ fn large_images() {
 
 #[test]
 fn known_records() {
-    if !LINKED {
-        println!("no library: nothing is compared");
+    if !is_linked() {
         return;
     }
     if let Err(found) = writing::known_with_library(&mut Tally::default()) {
