@@ -54,15 +54,17 @@ pub fn intersects<'a>(set: &'a [u64], other: &'a [u64]) -> bool
 }
 
 // The walk: the members, ascending, to the front of `out`, and how many. Each is its word's lowest one, which is then cleared.
+// A word's number is counted in eight bits; 64 times it can need nine, so it is widened first.
 pub fn list(set: &[u64], out: &mut [u32]) -> usize
     requires { ⌜ (length (now set) ≡ 8) × (512 ≤ length (now out)) ⌝ }
     ensures { λ r. ⌜ (r ≡ length (members (now (set .entry)))) × (now (out .exit) ≡ members (now (set .entry)) ++ drop r (now (out .entry))) ⌝ }
 {
     let mut n: usize = 0;
-    let mut at: usize = 0;
+    let mut at: u8 = 0;
     while at < 8 {
-        let base = (64 * at) as u32;
-        let mut w = set[at];
+        let word = at as usize;
+        let base = (64 * word) as u32;
+        let mut w = set[word];
         while w != 0 {
             out[n] = base + u64::trailing_zeros(w);
             n += 1;

@@ -11,10 +11,10 @@ use Rattle.plank_core.proofs.dense_index_set.list.Statement.{statement}
 use Rattle.plank_core.proofs.dense_index_set.list.Tie as tie
 
 abbrev Inv-loop2 : tie.InvT-loop2
-Inv-loop2 set out₀ n₀ at base w₀ out n w = (w < 2 ^ 64) × (n ≤ 512) × (n₀ ≤ n) × Walked set out₀ out n (digitsFrom 64 (64 * at) w ++ from set (at + 1))
+Inv-loop2 set out₀ n₀ at word base w₀ out n w = (w < 2 ^ 64) × (n ≤ 512) × (n₀ ≤ n) × Walked set out₀ out n (digitsFrom 64 (64 * at) w ++ from set (at + 1))
 
 abbrev μ-loop2 : tie.MeasureT-loop2
-μ-loop2 set out₀ n₀ at base w₀ out n w = w
+μ-loop2 set out₀ n₀ at word base w₀ out n w = w
 
 abbrev Inv-loop : tie.InvT-loop
 Inv-loop set out₀ n₀ at₀ out n at = (at ≤ 8) × (n ≤ 512) × Walked set out₀ out n (from set at)
@@ -24,6 +24,9 @@ abbrev μ-loop : tie.MeasureT-loop
 
 loop-holds : tie.Need-loop-holds Inv-loop2 μ-loop2 Inv-loop μ-loop
 loop-holds c = (omega arith, omega arith, walk-starts (c .pre .1))
+
+cast-word : tie.Need-cast-word Inv-loop2 μ-loop2 Inv-loop μ-loop
+cast-word c = omega arith
 
 mul-base : tie.Need-mul-base Inv-loop2 μ-loop2 Inv-loop μ-loop
 mul-base c = omega arith
@@ -93,6 +96,7 @@ list-spec =
     Inv-loop
     μ-loop
     loop-holds
+    cast-word
     mul-base
     cast-base
     mul-w
