@@ -13,6 +13,7 @@ use Rattle.sir_data.specs.laws.Bytes.{word-bytes}
 use Rattle.sir_analyses.specs.Order.{blocksRpo}
 use Rattle.sir_analyses.specs.Liveness.{Interval, intervals}
 use Rattle.sir_analyses.specs.Allocation.{allocs, allocAt, base, marked, merged}
+use Rattle.sir_analyses.specs.Flags.{flagsWord}
 use Rattle.sir_analyses.specs.Answers.{intervalWords, intervalsAnswer, allocationAnswer}
 use Rattle.sir_analyses.specs.Kinds.{kindOf, kindWords}
 use Rattle.sir_analyses.specs.declared.allocation_words.AllocKind.{AllocKind}
@@ -97,7 +98,7 @@ module _ (w : List ℕ) (small : Words w) (seq : Words (blocksRpo w)) where
     abbrev front : List ℕ
     front =
         allocAt w a .block ∷ allocAt w a .op ∷ base w (allocAt w a) ∷ getD kind 0 0 ∷ getD kind 1 0 ∷ getD kind 2 0
-        ∷ oneIf (marked w a) ∷ length (merged w a) ∷ []
+        ∷ oneIf (marked w a) ∷ flagsWord w a ∷ length (merged w a) ∷ []
 
     -- the answer, with the words of its kind one by one
     abbrev answer : List ℕ
@@ -105,13 +106,13 @@ module _ (w : List ℕ) (small : Words w) (seq : Words (blocksRpo w)) where
 
     spelled : answer ≡ allocationAnswer w a
     spelled =
-        ap (λ (ks : List ℕ). allocAt w a .block ∷ allocAt w a .op ∷ base w (allocAt w a) ∷ (ks ++ (oneIf (marked w a) ∷ length (merged w a) ∷ intervalWords (merged w a))))
+        ap (λ (ks : List ℕ). allocAt w a .block ∷ allocAt w a .op ∷ base w (allocAt w a) ∷ (ks ++ (oneIf (marked w a) ∷ flagsWord w a ∷ length (merged w a) ∷ intervalWords (merged w a))))
         (sym (three-words (kindOf w (allocAt w a .op))))
 
-    allocation-count : (length (bind answer bytesOf) - 32) / 12 ≡ length (merged w a)
+    allocation-count : (length (bind answer bytesOf) - 36) / 12 ≡ length (merged w a)
     allocation-count = omega (arith, length-bytes answer, interval-count (merged w a))
 
-    answer-ends : EndsSome (bind answer bytesOf) 8 ((length (bind answer bytesOf) - 32) / 12)
+    answer-ends : EndsSome (bind answer bytesOf) 9 ((length (bind answer bytesOf) - 36) / 12)
     answer-ends k h = ends-from (merged w a) k front refl (merged-good w small seq a) (omega (arith, allocation-count))
 
     mark-as : (t : Bool) → mark (oneIf t) ≡ cond t (ascii " escaped") (ascii " kept")
@@ -133,15 +134,15 @@ module _ (w : List ℕ) (small : Words w) (seq : Words (blocksRpo w)) where
         let h : allocationHead a (bind answer bytesOf) ≡
         named (ascii "a") a ++ named (ascii " b") (allocAt w a .block) ++ named (ascii " op") (allocAt w a .op) ++ named (ascii " v") (base w (allocAt w a))
         ++ cond (marked w a) (ascii " escaped") (ascii " kept") = rw (b, o, v, m) (rw (mark-as (marked w a)) refl) in
-        ap (λ (n : ℕ). allocationHead a (bind answer bytesOf) ++ intervalsAt (bind answer bytesOf) 8 n ++ ascii "\n") allocation-count
-        ∙ ap (λ (t : List ℕ). allocationHead a (bind answer bytesOf) ++ t ++ ascii "\n") (texts-from 8 (merged w a) 0 front refl (omega arith) (merged-good w small seq a))
+        ap (λ (n : ℕ). allocationHead a (bind answer bytesOf) ++ intervalsAt (bind answer bytesOf) 9 n ++ ascii "\n") allocation-count
+        ∙ ap (λ (t : List ℕ). allocationHead a (bind answer bytesOf) ++ t ++ ascii "\n") (texts-from 9 (merged w a) 0 front refl (omega arith) (merged-good w small seq a))
         ∙ ap (λ (t : List ℕ). t ++ bind (merged w a) intervalText ++ ascii "\n") h
 
-    pub allocation-least : 8 ≤ length (allocationAnswer w a)
+    pub allocation-least : 9 ≤ length (allocationAnswer w a)
     allocation-least = omega (arith, ap length spelled)
 
-    pub allocation-ends : EndsSome (bind (allocationAnswer w a) bytesOf) 8 ((length (bind (allocationAnswer w a) bytesOf) - 32) / 12)
-    allocation-ends = subst (λ (xs : List ℕ). EndsSome (bind xs bytesOf) 8 ((length (bind xs bytesOf) - 32) / 12)) spelled answer-ends
+    pub allocation-ends : EndsSome (bind (allocationAnswer w a) bytesOf) 9 ((length (bind (allocationAnswer w a) bytesOf) - 36) / 12)
+    allocation-ends = subst (λ (xs : List ℕ). EndsSome (bind xs bytesOf) 9 ((length (bind xs bytesOf) - 36) / 12)) spelled answer-ends
 
     pub allocation-as : allocationLine a (bind (allocationAnswer w a) bytesOf) ≡ allocationText w a
     allocation-as = ap (λ (xs : List ℕ). allocationLine a (bind xs bytesOf)) (sym spelled) ∙ answer-as
@@ -150,5 +151,5 @@ module _ (w : List ℕ) (small : Words w) (seq : Words (blocksRpo w)) where
 pub local-ends-as : {xs ys : List ℕ} → xs ≡ ys → EndsSome ys 0 (length ys / 12) → EndsSome xs 0 (length xs / 12)
 local-ends-as e k = rw (sym e) at k
 
-pub allocation-ends-as : {xs ys : List ℕ} → xs ≡ ys → EndsSome ys 8 ((length ys - 32) / 12) → EndsSome xs 8 ((length xs - 32) / 12)
+pub allocation-ends-as : {xs ys : List ℕ} → xs ≡ ys → EndsSome ys 9 ((length ys - 36) / 12) → EndsSome xs 9 ((length xs - 36) / 12)
 allocation-ends-as e k = rw (sym e) at k

@@ -67,7 +67,7 @@ pub fn local_line(v: u32, answer: &[u8], line: &mut [u8]) -> usize
 
 // The definition and the base of an allocation, and its mark.
 fn put_allocation_head(a: u32, answer: &[u8], line: &mut [u8]) -> usize
-    requires { ⌜ (32 ≤ length (now answer)) × (196608 ≤ length (now line)) ⌝ }
+    requires { ⌜ (36 ≤ length (now answer)) × (196608 ≤ length (now line)) ⌝ }
     ensures { λ r. ⌜ (r ≤ 100) × Put (allocationHead a (now (answer .entry))) 0 (now (line .entry)) (now (line .exit)) r ⌝ }
 {
     let i = put_named(line, 0, b"a", a);
@@ -82,11 +82,11 @@ fn put_allocation_head(a: u32, answer: &[u8], line: &mut [u8]) -> usize
 
 // Allocation a by its answer.
 pub fn allocation_line(a: u32, answer: &[u8], line: &mut [u8]) -> usize
-    requires { ⌜ (32 ≤ length (now answer)) × (length (now answer) ≤ 65536) × (196608 ≤ length (now line)) ⌝ }
-    requires { ⌜ EndsSome (now answer) 8 ((length (now answer) - 32) / 12) ⌝ }
+    requires { ⌜ (36 ≤ length (now answer)) × (length (now answer) ≤ 65536) × (196608 ≤ length (now line)) ⌝ }
+    requires { ⌜ EndsSome (now answer) 9 ((length (now answer) - 36) / 12) ⌝ }
     ensures { λ r. ⌜ Put (allocationLine a (now (answer .entry))) 0 (now (line .entry)) (now (line .exit)) r ⌝ }
 {
     let m = put_allocation_head(a, answer, line);
-    let n = put_intervals_at(line, m, answer, 8, (answer.len() - 32) / 12);
+    let n = put_intervals_at(line, m, answer, 9, (answer.len() - 36) / 12);
     put_text(line, n, b"\n")
 }

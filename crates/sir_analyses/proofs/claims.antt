@@ -3,6 +3,7 @@ pub mod order
 pub mod liveness
 pub mod source
 pub mod marks
+pub mod flags
 pub mod lifetimes
 pub mod Proved
 pub mod WriteBackProof

@@ -6,6 +6,7 @@ use Rattle.plank_core.specs.Lists.{bind, oneIf}
 use Rattle.sir_analyses.specs.Order.{functionsRpo, functionBlocks, predecessors}
 use Rattle.sir_analyses.specs.Liveness.{uses, members, entrySet, exitSet, rounds, Interval, intervals}
 use Rattle.sir_analyses.specs.Allocation.{allocAt, base, marked, merged, owners}
+use Rattle.sir_analyses.specs.Flags.{flagsWord}
 use Rattle.sir_analyses.specs.Kinds.{kindOf, kindWords}
 
 -- order: for each function of `functions_rpo` its id, its block count, its block ids
@@ -36,12 +37,12 @@ intervalWords is = bind is (λ i. i .block ∷ i .from ∷ i .to ∷ [])
 abbrev pub intervalsAnswer : List ℕ → ℕ → List ℕ
 intervalsAnswer w v = intervalWords (intervals w v)
 
--- an allocation: defining block, operation, base local, its three words of kind, mark, interval count, intervals
+-- an allocation: defining block, operation, base local, its three words of kind, mark, flags, interval count, intervals
 abbrev pub allocationAnswer : List ℕ → ℕ → List ℕ
 allocationAnswer w a =
     let x = allocAt w a in
     x .block ∷ x .op ∷ base w x
-    ∷ (kindWords (kindOf w (x .op)) ++ (oneIf (marked w a) ∷ length (merged w a) ∷ intervalWords (merged w a)))
+    ∷ (kindWords (kindOf w (x .op)) ++ (oneIf (marked w a) ∷ flagsWord w a ∷ length (merged w a) ∷ intervalWords (merged w a)))
 
 -- owner of a local: allocation + 1, or 0
 abbrev pub ownerAnswer : List ℕ → ℕ → List ℕ

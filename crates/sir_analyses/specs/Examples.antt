@@ -109,7 +109,7 @@ neighbours = (intervalWords (merge (sort (interval 0 1 3 ∷ interval 0 4 5 ∷ 
 
 -- `MemoryStore` v1, v1 of a pointer: marked
 abbrev stored-itself : Row
-stored-itself = (allocationAnswer storesItself 0, 0 ∷ 0 ∷ 1 ∷ 0 ∷ 32 ∷ 0 ∷ 1 ∷ 0 ∷ [])
+stored-itself = (allocationAnswer storesItself 0, 0 ∷ 0 ∷ 1 ∷ 0 ∷ 32 ∷ 0 ∷ 1 ∷ 1 ∷ 0 ∷ [])
 
 -- pointers v1 and v2 added: the sum is owned by the later
 abbrev later-owner : Row
@@ -169,27 +169,27 @@ table =
     -- `MemoryStore` v1, v1 of a pointer: marked
     ∷ stored-itself
     -- as address only: unmarked
-    ∷ (allocationAnswer storesThere 0, 0 ∷ 1 ∷ 1 ∷ 0 ∷ 32 ∷ 0 ∷ 0 ∷ 1 ∷ 0 ∷ 2 ∷ 3 ∷ [])
+    ∷ (allocationAnswer storesThere 0, 0 ∷ 1 ∷ 1 ∷ 0 ∷ 32 ∷ 0 ∷ 0 ∷ 0 ∷ 1 ∷ 0 ∷ 2 ∷ 3 ∷ [])
     -- request R-2: a pointer as topic, marked
-    ∷ (allocationAnswer (logs 1 2) 0, 0 ∷ 1 ∷ 1 ∷ 0 ∷ 32 ∷ 0 ∷ 1 ∷ 0 ∷ [])
+    ∷ (allocationAnswer (logs 1 2) 0, 0 ∷ 1 ∷ 1 ∷ 0 ∷ 32 ∷ 0 ∷ 1 ∷ 1 ∷ 0 ∷ [])
     -- as offset or size only: unmarked
-    ∷ (allocationAnswer (logs 1 0) 0, 0 ∷ 1 ∷ 1 ∷ 0 ∷ 32 ∷ 0 ∷ 0 ∷ 1 ∷ 0 ∷ 2 ∷ 3 ∷ [])
-    ∷ (allocationAnswer (logs 1 1) 0, 0 ∷ 1 ∷ 1 ∷ 0 ∷ 32 ∷ 0 ∷ 0 ∷ 1 ∷ 0 ∷ 2 ∷ 3 ∷ [])
+    ∷ (allocationAnswer (logs 1 0) 0, 0 ∷ 1 ∷ 1 ∷ 0 ∷ 32 ∷ 0 ∷ 0 ∷ 0 ∷ 1 ∷ 0 ∷ 2 ∷ 3 ∷ [])
+    ∷ (allocationAnswer (logs 1 1) 0, 0 ∷ 1 ∷ 1 ∷ 0 ∷ 32 ∷ 0 ∷ 0 ∷ 0 ∷ 1 ∷ 0 ∷ 2 ∷ 3 ∷ [])
     -- and so at every position of every log
     ∷ (map (λ w. oneIf (marked w 0)) allLogs, logMarks)
     -- and by the source's own steps, its arms for `Log1` to `Log4` altered
     ∷ (map (λ w. oneIf (sourceMarked w 0)) allLogs, logMarks)
     -- pointers v1 and v2 added: both marked, the sum owned by the later
-    ∷ (allocationAnswer added 0, 0 ∷ 0 ∷ 1 ∷ 0 ∷ 32 ∷ 0 ∷ 1 ∷ 0 ∷ [])
-    ∷ (allocationAnswer added 1, 0 ∷ 1 ∷ 2 ∷ 0 ∷ 32 ∷ 0 ∷ 1 ∷ 0 ∷ [])
+    ∷ (allocationAnswer added 0, 0 ∷ 0 ∷ 1 ∷ 0 ∷ 32 ∷ 0 ∷ 1 ∷ 4 ∷ 0 ∷ [])
+    ∷ (allocationAnswer added 1, 0 ∷ 1 ∷ 2 ∷ 0 ∷ 32 ∷ 0 ∷ 1 ∷ 4 ∷ 0 ∷ [])
     ∷ later-owner
     -- and so by the source's own steps
     ∷ (sourceState added .owner, 0 ∷ 1 ∷ 2 ∷ 2 ∷ [])
     ∷ (map (λ a. oneIf (sourceMarked added a)) (0 ∷ 1 ∷ []), 1 ∷ 1 ∷ [])
     -- pointer as branch condition: unmarked, block end
-    ∷ (allocationAnswer tested 0, 0 ∷ 0 ∷ 0 ∷ 0 ∷ 32 ∷ 0 ∷ 0 ∷ 1 ∷ 0 ∷ 1 ∷ blockEnd ∷ [])
+    ∷ (allocationAnswer tested 0, 0 ∷ 0 ∷ 0 ∷ 0 ∷ 32 ∷ 0 ∷ 0 ∷ 0 ∷ 1 ∷ 0 ∷ 1 ∷ blockEnd ∷ [])
     -- unused allocation: unmarked, no interval
-    ∷ (allocationAnswer unused 0, 0 ∷ 0 ∷ 0 ∷ 0 ∷ 32 ∷ 0 ∷ 0 ∷ 0 ∷ [])
+    ∷ (allocationAnswer unused 0, 0 ∷ 0 ∷ 0 ∷ 0 ∷ 32 ∷ 0 ∷ 0 ∷ 0 ∷ 0 ∷ [])
     -- a page zero but for word 1 = 1: check 251
     ∷ (checkOf (pageWord pageOne 0) ∷ [], 251 ∷ [])
     -- the image of `report`: order b0 b1
@@ -209,7 +209,7 @@ table =
     ∷ (intervalsAnswer report 2, 1 ∷ 0 ∷ 4 ∷ [])
     ∷ (intervalsAnswer report 3, [])
     -- a0 b0 op1 v1 kept b0 1..end b1 start..3
-    ∷ (allocationAnswer report 0, 0 ∷ 1 ∷ 1 ∷ 0 ∷ 32 ∷ 0 ∷ 0 ∷ 2 ∷ 0 ∷ 2 ∷ blockEnd ∷ 1 ∷ 0 ∷ 4 ∷ [])
+    ∷ (allocationAnswer report 0, 0 ∷ 1 ∷ 1 ∷ 0 ∷ 32 ∷ 0 ∷ 0 ∷ 0 ∷ 2 ∷ 0 ∷ 2 ∷ blockEnd ∷ 1 ∷ 0 ∷ 4 ∷ [])
     -- v1 is used by operation 2 and as output 0 of block 0; v2 is owned by allocation 0
     ∷ (usesAnswer report 1, 0 ∷ 0 ∷ 2 ∷ 0 ∷ 2 ∷ 0 ∷ [])
     ∷ (ownerAnswer report 2, 1 ∷ [])
@@ -237,7 +237,7 @@ table =
     ∷ (intervalWords (sourceLocalIntervals looping 2), 1 ∷ 2 ∷ blockEnd ∷ [])
     ∷ source-merging
     ∷ (intervalWords (sourceIntervals looping 0), 0 ∷ 1 ∷ blockEnd ∷ 1 ∷ 0 ∷ blockEnd ∷ 2 ∷ 0 ∷ blockEnd ∷ [])
-    ∷ (allocationAnswer looping 0, 0 ∷ 0 ∷ 0 ∷ 0 ∷ 32 ∷ 0 ∷ 0 ∷ 3 ∷ 0 ∷ 1 ∷ blockEnd ∷ 1 ∷ 0 ∷ blockEnd ∷ 2 ∷ 0 ∷ blockEnd ∷ [])
+    ∷ (allocationAnswer looping 0, 0 ∷ 0 ∷ 0 ∷ 0 ∷ 32 ∷ 0 ∷ 0 ∷ 0 ∷ 3 ∷ 0 ∷ 1 ∷ blockEnd ∷ 1 ∷ 0 ∷ blockEnd ∷ 2 ∷ 0 ∷ blockEnd ∷ [])
     ∷ []
 
 -- every row holds

@@ -7,10 +7,11 @@ pub mod SourceLiveness
 pub mod Source
 pub mod SourceIntervals
 pub mod Kinds
+pub mod Claims
+pub mod Flags
 pub mod Answers
 pub mod All
 pub mod Calls
-pub mod Claims
 pub mod Walk
 pub mod Open
 pub mod Promise

@@ -2,6 +2,7 @@
 use mathlib.Core.List.{List}
 use Prim.Native.Nat.{ℕ}
 use Rattle.sir_analyses.specs.Claims.{OrderRule, LivenessRule, MarkRule, SourceRule}
+use Rattle.sir_analyses.specs.Flags.{FlagRule}
 use Rattle.sir_analyses.specs.Walk.{Lifetimes}
 use Rattle.sir_analyses.specs.Open.{OpenRule, CrossingRule}
 
@@ -13,6 +14,8 @@ pub record Promise (w : List ℕ) : Type 0 where
   pub liveness : LivenessRule w
   -- an allocation is marked just by the reach rule
   pub marks : MarkRule w
+  -- and its flags tell by what: each is set just by its rule, and the mark where some flag is
+  pub flags : FlagRule w
   -- the source's own loops come to the same
   pub source : SourceRule w
   -- on whole walks, what is read lies in the answered intervals

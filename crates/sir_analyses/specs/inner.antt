@@ -4,6 +4,7 @@ pub mod Writing
 pub mod Uses
 pub mod Tables
 pub mod Pointers
+pub mod Following
 pub mod Discovery
 pub mod Stages
 pub mod Loading

@@ -7,8 +7,10 @@ use crate::answers::Answer;
 use crate::answers::finish;
 use crate::merged_intervals::populate_intervals_from_local_liveness;
 use crate::pointer_links::pointer_links;
+use crate::stages::CAUSES;
 use crate::stages::LINKS;
 use crate::stages::alloc_sites;
+use crate::stages::flags_of;
 use crate::stages::is_marked;
 use crate::stages::owner_of;
 use plank_core::index::AllocId;
@@ -29,7 +31,7 @@ ghost use Rattle.sir_data.specs.inner.WellFormed.{WellFormed};
 ghost use Rattle.sir_analyses.specs.Allocation.{allocs, marked};
 ghost use Rattle.sir_analyses.specs.Answers.{allocationAnswer};
 ghost use Rattle.sir_analyses.specs.Calls.{made, answered};
-ghost use Rattle.sir_analyses.specs.inner.Discovery.{Site, Unmarked};
+ghost use Rattle.sir_analyses.specs.inner.Discovery.{Site, FlagsOf, Unmarked};
 ghost use Rattle.sir_analyses.specs.inner.Stages.{VisitStage, AcceptedStage, LivenessStage, PointerStage, ownersIn};
 
 // Adds the locals that allocation a owns to an empty set.
@@ -48,15 +50,15 @@ pub fn owned_locals(words: &[u32], pointers: &[u32], a: AllocId, set: &mut [u64]
     }
 }
 
-// The record of a marked allocation: it has no intervals.
-pub fn marked_answer(words: &[u32], site: AllocSite, out: &mut [u8]) -> Answer
+// The record of a marked allocation, with its flags: it has no intervals.
+pub fn marked_answer(words: &[u32], site: AllocSite, flags: u32, out: &mut [u8]) -> Answer
     requires { ⌜ WellFormed (now words) ⌝ }
     requires { ⌜ ((a : ℕ) × Site (now words) a (site .block .0) (site .op .0)) ⌝ }
-    ensures { λ r. ⌜ ((a : ℕ) → Site (now (words .entry)) a (site .block .0) (site .op .0) → marked (now (words .entry)) a ≡ true → made (r .number) (r .length) (now (out .exit)) ≡ answered (bind (allocationAnswer (now (words .entry)) a) bytesOf) (now (out .entry))) ⌝ }
+    ensures { λ r. ⌜ ((a : ℕ) → Site (now (words .entry)) a (site .block .0) (site .op .0) → FlagsOf (now (words .entry)) a flags → marked (now (words .entry)) a ≡ true → made (r .number) (r .length) (now (out .exit)) ≡ answered (bind (allocationAnswer (now (words .entry)) a) bytesOf) (now (out .entry))) ⌝ }
 {
-    let answer = finish(8, out.len());
+    let answer = finish(9, out.len());
     let end = answer.length as usize;
-    put_head(words, site, 1, 0, &mut out[..end]);
+    put_head(words, site, flags, 0, &mut out[..end]);
     answer
 }
 
@@ -74,11 +76,11 @@ fn record_answer(
     requires { ⌜ ((a : ℕ) × Unmarked (now words) (site .block .0) (site .op .0) (now reach) a) ⌝ }
     ensures { λ r. ⌜ ((a : ℕ) → Unmarked (now (words .entry)) (site .block .0) (site .op .0) (now (reach .entry)) a → made (r .number) (r .length) (now (out .exit)) ≡ answered (bind (allocationAnswer (now (words .entry)) a) bytesOf) (now (out .entry))) ⌝ }
 {
-    let n = populate_intervals_from_local_liveness(words, visit, live, reach, 8, &mut []);
+    let n = populate_intervals_from_local_liveness(words, visit, live, reach, 9, &mut []);
     let answer = finish(n, out.len());
     let end = answer.length as usize;
-    put_head(words, site, 0, ((n - 8) / 3) as u32, &mut out[..end]);
-    populate_intervals_from_local_liveness(words, visit, live, reach, 8, &mut out[..end]);
+    put_head(words, site, 0, ((n - 9) / 3) as u32, &mut out[..end]);
+    populate_intervals_from_local_liveness(words, visit, live, reach, 9, &mut out[..end]);
     answer
 }
 
@@ -98,7 +100,7 @@ pub fn allocation_answer(
 {
     let site = site_of(alloc_sites(pointers), a);
     if is_marked(pointers, a) {
-        return marked_answer(words, site, out);
+        return marked_answer(words, site, flags_of(pointers, a), out);
     }
     let mut reach = [0u64; 8];
     owned_locals(words, pointers, a, &mut reach);
@@ -112,7 +114,7 @@ pub fn compute_pointers(words: &[u32], visit: &[u32], sites: &[u32], pointers: &
     ensures { λ _. ⌜ PointerStage (now (words .entry)) (now (pointers .exit)) ⌝ }
 {
     let mut links = [0u64; LINKS];
-    let mut escaping = [0u64; 8];
-    pointer_links(words, visit, &mut links, &mut escaping);
-    discover_allocations(words, sites, &links, &escaping, pointers);
+    let mut causes = [0u64; CAUSES];
+    pointer_links(words, visit, &mut links, &mut causes);
+    discover_allocations(words, sites, &links, &causes, pointers);
 }

@@ -1,8 +1,10 @@
-// Allocations: the allocation operations of visited blocks, in the order's sequence; their owners and marks.
+// Allocations: the allocation operations of visited blocks, in the order's sequence; the owners of locals, and what marks each allocation.
 use crate::stages::ALLOCATIONS;
+use crate::stages::ESCAPING;
+use crate::stages::FLAGS;
 use crate::stages::LEFT;
-use crate::stages::MARKS;
 use crate::stages::OWNERS;
+use crate::stages::RETURNED;
 use crate::stages::SITES;
 use crate::stages::WORK;
 use crate::stages::rpo;
@@ -22,16 +24,17 @@ ghost use mathlib.Core.Path.{_≡_};
 ghost use mathlib.Core.Bool.{true};
 ghost use mathlib.Core.List.{List, _∷_, []};
 ghost use Prim.Native.Nat.{ℕ, _+_, _*_, _<_, _≤_};
-ghost use lib.ListN.{length, getD, replicate};
-ghost use Rattle.plank_core.specs.inner.DenseIndexSet.{contains};
+ghost use lib.ListN.{length, getD, set, replicate};
+ghost use lib.Bits.{bitOr};
 ghost use Rattle.sir_data.specs.Records.{blocks, operations, locals, code, outs};
 ghost use Rattle.sir_data.specs.Codes.{isAlloc};
 ghost use Rattle.sir_data.specs.inner.WellFormed.{WellFormed};
 ghost use Rattle.sir_analyses.specs.Allocation.{rule12, allocs, allocAt, base, bases};
 ghost use Rattle.sir_analyses.specs.inner.Pointers.{PointerRows};
-ghost use Rattle.sir_analyses.specs.Propagation.{linkLocal, follow};
-ghost use Rattle.sir_analyses.specs.inner.Discovery.{allocSites, blockSites, Capped, Site, linksIn};
-ghost use Rattle.sir_analyses.specs.inner.Stages.{VisitStage, AcceptedStage, PointerStage, PointerRoom, PointerStep, PointersFollowed, SitesStored, leftIn};
+ghost use Rattle.sir_analyses.specs.Flags.{found};
+ghost use Rattle.sir_analyses.specs.inner.Following.{linkAll, followLocal};
+ghost use Rattle.sir_analyses.specs.inner.Discovery.{allocSites, blockSites, Capped, Site, linksIn, usedIn};
+ghost use Rattle.sir_analyses.specs.inner.Stages.{VisitStage, AcceptedStage, PointerStage, PointerRoom, PointerStep, PointersFollowed, SitesStored, ownersIn, leftIn};
 
 // The allocations of a block after the first `at` of `sites`, each as one number: 1024 times the block, plus the operation. Where
 // there is no room for one of them, a number past the end of `sites`.
@@ -146,59 +149,120 @@ fn own_bases(words: &[u32], sites: &[u32], owners: &mut [u32])
     }
 }
 
-// A local comes to allocation a: its new owner replaces the old one, and a local that nobody had goes on the work list. Where
-// another had it, both are marked.
-fn link_local_to_alloc(pointers: &mut [u32], local: LocalId, a: AllocId)
+// The flags of an allocation, added up: what marks it.
+pub const ESCAPE_FLAG: u32 = 1;
+
+pub const RETURN_FLAG: u32 = 2;
+
+pub const MEETING_FLAG: u32 = 4;
+
+// What linking a local to an allocation tells: nobody had the local, the allocation had it before, or another did.
+pub enum Found {
+    First,
+    Before,
+    Met(AllocId),
+}
+
+// A local comes to allocation a: its new owner replaces the old one. Tells whom the local was found with.
+fn link_local_to_alloc(pointers: &mut [u32], local: LocalId, a: AllocId) -> Found
     requires { ⌜ PointerRoom (now pointers) ⌝ }
     requires { ⌜ (local .0 < 512) × (a .0 < 512) ⌝ }
-    ensures { λ _. ⌜ PointerStep (local .0 ∷ []) (a .0) (λ s. linkLocal (a .0) s (local .0)) (now (pointers .entry)) (now (pointers .exit)) ⌝ }
+    ensures { λ r. ⌜ r ≡ found (a .0) (getD (ownersIn (now (pointers .entry))) (local .0) 0) ⌝ }
+    ensures { λ _. ⌜ now (pointers .exit) ≡ set (now (pointers .entry)) (514 + local .0) (a .0 + 1) ⌝ }
 {
     let at = OWNERS + local.0 as usize;
     let old = pointers[at];
     pointers[at] = a.0 + 1;
     if old == 0 {
-        let n = pointers[LEFT];
-        pointers[WORK + n as usize] = local.0;
-        pointers[LEFT] = n + 1;
-        return;
+        return Found::First;
     }
-    if old != a.0 + 1 {
-        pointers[MARKS + a.0 as usize] = 1;
-        pointers[MARKS + old as usize - 1] = 1;
+    if old == a.0 + 1 {
+        return Found::Before;
+    }
+    Found::Met(AllocId(old - 1))
+}
+
+// Puts a local on the work list.
+fn push_local(pointers: &mut [u32], local: LocalId)
+    requires { ⌜ (length (now pointers) ≡ 2051) × (leftIn (now pointers) < 513) ⌝ }
+    ensures { λ _. ⌜ now (pointers .exit) ≡ set (set (now (pointers .entry)) (1538 + leftIn (now (pointers .entry))) (local .0)) 1 (leftIn (now (pointers .entry)) + 1) ⌝ }
+{
+    let n = pointers[LEFT];
+    pointers[WORK + n as usize] = local.0;
+    pointers[LEFT] = n + 1;
+}
+
+// Sets a flag of allocation a.
+fn set_flag(pointers: &mut [u32], a: AllocId, flag: u32)
+    requires { ⌜ (length (now pointers) ≡ 2051) × (a .0 < 512) ⌝ }
+    ensures { λ _. ⌜ now (pointers .exit) ≡ set (now (pointers .entry)) (1026 + a .0) (bitOr (getD (now (pointers .entry)) (1026 + a .0) 0) flag) ⌝ }
+{
+    let at = FLAGS + a.0 as usize;
+    pointers[at] = pointers[at] | flag;
+}
+
+// Links a local to allocation a, and acts on what that tells: where the allocation was first there the local goes on the work list, and
+// where it met another both are flagged.
+fn reach_local(pointers: &mut [u32], local: LocalId, a: AllocId)
+    requires { ⌜ PointerRoom (now pointers) ⌝ }
+    requires { ⌜ (local .0 < 512) × (a .0 < 512) ⌝ }
+    ensures { λ _. ⌜ PointerStep (local .0 ∷ []) (a .0) (linkAll (a .0) (local .0 ∷ [])) (now (pointers .entry)) (now (pointers .exit)) ⌝ }
+{
+    match link_local_to_alloc(pointers, local, a) {
+        Found::First => {
+            push_local(pointers, local);
+        }
+        Found::Before => {}
+        Found::Met(other) => {
+            set_flag(pointers, a, MEETING_FLAG);
+            set_flag(pointers, other, MEETING_FLAG);
+        }
     }
 }
 
-// Links all that a local carries on, and marks allocation a where the local escapes.
-fn follow_local(links: &[u64], escaping: &[u64], pointers: &mut [u32], local: LocalId, a: AllocId)
-    requires { ⌜ (length (now links) ≡ 4096) × (length (now escaping) ≡ 8) ⌝ }
+// Flags allocation a by each cause for which a local is used.
+fn flag_uses(causes: &[u64], pointers: &mut [u32], local: LocalId, a: AllocId)
+    requires { ⌜ (length (now causes) ≡ 16) × PointerRoom (now pointers) ⌝ }
+    requires { ⌜ (local .0 < 512) × (a .0 < 512) ⌝ }
+    ensures { λ _. ⌜ PointerStep [] (a .0) (followLocal [] (usedIn (now (causes .entry)) (local .0)) (a .0)) (now (pointers .entry)) (now (pointers .exit)) ⌝ }
+{
+    if row_contains(causes, ESCAPING, local.0) {
+        set_flag(pointers, a, ESCAPE_FLAG);
+    }
+    if row_contains(causes, RETURNED, local.0) {
+        set_flag(pointers, a, RETURN_FLAG);
+    }
+}
+
+// Follows a local that allocation a was first to reach: links all that it carries on, and flags the allocation by its uses.
+fn follow_local(links: &[u64], causes: &[u64], pointers: &mut [u32], local: LocalId, a: AllocId)
+    requires { ⌜ (length (now links) ≡ 4096) × (length (now causes) ≡ 16) ⌝ }
     requires { ⌜ PointerRoom (now pointers) ⌝ }
     requires { ⌜ (local .0 < 512) × (a .0 < 512) ⌝ }
-    ensures { λ _. ⌜ PointerStep (linksIn (now (links .entry)) (local .0)) (a .0) (follow (linksIn (now (links .entry)) (local .0)) (contains (now (escaping .entry)) (local .0)) (a .0)) (now (pointers .entry)) (now (pointers .exit)) ⌝ }
+    ensures { λ _. ⌜ PointerStep (linksIn (now (links .entry)) (local .0)) (a .0) (followLocal (linksIn (now (links .entry)) (local .0)) (usedIn (now (causes .entry)) (local .0)) (a .0)) (now (pointers .entry)) (now (pointers .exit)) ⌝ }
 {
     let mut found = [0u32; 512];
     let count = list(row_of(links, local.0 as usize), &mut found);
     let mut i: usize = 0;
     while i < count {
-        link_local_to_alloc(pointers, LocalId(found[i]), a);
+        reach_local(pointers, LocalId(found[i]), a);
         i += 1;
     }
-    if row_contains(escaping, 0, local.0) {
-        pointers[MARKS + a.0 as usize] = 1;
-    }
+    flag_uses(causes, pointers, local, a);
 }
 
 // Follows allocation a from its base, and from every local that nobody had.
 fn propagate_pointers_and_mark_escapes(
     links: &[u64],
-    escaping: &[u64],
+    causes: &[u64],
     pointers: &mut [u32],
     base: LocalId,
     a: AllocId,
 )
-    requires { ⌜ (length (now links) ≡ 4096) × (length (now escaping) ≡ 8) ⌝ }
+    requires { ⌜ (length (now links) ≡ 4096) × (length (now causes) ≡ 16) ⌝ }
     requires { ⌜ PointerRoom (now pointers) × (leftIn (now pointers) ≡ 0) ⌝ }
     requires { ⌜ (base .0 < 512) × (a .0 < 512) ⌝ }
-    ensures { λ _. ⌜ PointersFollowed (now (links .entry)) (now (escaping .entry)) (a .0) (base .0) (now (pointers .entry)) (now (pointers .exit)) ⌝ }
+    ensures { λ _. ⌜ PointersFollowed (now (links .entry)) (now (causes .entry)) (a .0) (base .0) (now (pointers .entry)) (now (pointers .exit)) ⌝ }
 {
     pointers[WORK] = base.0;
     pointers[LEFT] = 1;
@@ -206,7 +270,7 @@ fn propagate_pointers_and_mark_escapes(
         let n = pointers[LEFT] - 1;
         pointers[LEFT] = n;
         let local = LocalId(pointers[WORK + n as usize]);
-        follow_local(links, escaping, pointers, local, a);
+        follow_local(links, causes, pointers, local, a);
     }
 }
 
@@ -223,24 +287,24 @@ fn store_sites(sites: &[u32], pointers: &mut [u32])
     }
 }
 
-// Owners and marks: at first each base is owned by its own allocation, then allocations are followed in turn.
+// Owners and flags: at first each base is owned by its own allocation, then allocations are followed in turn.
 pub fn discover_allocations(
     words: &[u32],
     sites: &[u32],
     links: &[u64],
-    escaping: &[u64],
+    causes: &[u64],
     pointers: &mut [u32],
 )
     requires { ⌜ AcceptedStage (now words) (now sites) ⌝ }
-    requires { ⌜ PointerRows (now words) (now links) (now escaping) × (now pointers ≡ replicate 2051 0) ⌝ }
+    requires { ⌜ PointerRows (now words) (now links) (now causes) × (now pointers ≡ replicate 2051 0) ⌝ }
     ensures { λ _. ⌜ PointerStage (now (words .entry)) (now (pointers .exit)) ⌝ }
 {
     store_sites(sites, pointers);
-    own_bases(words, sites, &mut pointers[OWNERS..MARKS]);
+    own_bases(words, sites, &mut pointers[OWNERS..FLAGS]);
     let mut i: usize = 0;
     while i < sites.len() {
         let base = base_of(words, sites, AllocId(i as u32));
-        propagate_pointers_and_mark_escapes(links, escaping, pointers, base, AllocId(i as u32));
+        propagate_pointers_and_mark_escapes(links, causes, pointers, base, AllocId(i as u32));
         i += 1;
     }
 }

@@ -1,4 +1,4 @@
-// The first eight words of an allocation's record.
+// The first nine words of an allocation's record.
 use crate::allocation_liveness::AllocSite;
 use crate::allocation_liveness::base_ptr;
 use crate::answers::put_words;
@@ -8,10 +8,12 @@ use sir_data::codes::is_dynamic_alloc;
 use sir_data::records::op_inputs;
 use sir_data::records::op_word;
 ghost use mathlib.Core.Path.{_≡_};
-ghost use mathlib.Core.Bool.{true};
+ghost use mathlib.Core.Bool.{true, not};
 ghost use mathlib.Core.List.{_∷_, []};
 ghost use Prim.Native.Nat.{_≤_, _<_};
 ghost use lib.ListN.{length};
+ghost use lib.Dec.{eqb};
+ghost use Rattle.plank_core.specs.Lists.{oneIf};
 ghost use Rattle.sir_data.specs.Records.{operations, code};
 ghost use Rattle.sir_data.specs.Codes.{isAlloc};
 ghost use Rattle.sir_data.specs.inner.WellFormed.{WellFormed};
@@ -59,30 +61,41 @@ fn kind_words(k: AllocKind) -> KindWords
     }
 }
 
-// The first eight words of an allocation's record.
-pub struct AllocHead {
-    pub words: [u32; 8],
+// The mark that goes with some flags.
+fn mark_of(flags: u32) -> u32
+    ensures { λ r. ⌜ r ≡ oneIf (not (eqb flags 0)) ⌝ }
+{
+    if flags == 0 {
+        return 0;
+    }
+    1
 }
 
-pub fn alloc_head(words: &[u32], site: AllocSite, mark: u32, count: u32) -> AllocHead
+// The first nine words of an allocation's record.
+pub struct AllocHead {
+    pub words: [u32; 9],
+}
+
+pub fn alloc_head(words: &[u32], site: AllocSite, flags: u32, count: u32) -> AllocHead
     requires { ⌜ WellFormed (now words) ⌝ }
     requires { ⌜ (site .op .0 < operations (now words)) × (isAlloc (code (now words) (site .op .0)) ≡ true) ⌝ }
-    ensures { λ r. ⌜ r .words ≡ headWords (now (words .entry)) (site .block .0) (site .op .0) mark count ⌝ }
+    ensures { λ r. ⌜ r .words ≡ headWords (now (words .entry)) (site .block .0) (site .op .0) flags count ⌝ }
 {
     let b = site.block;
     let o = site.op;
     let base = base_ptr(words, o);
     let k = kind_words(alloc_kind(words, o));
-    let head = [b.0, o.0, base.0, k.kind, k.size, k.id, mark, count];
+    let mark = mark_of(flags);
+    let head = [b.0, o.0, base.0, k.kind, k.size, k.id, mark, flags, count];
     AllocHead { words: head }
 }
 
 // The same, put at the front of an answer.
-pub fn put_head(words: &[u32], site: AllocSite, mark: u32, count: u32, out: &mut [u8]) -> usize
+pub fn put_head(words: &[u32], site: AllocSite, flags: u32, count: u32, out: &mut [u8]) -> usize
     requires { ⌜ WellFormed (now words) ⌝ }
     requires { ⌜ (site .op .0 < operations (now words)) × (isAlloc (code (now words) (site .op .0)) ≡ true) ⌝ }
-    ensures { λ r. ⌜ Puts 0 (headWords (now (words .entry)) (site .block .0) (site .op .0) mark count) (now (out .entry)) (now (out .exit)) r ⌝ }
+    ensures { λ r. ⌜ Puts 0 (headWords (now (words .entry)) (site .block .0) (site .op .0) flags count) (now (out .entry)) (now (out .exit)) r ⌝ }
 {
-    let head = alloc_head(words, site, mark, count);
+    let head = alloc_head(words, site, flags, count);
     put_words(out, 0, &head.words)
 }

@@ -134,7 +134,7 @@ pub fn populate_intervals_from_local_liveness(
 ) -> usize
     requires { ⌜ VisitStage (now words) (now visit) ⌝ }
     requires { ⌜ LivenessStage (now words) (now live) ⌝ }
-    requires { ⌜ (length (now reach) ≡ 8) × (n ≤ 8) ⌝ }
+    requires { ⌜ (length (now reach) ≡ 8) × (n ≤ 9) ⌝ }
     ensures { λ r. ⌜ (r ≤ n + 787200) × ((s : Set) → length s ≡ locals (now (words .entry)) → Same (now (reach .entry)) s → Puts n (intervalWords (sweepFrom (now (words .entry)) s (upto (blocks (now (words .entry)))))) (now (out .entry)) (now (out .exit)) r) ⌝ }
 {
     let count = block_count(words);

@@ -1,6 +1,8 @@
-// Where a pointer goes from each local in one step, and which locals mark what reaches them: both are found in one pass over the
+// Where a pointer goes from each local in one step, and which locals flag who is first to reach them: both are found in one pass over the
 // operations and one over the blocks.
 use crate::block_sets::add_run;
+use crate::stages::ESCAPING;
+use crate::stages::RETURNED;
 use crate::stages::rpo;
 use plank_core::index::BlockId;
 use plank_core::index::OpIdx;
@@ -81,36 +83,36 @@ fn link_operation(words: &[u32], o: OpIdx, links: &mut [u64])
 }
 
 // Adds the locals in escaping operands of operation o.
-fn add_escaping(words: &[u32], o: OpIdx, escaping: &mut [u64])
+fn add_escaping(words: &[u32], o: OpIdx, causes: &mut [u64])
     requires { ⌜ WellFormed (now words) ⌝ }
-    requires { ⌜ (o .0 < operations (now words)) × (length (now escaping) ≡ 8) ⌝ }
-    ensures { λ _. ⌜ Adds (now (escaping .entry)) (λ r v. eqb r 0 && escapesBy (now (words .entry)) (o .0) v) (now (escaping .exit)) ⌝ }
+    requires { ⌜ (o .0 < operations (now words)) × (length (now causes) ≡ 16) ⌝ }
+    ensures { λ _. ⌜ Adds (now (causes .entry)) (λ r v. eqb r 0 && escapesBy (now (words .entry)) (o .0) v) (now (causes .exit)) ⌝ }
 {
     let code = op_word(words, o, 0);
     let inputs = op_inputs(words, o);
     let mut k: usize = 0;
     while k < inputs.len() {
         if operation_causes_ptr_escape(code, k) {
-            row_add(escaping, 0, inputs[k]);
+            row_add(causes, ESCAPING, inputs[k]);
         }
         k += 1;
     }
 }
 
 // What all visited operations link, and the locals in their escaping operands.
-fn link_operations(words: &[u32], visited: &[u64], links: &mut [u64], escaping: &mut [u64])
+fn link_operations(words: &[u32], visited: &[u64], links: &mut [u64], causes: &mut [u64])
     requires { ⌜ WellFormed (now words) ⌝ }
     requires { ⌜ (length (now visited) ≡ 16) × ((o : ℕ) → o < 1024 → contains (now visited) o ≡ isVisitedOp (now words) o) ⌝ }
-    requires { ⌜ (length (now links) ≡ 4096) × (length (now escaping) ≡ 8) ⌝ }
+    requires { ⌜ (length (now links) ≡ 4096) × (length (now causes) ≡ 16) ⌝ }
     ensures { λ _. ⌜ Adds (now (links .entry)) (λ v u. any (λ o. isVisitedOp (now (words .entry)) o && derivesBy (now (words .entry)) o v u) (upto (operations (now (words .entry))))) (now (links .exit)) ⌝ }
-    ensures { λ _. ⌜ Adds (now (escaping .entry)) (λ r v. any (λ o. isVisitedOp (now (words .entry)) o && (eqb r 0 && escapesBy (now (words .entry)) o v)) (upto (operations (now (words .entry))))) (now (escaping .exit)) ⌝ }
+    ensures { λ _. ⌜ Adds (now (causes .entry)) (λ r v. any (λ o. isVisitedOp (now (words .entry)) o && (eqb r 0 && escapesBy (now (words .entry)) o v)) (upto (operations (now (words .entry))))) (now (causes .exit)) ⌝ }
 {
     let count = operation_count(words);
     let mut o: u32 = 0;
     while o < count {
         if row_contains(visited, (o / 512) as usize, o % 512) {
             link_operation(words, OpIdx(o), links);
-            add_escaping(words, OpIdx(o), escaping);
+            add_escaping(words, OpIdx(o), causes);
         }
         o += 1;
     }
@@ -147,30 +149,30 @@ fn link_edges(words: &[u32], b: BlockId, links: &mut [u64])
 }
 
 // What the visited blocks link by their edges, and what they return.
-fn link_blocks(words: &[u32], visit: &[u32], links: &mut [u64], escaping: &mut [u64])
+fn link_blocks(words: &[u32], visit: &[u32], links: &mut [u64], causes: &mut [u64])
     requires { ⌜ VisitStage (now words) (now visit) ⌝ }
-    requires { ⌜ (length (now links) ≡ 4096) × (length (now escaping) ≡ 8) ⌝ }
+    requires { ⌜ (length (now links) ≡ 4096) × (length (now causes) ≡ 16) ⌝ }
     ensures { λ _. ⌜ Adds (now (links .entry)) (λ v u. any (λ b. any (λ s. passesBy (now (words .entry)) b s v u) (successors (now (words .entry)) b)) (blocksRpo (now (words .entry)))) (now (links .exit)) ⌝ }
-    ensures { λ _. ⌜ Adds (now (escaping .entry)) (λ r v. any (λ b. eqb r 0 && mem v (returned (now (words .entry)) b)) (blocksRpo (now (words .entry)))) (now (escaping .exit)) ⌝ }
+    ensures { λ _. ⌜ Adds (now (causes .entry)) (λ r v. any (λ b. eqb r 1 && mem v (returned (now (words .entry)) b)) (blocksRpo (now (words .entry)))) (now (causes .exit)) ⌝ }
 {
     let order = rpo(visit);
     let mut i: usize = 0;
     while i < order.len() {
         let b = BlockId(order[i]);
         link_edges(words, b, links);
-        add_run(escaping, 0, returned_outputs(words, b));
+        add_run(causes, RETURNED, returned_outputs(words, b));
         i += 1;
     }
 }
 
 // Both tables of an image: what each local links to, and the locals that are used in an escaping operand or returned.
-pub fn pointer_links(words: &[u32], visit: &[u32], links: &mut [u64], escaping: &mut [u64])
+pub fn pointer_links(words: &[u32], visit: &[u32], links: &mut [u64], causes: &mut [u64])
     requires { ⌜ VisitStage (now words) (now visit) ⌝ }
-    requires { ⌜ (now links ≡ replicate 4096 0) × (now escaping ≡ replicate 8 0) ⌝ }
-    ensures { λ _. ⌜ PointerRows (now (words .entry)) (now (links .exit)) (now (escaping .exit)) ⌝ }
+    requires { ⌜ (now links ≡ replicate 4096 0) × (now causes ≡ replicate 16 0) ⌝ }
+    ensures { λ _. ⌜ PointerRows (now (words .entry)) (now (links .exit)) (now (causes .exit)) ⌝ }
 {
     let mut visited = [0u64; 16];
     visited_ops(words, visit, &mut visited);
-    link_operations(words, &visited, links, escaping);
-    link_blocks(words, visit, links, escaping);
+    link_operations(words, &visited, links, causes);
+    link_blocks(words, visit, links, causes);
 }

@@ -7,7 +7,7 @@ ghost use mathlib.Core.Bool.{not};
 ghost use Prim.Native.Nat.{_≤_, _<_};
 ghost use lib.ListN.{length, getD};
 ghost use lib.Dec.{eqb};
-ghost use Rattle.sir_analyses.specs.inner.Stages.{rpoIn, visitedIn, readsIn, writesIn, usesIn, defsIn, endsIn, exitsIn, sitesIn, ownersIn, marksIn};
+ghost use Rattle.sir_analyses.specs.inner.Stages.{rpoIn, visitedIn, readsIn, writesIn, usesIn, defsIn, endsIn, exitsIn, sitesIn, ownersIn, flagsIn};
 
 // The most words that an image has.
 pub const WORDS: usize = 14742;
@@ -105,8 +105,15 @@ pub fn exits(live: &[u64]) -> &[u64]
 // Where a pointer goes in one step: a row for each local.
 pub const LINKS: usize = 4096;
 
+// The locals that flag who is first to reach them, by cause: a row of those in an escaping operand, a row of those that are returned.
+pub const ESCAPING: usize = 0;
+
+pub const RETURNED: usize = 1;
+
+pub const CAUSES: usize = 16;
+
 // Pointers: how many allocations there are, how many locals are on the work list; the site of each allocation, the owner of each
-// local, whether each allocation is marked, and the work list.
+// local, the flags of each allocation, and the work list.
 pub const ALLOCATIONS: usize = 0;
 
 pub const LEFT: usize = 1;
@@ -115,7 +122,7 @@ pub const SITES: usize = 2;
 
 pub const OWNERS: usize = 514;
 
-pub const MARKS: usize = 1026;
+pub const FLAGS: usize = 1026;
 
 pub const WORK: usize = 1538;
 
@@ -138,10 +145,18 @@ pub fn owner_of(pointers: &[u32], v: LocalId) -> u32
     pointers[OWNERS + v.0 as usize]
 }
 
-// Whether allocation a is marked.
+// The flags of allocation a.
+pub fn flags_of(pointers: &[u32], a: AllocId) -> u32
+    requires { ⌜ (length (now pointers) ≡ 2051) × (a .0 < 512) ⌝ }
+    ensures { λ r. ⌜ r ≡ getD (flagsIn (now (pointers .entry))) (a .0) 0 ⌝ }
+{
+    pointers[FLAGS + a.0 as usize]
+}
+
+// Whether allocation a is marked: some flag is set.
 pub fn is_marked(pointers: &[u32], a: AllocId) -> bool
     requires { ⌜ (length (now pointers) ≡ 2051) × (a .0 < 512) ⌝ }
-    ensures { λ r. ⌜ r ≡ not (eqb (getD (marksIn (now (pointers .entry))) (a .0) 0) 0) ⌝ }
+    ensures { λ r. ⌜ r ≡ not (eqb (getD (flagsIn (now (pointers .entry))) (a .0) 0) 0) ⌝ }
 {
-    pointers[MARKS + a.0 as usize] != 0
+    flags_of(pointers, a) != 0
 }

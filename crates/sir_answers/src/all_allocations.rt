@@ -25,7 +25,7 @@ use sir_analyses::local_intervals::BLOCK_END;
 use sir_analyses::merged_intervals::live_after;
 use sir_analyses::merged_intervals::live_before;
 use sir_analyses::stages::alloc_sites;
-use sir_analyses::stages::is_marked;
+use sir_analyses::stages::flags_of;
 use sir_analyses::stages::is_visited;
 use sir_analyses::stages::reads;
 use sir_analyses::stages::writes;
@@ -181,10 +181,7 @@ fn record_head(words: &[u32], pointers: &[u32], a: AllocId, count: u32) -> Alloc
     ensures { λ r. ⌜ (count ≡ length (merged (now (words .entry)) (a .0)) → r .words ≡ headOf (now (words .entry)) (a .0)) ⌝ }
 {
     let site = site_of(alloc_sites(pointers), a);
-    if is_marked(pointers, a) {
-        return alloc_head(words, site, 1, count);
-    }
-    alloc_head(words, site, 0, count)
+    alloc_head(words, site, flags_of(pointers, a), count)
 }
 
 // The heads, in front of the intervals: `tops` has the cursors from before those.

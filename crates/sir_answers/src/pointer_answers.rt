@@ -16,6 +16,7 @@ use sir_analyses::local_liveness::compute_liveness;
 use sir_analyses::stages::LIVE;
 use sir_analyses::stages::POINTERS;
 use sir_analyses::stages::alloc_sites;
+use sir_analyses::stages::flags_of;
 use sir_analyses::stages::is_marked;
 use sir_analyses::stages::owner_of;
 ghost use mathlib.Core.Path.{_≡_};
@@ -45,7 +46,8 @@ fn one_allocation(
     ensures { λ r. ⌜ made (r .number) (r .length) (now (out .exit)) ≡ answered (bind (allocationAnswer (now (words .entry)) (a .0)) bytesOf) (now (out .entry)) ⌝ }
 {
     if is_marked(pointers, a) {
-        return marked_answer(words, site_of(alloc_sites(pointers), a), out);
+        let site = site_of(alloc_sites(pointers), a);
+        return marked_answer(words, site, flags_of(pointers, a), out);
     }
     let mut live = [0u64; LIVE];
     compute_liveness(words, visit, &mut live);

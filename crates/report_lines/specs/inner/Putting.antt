@@ -49,4 +49,4 @@ allocationHead a answer =
 
 -- an allocation by its answer, as bytes
 abbrev pub allocationLine : ℕ → List ℕ → List ℕ
-allocationLine a answer = allocationHead a answer ++ intervalsAt answer 8 ((length answer - 32) / 12) ++ ascii "\n"
+allocationLine a answer = allocationHead a answer ++ intervalsAt answer 9 ((length answer - 36) / 12) ++ ascii "\n"

@@ -7,22 +7,22 @@ use native.Mathlib.Omega.{arith}
 use native.Mathlib.Numerals.{add-one}
 use lib.ListN.{length, getD, replicate, length-append}
 use lib.Dec.{eqb, ltb}
-use borrow.Author.Tests.{le-ltb, ltb-true, ltb-false}
+use borrow.Author.Tests.{eqb-true, not-false, le-ltb, ltb-true, ltb-false}
 use Rattle.plank_core.specs.Lists.{upto, oneIf}
 use Rattle.plank_core.specs.inner.DenseIndexSet.{contains, added}
 use Rattle.plank_core.specs.laws.DenseIndexSet.{contains-added, contains-cleared}
 use Rattle.plank_core.specs.laws.Prefixes as Prefixes
-use Rattle.plank_core.specs.laws.Lists.{oneIf-told}
 use Rattle.sir_data.specs.Records.{blocks, operations, locals, code, outs}
 use Rattle.sir_data.specs.Codes.{isAlloc}
 use Rattle.sir_data.specs.inner.WellFormed.{WellFormed}
 use Rattle.sir_analyses.specs.Liveness.{Set, has, Interval}
 use Rattle.sir_analyses.specs.Allocation.{allocs, allocAt, base, reach, marked, merged}
+use Rattle.sir_analyses.specs.Flags.{flagsWord}
 use Rattle.sir_analyses.specs.Answers.{intervalWords, allocationAnswer}
 use Rattle.sir_analyses.specs.Kinds.{kindOf, kindWords}
 use Rattle.sir_analyses.specs.declared.allocation_words.AllocKind.{AllocKind}
 use Rattle.sir_analyses.specs.inner.Tables.{Same}
-use Rattle.sir_analyses.specs.inner.Discovery.{allocSites, Discovered, Site, Unmarked, headWords}
+use Rattle.sir_analyses.specs.inner.Discovery.{allocSites, FlagsOf, Discovered, Site, Unmarked, headWords}
 use Rattle.sir_analyses.specs.inner.Sweep.{sweepFrom}
 use Rattle.sir_analyses.specs.inner.Writing.{Puts}
 use Rattle.sir_analyses.specs.laws.Writing.{interval-count}
@@ -58,7 +58,7 @@ module _ (own : ℕ → Bool) (set : List ℕ) (v : ℕ) (b : Below own v set) w
 
 -- ---- the reach of an unmarked allocation, and its merged intervals
 
-module _ {w owner marks : List ℕ} (good : WellFormed w) (d : Discovered w owner marks) {a : ℕ} (l : a < length (allocs w)) (u : marked w a ≡ false) where
+module _ {w owner flags : List ℕ} (good : WellFormed w) (d : Discovered w owner flags) {a : ℕ} (l : a < length (allocs w)) (u : marked w a ≡ false) where
   owned-reach : (set : List ℕ) → Below (λ v. eqb (getD owner v 0) (a + 1)) (locals w) set → Same set (reach w (allocAt w a))
   owned-reach set b v h = b v h ∙ go (ltb v (locals w)) refl
     where
@@ -67,25 +67,28 @@ module _ {w owner marks : List ℕ} (good : WellFormed w) (d : Discovered w owne
       go false e = sym (beyond (reach w (allocAt w a)) v (omega (arith, reach-length w good a, ltb-false v (locals w) e)))
 
   pub owned-unmarked : {b o : ℕ} {set : List ℕ} → Site w a b o → (length set ≡ 8) × Below (λ v. eqb (getD owner v 0) (a + 1)) (locals w) set → Unmarked w b o set a
-  owned-unmarked {b} {o} {set} x s = record { site = x; unmarked = u; long = s .0; same = owned-reach set (s .1) }
+  owned-unmarked {b} {o} {set} x s =
+      let f = d .flags-are a l in
+      let none : getD flags a 0 ≡ 0 = eqb-true (getD flags a 0) 0 (not-false (eqb (getD flags a 0) 0) (sym (f .mark) ∙ u)) in
+      record { site = x; unmarked = u; unflagged = sym (f .word) ∙ none; long = s .0; same = owned-reach set (s .1) }
 
--- the array of marks tells
-pub mark-told : {w owner marks : List ℕ} → Discovered w owner marks → {a : ℕ} → a < length (allocs w) → {told t : Bool} → told ≡ not (eqb (getD marks a 0) 0) → told ≡ t → marked w a ≡ t
-mark-told {w} d {a} l p q = sym (oneIf-told (marked w a)) ∙ ap (λ (k : ℕ). not (eqb k 0)) (sym (d .mark-is a l)) ∙ sym p ∙ q
+-- the array of flags tells
+pub mark-told : {w owner flags : List ℕ} → Discovered w owner flags → {a : ℕ} → a < length (allocs w) → {told t : Bool} → told ≡ not (eqb (getD flags a 0) 0) → told ≡ t → marked w a ≡ t
+mark-told d {a} l p q = d .flags-are a l .mark ∙ sym p ∙ q
 
 -- ---- the answer: its head, then the intervals
 
-pub head-made : (w : List ℕ) (b o mark count : ℕ) {v k s i : ℕ} → v ≡ getD (outs w o) 0 0 → k ∷ s ∷ i ∷ [] ≡ kindWords (kindOf w o)
-    → b ∷ o ∷ v ∷ k ∷ s ∷ i ∷ mark ∷ count ∷ [] ≡ headWords w b o mark count
-head-made w b o mark count p q = rw p (ap (λ (xs : List ℕ). b ∷ o ∷ getD (outs w o) 0 0 ∷ (xs ++ (mark ∷ count ∷ []))) q)
+pub head-made : (w : List ℕ) (b o flags count : ℕ) {v k s i m : ℕ} → v ≡ getD (outs w o) 0 0 → k ∷ s ∷ i ∷ [] ≡ kindWords (kindOf w o) → m ≡ oneIf (not (eqb flags 0))
+    → b ∷ o ∷ v ∷ k ∷ s ∷ i ∷ m ∷ flags ∷ count ∷ [] ≡ headWords w b o flags count
+head-made w b o flags count p q e = rw (p, e) (ap (λ (xs : List ℕ). b ∷ o ∷ getD (outs w o) 0 0 ∷ (xs ++ (oneIf (not (eqb flags 0)) ∷ flags ∷ count ∷ []))) q)
 
--- a kind has three words, and so a head has eight
+-- a kind has three words, and so a head has nine
 kind-long : (k : AllocKind) → length (kindWords k) ≡ 3
 kind-long (AllocKind.Static size id) = refl
 kind-long (AllocKind.Dynamic local) = refl
 
-pub head-long : (w : List ℕ) (b o mark count : ℕ) → length (headWords w b o mark count) ≡ 8
-head-long w b o mark count = let l = length-append (kindWords (kindOf w o)) (mark ∷ count ∷ []) in omega (arith, kind-long (kindOf w o))
+pub head-long : (w : List ℕ) (b o flags count : ℕ) → length (headWords w b o flags count) ≡ 9
+head-long w b o flags count = let l = length-append (kindWords (kindOf w o)) (oneIf (not (eqb flags 0)) ∷ flags ∷ count ∷ []) in omega (arith, kind-long (kindOf w o))
 
 -- the site of an allocation, from its number
 pub site-there : (w : List ℕ) (good : WellFormed w) {sites : List ℕ} {a : ℕ} → a < length sites → sites ≡ allocSites w → Site w a (getD sites a 0 / 1024) (getD sites a 0 % 1024)
@@ -101,29 +104,36 @@ module _ (w : List ℕ) {a b o : ℕ} (good : WellFormed w) (x : Site w a b o) w
   pub site-known : (o < operations w) × (isAlloc (code w o) ≡ true)
   site-known = rw (x .op-is) (alloc-op w good a (x .known))
 
-  pub head-is : (m n : ℕ) → m ≡ oneIf (marked w a) → n ≡ length (merged w a) → headWords w b o m n ++ intervalWords (merged w a) ≡ allocationAnswer w a
-  head-is m n p q =
-      rw (x .op-is, x .block-is, p, q)
-      (ap (λ (l : List ℕ). allocAt w a .block ∷ allocAt w a .op ∷ base w (allocAt w a) ∷ l) (append-assoc (kindWords (kindOf w (allocAt w a .op))) (oneIf (marked w a) ∷ length (merged w a) ∷ []) (intervalWords (merged w a))))
-
-  pub answer-long : length (allocationAnswer w a) ≡ 8 + length (intervalWords (merged w a))
-  answer-long = sym (ap length (head-is (oneIf (marked w a)) (length (merged w a)) refl refl)) ∙ length-append (headWords w b o (oneIf (marked w a)) (length (merged w a))) (intervalWords (merged w a)) ∙ rw (head-long w b o (oneIf (marked w a)) (length (merged w a)))
-
-  pub marked-answer : marked w a ≡ true → headWords w b o 1 0 ≡ allocationAnswer w a
-  marked-answer t = sym (append-nil (headWords w b o 1 0)) ∙ ap (λ (is : List Interval). headWords w b o 1 0 ++ intervalWords is) (sym none) ∙ head-is 1 0 (rw t refl) (rw none refl)
+  pub head-is : {f n : ℕ} → FlagsOf w a f → n ≡ length (merged w a) → headWords w b o f n ++ intervalWords (merged w a) ≡ allocationAnswer w a
+  head-is {f} {n} F q =
+      ap (λ (t : List ℕ). (b ∷ o ∷ getD (outs w o) 0 0 ∷ (kindWords (kindOf w o) ++ t)) ++ intervalWords (merged w a)) last-three
+      ∙ rw (x .op-is, x .block-is)
+      (ap (λ (l : List ℕ). allocAt w a .block ∷ allocAt w a .op ∷ base w (allocAt w a) ∷ l) (append-assoc (kindWords (kindOf w (allocAt w a .op))) (oneIf (marked w a) ∷ flagsWord w a ∷ length (merged w a) ∷ []) (intervalWords (merged w a))))
     where
-      none : merged w a ≡ []
-      none = rw t refl
+      last-three : oneIf (not (eqb f 0)) ∷ f ∷ n ∷ [] ≡ oneIf (marked w a) ∷ flagsWord w a ∷ length (merged w a) ∷ []
+      last-three = ap (λ (t : Bool). oneIf t ∷ f ∷ n ∷ []) (sym (F .mark)) ∙ ap₂ (λ (k l : ℕ). oneIf (marked w a) ∷ k ∷ l ∷ []) (F .word) q
 
-  pub marked-long : marked w a ≡ true → 8 ≡ length (allocationAnswer w a)
-  marked-long t = sym (head-long w b o 1 0) ∙ ap length (marked-answer t)
+  pub answer-long : length (allocationAnswer w a) ≡ 9 + length (intervalWords (merged w a))
+  answer-long =
+      let l = length-append (kindWords (kindOf w (allocAt w a .op))) (oneIf (marked w a) ∷ flagsWord w a ∷ length (merged w a) ∷ intervalWords (merged w a)) in
+      omega (arith, kind-long (kindOf w (allocAt w a .op)))
+
+  module _ (t : marked w a ≡ true) where
+    none : merged w a ≡ []
+    none = rw t refl
+
+    pub marked-answer : {f : ℕ} → FlagsOf w a f → headWords w b o f 0 ≡ allocationAnswer w a
+    marked-answer {f} F = sym (append-nil (headWords w b o f 0)) ∙ ap (λ (is : List Interval). headWords w b o f 0 ++ intervalWords is) (sym none) ∙ head-is F (sym (ap length none))
+
+    pub marked-long : 9 ≡ length (allocationAnswer w a)
+    marked-long = omega (arith, answer-long, ap (λ (is : List Interval). length (intervalWords is)) none)
 
 -- what a sweep for some locals puts after the head
 abbrev Sweeps : List ℕ → List ℕ → List ℕ → List ℕ → ℕ → Type 0
-Sweeps w set out out′ r = (s : Set) → length s ≡ locals w → Same set s → Puts 8 (intervalWords (sweepFrom w s (upto (blocks w)))) out out′ r
+Sweeps w set out out′ r = (s : Set) → length s ≡ locals w → Same set s → Puts 9 (intervalWords (sweepFrom w s (upto (blocks w)))) out out′ r
 
 module _ {w set : List ℕ} {b o a : ℕ} (good : WellFormed w) (x : Unmarked w b o set a) where
-  swept : {r : ℕ} {out out′ : List ℕ} → Sweeps w set out out′ r → Puts 8 (intervalWords (merged w a)) out out′ r
+  swept : {r : ℕ} {out out′ : List ℕ} → Sweeps w set out out′ r → Puts 9 (intervalWords (merged w a)) out out′ r
   swept p = puts-as (ap intervalWords (sweep-merged w good a (x .unmarked))) (p (reach w (allocAt w a)) (reach-length w good a) (x .same))
 
   -- counting gives the number of words
@@ -131,9 +141,9 @@ module _ {w set : List ℕ} {b o a : ℕ} (good : WellFormed w) (x : Unmarked w 
   swept-count p = let q = swept p in omega (arith, q .next, answer-long w good (x .site))
 
   pub swept-answer : {n m r : ℕ} {out headed left : List ℕ} → n ≡ length (allocationAnswer w a)
-      → Puts 0 (headWords w b o 0 ((n - 8) / 3)) out headed m → Sweeps w set headed left r → Puts 0 (allocationAnswer w a) out left r
+      → Puts 0 (headWords w b o 0 ((n - 9) / 3)) out headed m → Sweeps w set headed left r → Puts 0 (allocationAnswer w a) out left r
   swept-answer {n} {m} {r} {out} {headed} {left} e p q =
-      let z : (n - 8) / 3 ≡ length (merged w a) = omega (arith, e, answer-long w good (x .site), interval-count (merged w a)) in
-      let g : m ≡ 8 = omega (arith, p .next, head-long w b o 0 ((n - 8) / 3)) in
-      let p′ : Puts 0 (headWords w b o 0 ((n - 8) / 3)) out headed 8 = rw g at p in
-      puts-as (head-is w good (x .site) 0 ((n - 8) / 3) (rw (x .unmarked) refl) z) (puts-then p′ (swept q))
+      let z : (n - 9) / 3 ≡ length (merged w a) = omega (arith, e, answer-long w good (x .site), interval-count (merged w a)) in
+      let g : m ≡ 9 = omega (arith, p .next, head-long w b o 0 ((n - 9) / 3)) in
+      let p′ : Puts 0 (headWords w b o 0 ((n - 9) / 3)) out headed 9 = rw g at p in
+      puts-as (head-is w good (x .site) (record { word = sym (x .unflagged); mark = x .unmarked }) z) (puts-then p′ (swept q))

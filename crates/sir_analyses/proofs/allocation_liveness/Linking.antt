@@ -1,6 +1,6 @@
--- What linking one local, and marking one allocation, does to the arrays and to the state that they show.
+-- What linking one local, and flagging one allocation, does to the arrays and to the state that they show.
 use mathlib.Core.Path.{_≡_, refl, sym, ap, _∙_}
-use mathlib.Core.Bool.{Bool, true, false, _||_, cond, or-true, or-false}
+use mathlib.Core.Bool.{Bool, true, false, _&&_, _||_, cond, and-false, or-true, or-false}
 use mathlib.Core.List.{List, [], _∷_, _++_, reverse, List·Memᴰ·head, List·Memᴰ·not-nil, Memᴰ·append-left, Memᴰ·append-right}
 use Prim.Native.Nat.{ℕ, suc, _+_, _-_, _≤_, _<_}
 use native.Mathlib.Omega.{arith}
@@ -9,13 +9,16 @@ use native.Mathlib.Decide.{ℕ-discrete, decLt}
 use lib.ListN.{length, getD, set, take, length-set, List·getD-eq-default, List·getD-append}
 use lib.Seq.{getD-set-same, getD-set-other, take-suc, take-all}
 use lib.Dec.{eqb}
+use lib.Bits.{bitOr}
 use borrow.Author.Tests.{eq-eqb, ne-eqb}
-use Rattle.plank_core.specs.Lists.{foldl, oneIf}
+use Rattle.plank_core.specs.Lists.{foldl}
 use Rattle.plank_core.specs.inner.DenseIndexSet.{members}
 use Rattle.plank_core.specs.laws.Loops.{reverse-snoc}
 use Rattle.sir_analyses.specs.Liveness.{Set, has, addAll}
-use Rattle.sir_analyses.specs.Propagation.{State, linkLocal, mark, follow}
-use Rattle.sir_analyses.specs.inner.Discovery.{zeros, Flags, Room, StepTaken, SameWidth}
+use Rattle.sir_analyses.specs.Propagation.{State, linkLocal, mark}
+use Rattle.sir_analyses.specs.Flags.{flagBits}
+use Rattle.sir_analyses.specs.inner.Following.{Machine, linkAll, followLocal}
+use Rattle.sir_analyses.specs.inner.Discovery.{zeros, Room, flagsAt, ShowsState, StepTaken, SameWidth}
 use Rattle.sir_analyses.proofs.SetLaws.{has-addAll, length-addAll}
 use Rattle.plank_core.specs.laws.Folds.{foldl-snoc}
 use Rattle.sir_analyses.proofs.claims.source.Steps.{zeros-fewer, zeros-no-more}
@@ -40,65 +43,115 @@ set-most xs v y m h f x = go (ℕ-discrete x v) (decLt v (length xs))
     go (yes q) (no l) = let z : getD (set xs v y) x 0 ≡ 0 = List·getD-eq-default (set xs v y) 0 {n = x} (omega (arith, length-set xs v y)) in omega arith
     go (no q) l = rw (getD-set-other xs v x y 0 q) (f x)
 
--- ---- marks
+-- ---- flags
 
-pub same-mark : (marks : List ℕ) (ms : Set) (a : ℕ) → length marks ≡ 512 → a < 512 → a < length ms → Flags marks ms → Flags (set marks a 1) (addAll ms (a ∷ []))
-same-mark marks ms a long small less e x h = go (ℕ-discrete x a) (decLt x (length ms))
+-- a flag is set in a word of flags
+pub escape-bit : (e r m : Bool) → bitOr (flagBits e r m) 1 ≡ flagBits true r m
+escape-bit true true true = refl
+escape-bit true true false = refl
+escape-bit true false true = refl
+escape-bit true false false = refl
+escape-bit false true true = refl
+escape-bit false true false = refl
+escape-bit false false true = refl
+escape-bit false false false = refl
+
+pub return-bit : (e r m : Bool) → bitOr (flagBits e r m) 2 ≡ flagBits e true m
+return-bit true true true = refl
+return-bit true true false = refl
+return-bit true false true = refl
+return-bit true false false = refl
+return-bit false true true = refl
+return-bit false true false = refl
+return-bit false false true = refl
+return-bit false false false = refl
+
+pub meeting-bit : (e r m : Bool) → bitOr (flagBits e r m) 4 ≡ flagBits e r true
+meeting-bit true true true = refl
+meeting-bit true true false = refl
+meeting-bit true false true = refl
+meeting-bit true false false = refl
+meeting-bit false true true = refl
+meeting-bit false true false = refl
+meeting-bit false false true = refl
+meeting-bit false false false = refl
+
+-- an array with a flag of allocation a set
+abbrev pub raised : List ℕ → ℕ → ℕ → List ℕ
+raised flags a flag = set flags a (bitOr (getD flags a 0) flag)
+
+-- the array shows f, and then g, which differs from f at a only
+raised-shows : (flags : List ℕ) (f g : ℕ → ℕ) (a flag : ℕ) → length flags ≡ 512 → a < 512 → ((c : ℕ) → c < 512 → getD flags c 0 ≡ f c) → bitOr (f a) flag ≡ g a → ((c : ℕ) → ¬ (c ≡ a) → f c ≡ g c)
+    → (c : ℕ) → c < 512 → getD (raised flags a flag) c 0 ≡ g c
+raised-shows flags f g a flag long small e here elsewhere c h = go (ℕ-discrete c a)
   where
-    here : has (addAll ms (a ∷ [])) a ≡ (has ms a || (eqb a a || false)) → has (addAll ms (a ∷ [])) a ≡ true
-    here p = p ∙ rw (eq-eqb a a refl) (or-true (has ms a))
+    go : Dec (c ≡ a) → getD (raised flags a flag) c 0 ≡ g c
+    go (yes q) = rw q (getD-set-same flags a (bitOr (getD flags a 0) flag) 0 (omega (arith, long)) ∙ ap (λ (k : ℕ). bitOr k flag) (e a small) ∙ here)
+    go (no q) = getD-set-other flags a c (bitOr (getD flags a 0) flag) 0 q ∙ e c h ∙ elsewhere c q
 
-    elsewhere : (x ≡ a → ⊥) → x < length ms → has (addAll ms (a ∷ [])) x ≡ has ms x
-    elsewhere q l = has-addAll ms (a ∷ []) x l ∙ rw (ne-eqb x a q) (or-false (has ms x))
+-- a set has one member more
+meeting-here : (ms : Set) (a : ℕ) → a < length ms → has (addAll ms (a ∷ [])) a ≡ true
+meeting-here ms a less = has-addAll ms (a ∷ []) a less ∙ rw (eq-eqb a a refl) (or-true (has ms a))
 
-    go : Dec (x ≡ a) → Dec (x < length ms) → getD (set marks a 1) x 0 ≡ oneIf (has (addAll ms (a ∷ [])) x)
-    go (yes q) l = rw q (getD-set-same marks a 1 0 (omega (arith, long)) ∙ sym (ap oneIf (here (has-addAll ms (a ∷ []) a less))))
-    go (no q) (yes l) = getD-set-other marks a x 1 0 q ∙ e x h ∙ sym (ap oneIf (elsewhere q l))
-    go (no q) (no l) =
-        let d : has ms x ≡ false = List·getD-eq-default ms false {n = x} (omega arith) in
-        let d′ : has (addAll ms (a ∷ [])) x ≡ false = List·getD-eq-default (addAll ms (a ∷ [])) false {n = x} (omega (arith, length-addAll ms (a ∷ []))) in
-        getD-set-other marks a x 1 0 q ∙ e x h ∙ rw (d, d′) refl
+meeting-elsewhere : (ms : Set) (a c : ℕ) → ¬ (c ≡ a) → has (addAll ms (a ∷ [])) c ≡ has ms c
+meeting-elsewhere ms a c q = go (decLt c (length ms))
+  where
+    go : Dec (c < length ms) → has (addAll ms (a ∷ [])) c ≡ has ms c
+    go (yes l) = has-addAll ms (a ∷ []) c l ∙ rw (ne-eqb c a q) (or-false (has ms c))
+    go (no l) =
+        List·getD-eq-default (addAll ms (a ∷ [])) false {n = c} (omega (arith, length-addAll ms (a ∷ [])))
+        ∙ sym (List·getD-eq-default ms false {n = c} (omega arith))
 
-module _ {owner marks work : List ℕ} {n : ℕ} (R : Room owner marks work n) (a : ℕ) where
-  pub room-mark : (m : ℕ) → Room owner (set marks m 1) work n
-  room-mark m = record {
+module _ {owner flags work : List ℕ} {n : ℕ} (R : Room owner flags work n) where
+  pub room-flag : (a flag : ℕ) → Room owner (raised flags a flag) work n
+  room-flag a flag = record {
     owner-long = R .owner-long;
-    marks-long = length-set marks m 1 ∙ R .marks-long;
+    flags-long = length-set flags a (bitOr (getD flags a 0) flag) ∙ R .flags-long;
     work-long = R .work-long;
     owner-small = R .owner-small;
     work-small = R .work-small;
     room = R .room;
   }
 
-  pub marked-step : a < 512 → StepTaken [] a (mark a) owner marks work n owner (set marks a 1) work n
-  marked-step small = record {
-    room = room-mark a;
-    same = λ s f l S. record {
-      owner-is = S .owner-is;
-      owner-known = λ v. rw length-addAll (S .owner-known v);
-      marks-are = same-mark marks (s .marks) a (R .marks-long) small l (S .marks-are);
-      work-is = S .work-is;
-    };
-    cost = omega arith;
+  -- allocation a has met another
+  pub meeting-shown : {m : Machine} (a : ℕ) → a < 512 → a < length (m .state .marks) → ShowsState owner flags work n m
+      → ShowsState owner (raised flags a 4) work n (record { state = mark a (m .state); flagged = m .flagged })
+  meeting-shown {m} a small less S = record {
+    owner-is = S .owner-is;
+    owner-known = λ v. rw length-addAll (S .owner-known v);
+    flags-are = raised-shows flags (flagsAt m) (λ c. flagBits (m .flagged 0 c) (m .flagged 1 c) (has (addAll (m .state .marks) (a ∷ [])) c)) a 4 (R .flags-long) small (S .flags-are)
+        (meeting-bit (m .flagged 0 a) (m .flagged 1 a) (has (m .state .marks) a) ∙ ap (flagBits (m .flagged 0 a) (m .flagged 1 a)) (sym (meeting-here (m .state .marks) a less)))
+        (λ c q. ap (flagBits (m .flagged 0 c) (m .flagged 1 c)) (sym (meeting-elsewhere (m .state .marks) a c q)));
+    work-is = S .work-is;
   }
 
 -- ---- one local is linked
 
-module _ {owner marks work : List ℕ} {n : ℕ} (R : Room owner marks work n) {v a : ℕ} (hv : v < 512) (ha : a < 512) where
+module _ {owner flags work : List ℕ} {n : ℕ} (R : Room owner flags work n) {v a : ℕ} (hv : v < 512) (ha : a < 512) where
   abbrev after : List ℕ
   after = set owner v (a + 1)
 
   no-more : zeros after ≤ zeros owner
   no-more = rw add-one (zeros-no-more owner v a)
 
-  room-owner : Room after marks work n
+  room-owner : Room after flags work n
   room-owner = record {
     owner-long = length-set owner v (a + 1) ∙ R .owner-long;
-    marks-long = R .marks-long;
+    flags-long = R .flags-long;
     work-long = R .work-long;
     owner-small = set-most owner v (a + 1) 512 (omega arith) (R .owner-small);
     work-small = R .work-small;
     room = omega (arith, R .room, no-more);
+  }
+
+  -- the new owner is shown
+  owner-shown : {m : Machine} → v < length (m .state .owner) → a < length (m .state .marks) → ShowsState owner flags work n m
+      → ShowsState after flags work n (record { state = record { owner = set (m .state .owner) v (suc a); marks = m .state .marks; work = m .state .work }; flagged = m .flagged })
+  owner-shown {m} h l S = record {
+    owner-is = rw add-one (set-both owner (m .state .owner) v (suc a) (omega (arith, R .owner-long)) h (S .owner-is));
+    owner-known = set-most owner v (a + 1) (length (m .state .marks)) (omega arith) (S .owner-known);
+    flags-are = S .flags-are;
+    work-is = S .work-is;
   }
 
   -- a local that nobody had
@@ -109,22 +162,23 @@ module _ {owner marks work : List ℕ} {n : ℕ} (R : Room owner marks work n) {
     pub push-room : n < 513
     push-room = omega (arith, fewer, R .room)
 
-    pub link-new : StepTaken (v ∷ []) a (λ s. linkLocal a s v) owner marks work n after marks (set work n v) (n + 1)
+    pub link-new : StepTaken (v ∷ []) a (linkAll a (v ∷ [])) owner flags work n after flags (set work n v) (n + 1)
     link-new = record {
       room = record {
         owner-long = room-owner .owner-long;
-        marks-long = R .marks-long;
+        flags-long = R .flags-long;
         work-long = length-set work n v ∙ R .work-long;
         owner-small = room-owner .owner-small;
         work-small = λ k h. small k h (ℕ-discrete k n);
         room = omega (arith, fewer, R .room);
       };
-      same = λ s f l S.
+      same = λ m f l S.
           let h = f v (List·Memᴰ·head refl) in
-          rw (eq-eqb (getD (s .owner) v 0) 0 (sym (S .owner-is v h) ∙ z)) (record {
-            owner-is = rw add-one (set-both owner (s .owner) v (suc a) (omega (arith, R .owner-long)) h (S .owner-is));
-            owner-known = set-most owner v (a + 1) (length (s .marks)) (omega arith) (S .owner-known);
-            marks-are = S .marks-are;
+          let O = owner-shown h l S in
+          rw (eq-eqb (getD (m .state .owner) v 0) 0 (sym (S .owner-is v h) ∙ z)) (record {
+            owner-is = O .owner-is;
+            owner-known = O .owner-known;
+            flags-are = O .flags-are;
             work-is = ap (λ (xs : List ℕ). v ∷ xs) (S .work-is) ∙ sym (reverse-snoc (take n work) v) ∙ ap reverse (sym (taken-set work n v (omega (arith, push-room, R .work-long))));
           });
       cost = omega (arith, fewer);
@@ -136,36 +190,27 @@ module _ {owner marks work : List ℕ} {n : ℕ} (R : Room owner marks work n) {
 
   module _ (z : getD owner v 0 ≡ 0 → ⊥) where
     -- one that this allocation had
-    pub link-same : getD owner v 0 ≡ a + 1 → StepTaken (v ∷ []) a (λ s. linkLocal a s v) owner marks work n after marks work n
+    pub link-same : getD owner v 0 ≡ a + 1 → StepTaken (v ∷ []) a (linkAll a (v ∷ [])) owner flags work n after flags work n
     link-same e = record {
       room = room-owner;
-      same = λ s f l S.
+      same = λ m f l S.
           let h = f v (List·Memᴰ·head refl) in
-          let o : getD (s .owner) v 0 ≡ getD owner v 0 = sym (S .owner-is v h) in
-          rw (ne-eqb (getD (s .owner) v 0) 0 (λ q. z (sym o ∙ q)), eq-eqb (getD (s .owner) v 0) (suc a) (o ∙ e ∙ add-one a)) (record {
-            owner-is = rw add-one (set-both owner (s .owner) v (suc a) (omega (arith, R .owner-long)) h (S .owner-is));
-            owner-known = set-most owner v (a + 1) (length (s .marks)) (omega arith) (S .owner-known);
-            marks-are = S .marks-are;
-            work-is = S .work-is;
-          });
+          let o : getD (m .state .owner) v 0 ≡ getD owner v 0 = sym (S .owner-is v h) in
+          rw (ne-eqb (getD (m .state .owner) v 0) 0 (λ q. z (sym o ∙ q)), eq-eqb (getD (m .state .owner) v 0) (suc a) (o ∙ e ∙ add-one a)) (owner-shown h l S);
       cost = omega (arith, no-more);
     }
 
     -- one that another had
-    pub link-other : (getD owner v 0 ≡ a + 1 → ⊥) → StepTaken (v ∷ []) a (λ s. linkLocal a s v) owner marks work n after (set (set marks a 1) (getD owner v 0 - 1) 1) work n
+    pub link-other : (getD owner v 0 ≡ a + 1 → ⊥) → StepTaken (v ∷ []) a (linkAll a (v ∷ [])) owner flags work n after (raised (raised flags a 4) (getD owner v 0 - 1) 4) work n
     link-other d = record {
-      room = room-mark (room-mark room-owner a a) a (getD owner v 0 - 1);
-      same = λ s f l S.
+      room = room-flag (room-flag room-owner a 4) (getD owner v 0 - 1) 4;
+      same = λ m f l S.
           let h = f v (List·Memᴰ·head refl) in
-          let o : getD (s .owner) v 0 ≡ getD owner v 0 = sym (S .owner-is v h) in
-          let k : getD owner v 0 - 1 < length (addAll (s .marks) (a ∷ [])) = omega (arith, S .owner-known v, length-addAll (s .marks) (a ∷ []), z) in
+          let o : getD (m .state .owner) v 0 ≡ getD owner v 0 = sym (S .owner-is v h) in
+          let k : getD owner v 0 - 1 < length (addAll (m .state .marks) (a ∷ [])) = omega (arith, S .owner-known v, length-addAll (m .state .marks) (a ∷ []), z) in
           let j : getD owner v 0 - 1 < 512 = omega (arith, R .owner-small v, z) in
-          rw (ne-eqb (getD (s .owner) v 0) 0 (λ q. z (sym o ∙ q)), ne-eqb (getD (s .owner) v 0) (suc a) (λ q. d (sym o ∙ q ∙ sym (add-one a))), o) (record {
-            owner-is = rw add-one (set-both owner (s .owner) v (suc a) (omega (arith, R .owner-long)) h (S .owner-is));
-            owner-known = λ x. rw length-set (rw length-set (set-most owner v (a + 1) (length (s .marks)) (omega arith) (S .owner-known) x));
-            marks-are = same-mark (set marks a 1) (addAll (s .marks) (a ∷ [])) (getD owner v 0 - 1) (length-set marks a 1 ∙ R .marks-long) j k (same-mark marks (s .marks) a (R .marks-long) ha l (S .marks-are));
-            work-is = S .work-is;
-          });
+          let M = meeting-shown (room-flag room-owner a 4) (getD owner v 0 - 1) j k (meeting-shown room-owner a ha l (owner-shown h l S)) in
+          rw (ne-eqb (getD (m .state .owner) v 0) 0 (λ q. z (sym o ∙ q)), ne-eqb (getD (m .state .owner) v 0) (suc a) (λ q. d (sym o ∙ q ∙ sym (add-one a))), o) M;
       cost = omega (arith, no-more);
     }
 
@@ -186,57 +231,76 @@ pub links-width : (a : ℕ) (xs : List ℕ) (s : State) → SameWidth s (foldl (
 links-width a [] s = record { owner-wide = refl; marks-wide = refl }
 links-width a (x ∷ xs) s = width-then (link-width a s x) (links-width a xs (linkLocal a s x))
 
-pub follow-width : (a : ℕ) (xs : List ℕ) (escaping : Bool) (s : State) → SameWidth s (follow xs escaping a s)
-follow-width a xs true s = let p = links-width a xs s in record { owner-wide = p .owner-wide; marks-wide = length-addAll (foldl (linkLocal a) s xs .marks) (a ∷ []) ∙ p .marks-wide }
-follow-width a xs false s = links-width a xs s
+module _ {a : ℕ} {owner flags work : List ℕ} {n : ℕ} where
+  pub none-linked : Room owner flags work n → StepTaken [] a (linkAll a []) owner flags work n owner flags work n
+  none-linked R = record { room = R; same = λ m h l S. S; cost = omega arith }
 
-module _ {a : ℕ} {owner marks work : List ℕ} {n : ℕ} where
-  pub step-then : {xs ys : List ℕ} {f g : State → State} {owner′ marks′ work′ owner″ marks″ work″ : List ℕ} {m r : ℕ} → ((s : State) → SameWidth s (f s))
-      → StepTaken xs a f owner marks work n owner′ marks′ work′ m → StepTaken ys a g owner′ marks′ work′ m owner″ marks″ work″ r
-      → StepTaken (xs ++ ys) a (λ s. g (f s)) owner marks work n owner″ marks″ work″ r
-  step-then {xs} {ys} {f} {g} w P Q = record {
+  -- one more of a list
+  pub linked-more : {owner′ flags′ work′ owner″ flags″ work″ : List ℕ} {k r : ℕ} (xs : List ℕ) (i : ℕ) → i < length xs
+      → StepTaken (take i xs) a (linkAll a (take i xs)) owner flags work n owner′ flags′ work′ k
+      → StepTaken (getD xs i 0 ∷ []) a (linkAll a (getD xs i 0 ∷ [])) owner′ flags′ work′ k owner″ flags″ work″ r
+      → StepTaken (take (i + 1) xs) a (linkAll a (take (i + 1) xs)) owner flags work n owner″ flags″ work″ r
+  linked-more xs i h P Q =
+      let e : take (i + 1) xs ≡ take i xs ++ (getD xs i 0 ∷ []) = rw add-one (take-suc xs i 0 h) in
+      record {
+        room = Q .room;
+        same = λ m f l S.
+            let w = links-width a (take i xs) (m .state) in
+            rw (e, foldl-snoc (linkLocal a) (m .state) (take i xs) (getD xs i 0))
+            (Q .same (linkAll a (take i xs) m)
+            (λ v k. rw (w .owner-wide) (f v (rw e (Memᴰ·append-right (take i xs) k))))
+            (rw (w .marks-wide) l)
+            (P .same m (λ v k. f v (rw e (Memᴰ·append-left (getD xs i 0 ∷ []) k))) l S));
+        cost = omega (arith, P .cost, Q .cost);
+      }
+
+  pub linked-all : {owner′ flags′ work′ : List ℕ} {k : ℕ} (xs : List ℕ) (i : ℕ) → length xs ≤ i
+      → StepTaken (take i xs) a (linkAll a (take i xs)) owner flags work n owner′ flags′ work′ k
+      → StepTaken xs a (linkAll a xs) owner flags work n owner′ flags′ work′ k
+  linked-all xs i h P = rw (take-all i xs h) at P
+
+  -- and then the flags
+  pub then-flagged : {owner′ flags′ work′ owner″ flags″ work″ : List ℕ} {k r : ℕ} (xs : List ℕ) (used : ℕ → Bool) → StepTaken xs a (linkAll a xs) owner flags work n owner′ flags′ work′ k
+      → StepTaken [] a (followLocal [] used a) owner′ flags′ work′ k owner″ flags″ work″ r → StepTaken xs a (followLocal xs used a) owner flags work n owner″ flags″ work″ r
+  then-flagged xs used P Q = record {
     room = Q .room;
-    same = λ s h l S. Q .same (f s)
-        (λ v k. rw (w s .owner-wide) (h v (Memᴰ·append-right xs k)))
-        (rw (w s .marks-wide) l)
-        (P .same s (λ v k. h v (Memᴰ·append-left ys k)) l S);
+    same = λ m f l S. Q .same (linkAll a xs m) (λ v k. absurd (List·Memᴰ·not-nil k)) (rw (links-width a xs (m .state) .marks-wide) l) (P .same m f l S);
     cost = omega (arith, P .cost, Q .cost);
   }
 
-  pub none-linked : Room owner marks work n → StepTaken [] a (λ s. foldl (linkLocal a) s []) owner marks work n owner marks work n
-  none-linked R = record { room = R; same = λ s h l S. S; cost = omega arith }
+-- ---- the flags of a local's uses
 
-  -- one more of a list
-  pub linked-more : {owner′ marks′ work′ owner″ marks″ work″ : List ℕ} {m r : ℕ} (xs : List ℕ) (i : ℕ) → i < length xs
-      → StepTaken (take i xs) a (λ s. foldl (linkLocal a) s (take i xs)) owner marks work n owner′ marks′ work′ m
-      → StepTaken (getD xs i 0 ∷ []) a (λ s. linkLocal a s (getD xs i 0)) owner′ marks′ work′ m owner″ marks″ work″ r
-      → StepTaken (take (i + 1) xs) a (λ s. foldl (linkLocal a) s (take (i + 1) xs)) owner marks work n owner″ marks″ work″ r
-  linked-more xs i h P Q = let R = step-then (λ s. links-width a (take i xs) s) P Q in
-      let e : take (i + 1) xs ≡ take i xs ++ (getD xs i 0 ∷ []) = rw add-one (take-suc xs i 0 h) in
-      record {
-        room = R .room;
-        same = λ s f l S. rw (e, foldl-snoc (linkLocal a) s (take i xs) (getD xs i 0)) (R .same s (λ v m. f v (rw e m)) l S);
-        cost = R .cost;
-      }
+-- the array with a flag of allocation a set, where t says so
+abbrev pub raisedIf : Bool → ℕ → ℕ → List ℕ → List ℕ
+raisedIf t a flag flags = cond t (raised flags a flag) flags
 
-  pub linked-all : {owner′ marks′ work′ : List ℕ} {m : ℕ} (xs : List ℕ) (i : ℕ) → length xs ≤ i
-      → StepTaken (take i xs) a (λ s. foldl (linkLocal a) s (take i xs)) owner marks work n owner′ marks′ work′ m
-      → StepTaken xs a (λ s. foldl (linkLocal a) s xs) owner marks work n owner′ marks′ work′ m
-  linked-all xs i h P = rw (take-all i xs h) at P
+module _ {owner flags work : List ℕ} {n a : ℕ} (R : Room owner flags work n) (small : a < 512) where
+  room-by : {fs : List ℕ} (t : Bool) (flag : ℕ) → Room owner fs work n → Room owner (raisedIf t a flag fs) work n
+  room-by true flag Q = room-flag Q a flag
+  room-by false flag Q = Q
 
-  -- and the mark after them
-  module _ {owner′ marks′ work′ : List ℕ} {m : ℕ} (xs : List ℕ) (P : StepTaken xs a (λ s. foldl (linkLocal a) s xs) owner marks work n owner′ marks′ work′ m) (t : Bool) where
-    pub follow-escaping : a < 512 → t ≡ true → StepTaken xs a (follow xs t a) owner marks work n owner′ (set marks′ a 1) work′ m
-    follow-escaping small e =
-        let Q = marked-step (P .room) a small in
-        record {
-          room = Q .room;
-          same = λ s h l S. let w = links-width a xs s in rw e (Q .same (foldl (linkLocal a) s xs) (λ v k. absurd (List·Memᴰ·not-nil k)) (rw (w .marks-wide) l) (P .same s h l S));
-          cost = P .cost;
-        }
+  -- what an array shows where a flag is set by t: f with the flag off or on, told for each allocation
+  raised-if : (fs : List ℕ) (t : Bool) (flag : ℕ) (f : ℕ → Bool → ℕ) (old : ℕ → Bool) → length fs ≡ 512 → ((b : Bool) → bitOr (f a b) flag ≡ f a true) → ((c : ℕ) → c < 512 → getD fs c 0 ≡ f c (old c))
+      → (c : ℕ) → c < 512 → getD (raisedIf t a flag fs) c 0 ≡ f c (old c || (eqb c a && t))
+  raised-if fs true flag f old long sets shows c h =
+      raised-shows fs (λ c. f c (old c)) (λ c. f c (old c || (eqb c a && true))) a flag long small shows
+      (sets (old a) ∙ ap (f a) (sym (rw (eq-eqb a a refl) (or-true (old a)))))
+      (λ c q. ap (f c) (sym (rw (ne-eqb c a q) (or-false (old c))))) c h
+  raised-if fs false flag f old long sets shows c h = shows c h ∙ ap (f c) (sym (rw (and-false (eqb c a)) (or-false (old c))))
 
-    pub follow-not-escaping : t ≡ false → StepTaken xs a (follow xs t a) owner marks work n owner′ marks′ work′ m
-    follow-not-escaping e = record { room = P .room; same = λ s h l S. rw e (P .same s h l S); cost = P .cost }
+  pub flags-raised : (used : ℕ → Bool) → StepTaken [] a (followLocal [] used a) owner flags work n owner (raisedIf (used 1) a 2 (raisedIf (used 0) a 1 flags)) work n
+  flags-raised used = record {
+    room = room-by (used 1) 2 (room-by (used 0) 1 R);
+    same = λ m f l S. record { owner-is = S .owner-is; owner-known = S .owner-known; flags-are = both m (S .flags-are); work-is = S .work-is };
+    cost = omega arith;
+  }
+    where
+      both : (m : Machine) → ((c : ℕ) → c < 512 → getD flags c 0 ≡ flagsAt m c) → (c : ℕ) → c < 512 → getD (raisedIf (used 1) a 2 (raisedIf (used 0) a 1 flags)) c 0 ≡ flagsAt (followLocal [] used a m) c
+      both m shows =
+          let met : ℕ → Bool = has (m .state .marks) in
+          let e : ℕ → Bool = λ c. m .flagged 0 c || (eqb c a && used 0) in
+          raised-if (raisedIf (used 0) a 1 flags) (used 1) 2 (λ c r. flagBits (e c) r (met c)) (m .flagged 1) (room-by (used 0) 1 R .flags-long) (λ r. return-bit (e a) r (met a))
+          (raised-if flags (used 0) 1 (λ c e. flagBits e (m .flagged 1 c) (met c)) (m .flagged 0) (R .flags-long) (λ e. escape-bit e (m .flagged 1 a) (met a)) shows)
 
 -- what a walk of a set left in an array
 pub found-at : {found row row′ : List ℕ} (rest : List ℕ) → found ≡ members row ++ rest → row ≡ row′ → (k : ℕ) → k < length (members row′) → getD found k 0 ≡ getD (members row′) k 0

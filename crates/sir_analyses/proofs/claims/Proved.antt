@@ -12,12 +12,14 @@ use Rattle.sir_data.specs.laws.WellFormed.{well-formed}
 use Rattle.sir_analyses.specs.Allocation.{rule12}
 use Rattle.sir_analyses.specs.Calls.{refusal}
 use Rattle.sir_analyses.specs.Claims.{OrderRule, LivenessRule, MarkRule, SourceRule}
+use Rattle.sir_analyses.specs.Flags.{FlagRule}
 use Rattle.sir_analyses.specs.Walk.{Lifetimes}
 use Rattle.sir_analyses.specs.Open.{OpenRule, CrossingRule}
 use Rattle.sir_analyses.specs.Promise.{Promise}
 use Rattle.sir_analyses.proofs.claims.order.OrderProof.{order-rule}
 use Rattle.sir_analyses.proofs.claims.liveness.LivenessProof.{liveness-rule}
 use Rattle.sir_analyses.proofs.claims.marks.Marks.{mark-rule}
+use Rattle.sir_analyses.proofs.claims.flags.Flags.{flag-rule}
 use Rattle.sir_analyses.proofs.claims.lifetimes.Lifetime.{lifetimes}
 use Rattle.sir_analyses.proofs.claims.lifetimes.OpenProof.{open-rule, crossing-rule}
 use Rattle.sir_analyses.proofs.claims.source.SourceProof.{source-rule}
@@ -45,6 +47,9 @@ module _ (image : List ℕ) (accepted : refusal image ≡ 0) where
   pub marks : MarkRule (payload image)
   marks = mark-rule (payload image) good
 
+  pub flags : FlagRule (payload image)
+  flags = flag-rule (payload image) good bases-distinct
+
   pub walks : Lifetimes (payload image)
   walks = lifetimes (payload image) good
 
@@ -58,4 +63,4 @@ module _ (image : List ℕ) (accepted : refusal image ≡ 0) where
   crossings = crossing-rule (payload image)
 
   pub promise : Promise (payload image)
-  promise = record { order = order; liveness = liveness; marks = marks; source = source; lifetimes = walks; opens = opens; crossings = crossings }
+  promise = record { order = order; liveness = liveness; marks = marks; flags = flags; source = source; lifetimes = walks; opens = opens; crossings = crossings }

@@ -1,10 +1,10 @@
--- What the tables of links and of escaping locals hold, step by step, and that it is what the definitions say.
-use mathlib.Core.Path.{_≡_, refl, sym, ap, ap₂, _∙_}
+-- What the tables of links and of causes hold, step by step, and that it is what the definitions say.
+use mathlib.Core.Path.{_≡_, refl, sym, ap, _∙_}
 use mathlib.Core.Logic.{⊎-elim}
-use mathlib.Core.Bool.{Bool, true, false, _&&_, _||_, cond, or-comm}
-use mathlib.Core.List.{List, [], List·Memᴰ·not-nil}
+use mathlib.Core.Bool.{Bool, true, false, _&&_, _||_, cond, and-false, or-false, or-comm}
+use mathlib.Core.List.{List, [], _∷_, List·Memᴰ·not-nil}
 use mathlib.Core.Option.{some}
-use Prim.Native.Nat.{ℕ, _+_, _*_, _/_, _%_, _≤_, _<_}
+use Prim.Native.Nat.{ℕ, zero, suc, _+_, _*_, _/_, _%_, _≤_, _<_}
 use native.Mathlib.Omega.{arith}
 use lib.ListN.{length, getD, take, replicate}
 use lib.Seq.{take-all}
@@ -21,7 +21,7 @@ use Rattle.sir_analyses.specs.Order.{blocksRpo}
 use Rattle.sir_analyses.specs.Liveness.{Use, uses, positions}
 use Rattle.sir_analyses.specs.Allocation.{next, escapesBy, escapesAt, returnedAt, escapes, isReturned}
 use Rattle.sir_analyses.specs.inner.Tables.{Adds}
-use Rattle.sir_analyses.specs.inner.Pointers.{isVisitedOp, derivesBy, passesBy, PointerRows}
+use Rattle.sir_analyses.specs.inner.Pointers.{isVisitedOp, derivesBy, passesBy, usedBy, PointerRows}
 use Rattle.sir_analyses.proofs.Tables.{adds-as, adds-then, cleared-long, cleared-row}
 use Rattle.sir_analyses.proofs.block_sets.BlockSets.{small}
 use Rattle.sir_analyses.proofs.Positions.{positions-in, positions-out}
@@ -49,6 +49,11 @@ module _ {t t′ t″ : List ℕ} (p : ℕ → ℕ → ℕ → Bool) where
 -- after the last of the list
 pub adds-all : {t t′ : List ℕ} (p : ℕ → ℕ → ℕ → Bool) (xs : List ℕ) (k : ℕ) → length xs ≤ k → Adds t (λ r i. any (λ x. p x r i) (take k xs)) t′ → Adds t (λ r i. any (λ x. p x r i) xs) t′
 adds-all p xs k h a = adds-as (λ r i l. ap (any (λ x. p x r i)) (take-all k xs h)) a
+
+-- no number of a list passes a test that none passes
+any-never : (p : ℕ → Bool) (xs : List ℕ) → ((x : ℕ) → p x ≡ false) → any p xs ≡ false
+any-never p [] h = refl
+any-never p (x ∷ xs) h = rw (h x) (any-never p xs h)
 
 -- ---- escaping operands
 
@@ -212,18 +217,26 @@ module _ (w : List ℕ) where
         by x (byCondition mb mi e) t = none false (rw e at t) refl
         by x (byOutput k mb h e) t = none false (rw e at t) refl
 
-    pub pointer-rows : {l l₁ l₂ h h₁ h₂ : List ℕ} → l ≡ replicate 4096 0 → h ≡ replicate 8 0
+    cause-test : (r v : ℕ) → r < 2
+        → (any (λ o. isVisitedOp w o && (eqb r 0 && escapesBy w o v)) (upto (operations w)) || any (λ b. eqb r 1 && mem v (returned w b)) (blocksRpo w)) ≡ usedBy w r v
+    cause-test zero v h =
+        ap (λ (t : Bool). any (λ o. isVisitedOp w o && escapesBy w o v) (upto (operations w)) || t) (any-never (λ b. false) (blocksRpo w) (λ b. refl))
+        ∙ or-false (any (λ o. isVisitedOp w o && escapesBy w o v) (upto (operations w))) ∙ escape-test v
+    cause-test (suc zero) v h =
+        ap (λ (t : Bool). t || any (λ b. mem v (returned w b)) (blocksRpo w)) (any-never (λ o. isVisitedOp w o && false) (upto (operations w)) (λ o. and-false (isVisitedOp w o)))
+        ∙ return-test v
+    cause-test (suc (suc r)) v h = absurd (omega arith)
+
+    pub pointer-rows : {l l₁ l₂ h h₁ h₂ : List ℕ} → l ≡ replicate 4096 0 → h ≡ replicate 16 0
         → Adds l (λ v u. any (derived v u) (upto (operations w))) l₁ → Adds h (λ r v. any (λ o. isVisitedOp w o && (eqb r 0 && escapesBy w o v)) (upto (operations w))) h₁
-        → Adds l₁ (λ v u. any (passedOn v u) (blocksRpo w)) l₂ → Adds h₁ (λ r v. any (λ b. eqb r 0 && mem v (returned w b)) (blocksRpo w)) h₂
+        → Adds l₁ (λ v u. any (passedOn v u) (blocksRpo w)) l₂ → Adds h₁ (λ r v. any (λ b. eqb r 1 && mem v (returned w b)) (blocksRpo w)) h₂
         → PointerRows w l₂ h₂
     pointer-rows {l} {l₁} {l₂} {h} {h₁} {h₂} e f a b p q =
         let x = adds-then a p in
         let y = adds-then b q in
         record {
           links-long = x .long ∙ cleared-long l 4096 e;
-          escaping-long = y .long ∙ cleared-long h 8 f;
+          causes-long = y .long ∙ cleared-long h 16 f;
           linked = λ v u i j. x .same v u (omega (arith, cleared-long l 4096 e)) j ∙ rw (cleared-row l 4096 v u e) (link-test v u);
-          escaping-are = λ v j.
-              let z : 512 * 0 + v ≡ v = omega arith in
-              rw z at (y .same 0 v (omega (arith, cleared-long h 8 f)) j) ∙ rw (rw z at (cleared-row h 8 0 v f)) (ap₂ (λ s t. s || t) (escape-test v) (return-test v));
+          used = λ r v i j. y .same r v (omega (arith, cleared-long h 16 f)) j ∙ rw (cleared-row h 16 r v f) (cause-test r v i);
         }

@@ -13,7 +13,7 @@ use Rattle.sir_analyses.specs.Order.{blocksRpo, isVisited}
 use Rattle.sir_analyses.specs.inner.Visiting.{orderIn}
 use Rattle.sir_analyses.specs.Answers.{orderAnswer}
 use Rattle.sir_analyses.specs.Allocation.{rule12}
-use Rattle.sir_analyses.specs.Propagation.{State}
+use Rattle.sir_analyses.specs.inner.Following.{Machine}
 use Rattle.sir_analyses.specs.inner.Discovery.{allocSites, Discovered, Room, StepTaken, Propagated}
 use Rattle.sir_analyses.specs.Liveness.{Set, has, useSet, defSet, settled}
 use Rattle.sir_analyses.specs.inner.Tables.{Adds, SameRows, OperandRows, EndRows, BlockRows, PredecessorRows, SentOn, Stepped, LiveRows}
@@ -79,7 +79,7 @@ pub record LivenessStage (w live : List ℕ) : Type 0 where
   pub sets : LiveRows w (usesIn live) (defsIn live) (exitsIn live)
   pub ends : EndRows w (endsIn live)
 
--- ---- pointers: the sites of all allocations, the owner of each local, the mark of each allocation
+-- ---- pointers: the sites of all allocations, the owner of each local, the flags of each allocation
 
 -- the sites of all allocations
 abbrev pub sitesIn : List ℕ → List ℕ
@@ -88,15 +88,15 @@ sitesIn pointers = part 2 (getD pointers 0 0) pointers
 abbrev pub ownersIn : List ℕ → List ℕ
 ownersIn pointers = part 514 512 pointers
 
-abbrev pub marksIn : List ℕ → List ℕ
-marksIn pointers = part 1026 512 pointers
+abbrev pub flagsIn : List ℕ → List ℕ
+flagsIn pointers = part 1026 512 pointers
 
 pub record PointerStage (w pointers : List ℕ) : Type 0 where
   pub well-formed : WellFormed w
   pub long : length pointers ≡ 2051
   pub few : getD pointers 0 0 ≤ 512
   pub sites-are : sitesIn pointers ≡ allocSites w
-  pub discovered : Discovered w (ownersIn pointers) (marksIn pointers)
+  pub discovered : Discovered w (ownersIn pointers) (flagsIn pointers)
 
 -- ---- filling the tables of liveness
 
@@ -167,19 +167,19 @@ pub record SitesStored (sites pointers : List ℕ) : Type 0 where
 -- there is room for all that may be linked
 pub record PointerRoom (pointers : List ℕ) : Type 0 where
   pub long : length pointers ≡ 2051
-  pub room : Room (ownersIn pointers) (marksIn pointers) (workIn pointers) (leftIn pointers)
+  pub room : Room (ownersIn pointers) (flagsIn pointers) (workIn pointers) (leftIn pointers)
 
--- a step on owners, marks and the work list, with the sites as they were
-pub record PointerStep (vs : List ℕ) (a : ℕ) (step : State → State) (p p′ : List ℕ) : Type 0 where
+-- a step on owners, flags and the work list, with the sites as they were
+pub record PointerStep (vs : List ℕ) (a : ℕ) (step : Machine → Machine) (p p′ : List ℕ) : Type 0 where
   pub long : length p′ ≡ 2051
-  pub taken : StepTaken vs a step (ownersIn p) (marksIn p) (workIn p) (leftIn p) (ownersIn p′) (marksIn p′) (workIn p′) (leftIn p′)
+  pub taken : StepTaken vs a step (ownersIn p) (flagsIn p) (workIn p) (leftIn p) (ownersIn p′) (flagsIn p′) (workIn p′) (leftIn p′)
   pub count : getD p′ 0 0 ≡ getD p 0 0
   pub sites : part 2 512 p′ ≡ part 2 512 p
 
 -- one allocation was followed from its base v to the end, with the sites as they were
-pub record PointersFollowed (links escaping : List ℕ) (a v : ℕ) (p p′ : List ℕ) : Type 0 where
+pub record PointersFollowed (links causes : List ℕ) (a v : ℕ) (p p′ : List ℕ) : Type 0 where
   pub long : length p′ ≡ 2051
   pub none-left : leftIn p′ ≡ 0
-  pub propagated : Propagated links escaping a v (ownersIn p) (marksIn p) (workIn p) (ownersIn p′) (marksIn p′) (workIn p′)
+  pub propagated : Propagated links causes a v (ownersIn p) (flagsIn p) (workIn p) (ownersIn p′) (flagsIn p′) (workIn p′)
   pub count : getD p′ 0 0 ≡ getD p 0 0
   pub sites : part 2 512 p′ ≡ part 2 512 p

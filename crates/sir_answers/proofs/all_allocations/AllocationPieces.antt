@@ -1,5 +1,5 @@
 -- The pieces of the sweep over blocks and operations, and the heads: those for an allocation are its record.
-use mathlib.Core.Path.{_≡_, refl, sym, ap, ap₂, _∙_}
+use mathlib.Core.Path.{_≡_, refl, sym, ap, ap₂, _∙_, subst}
 use mathlib.Core.Logic.{_≢_}
 use mathlib.Core.Bool.{Bool, true, false, not, _&&_, cond, and-false}
 use mathlib.Core.List.{List, [], _∷_, _++_, foldr, reverse, append-nil, append-assoc, List·Memᴰ·head, List·Memᴰ·tail, List·Memᴰ·eq-of-singleton}
@@ -9,7 +9,7 @@ use native.Mathlib.Omega.{arith}
 use lib.ListN.{length, replicate, length-append, length-replicate}
 use lib.Dec.{eqb, ltb}
 use borrow.Author.Tests.{ne-eqb, lt-ltb, le-ltb}
-use Rattle.plank_core.specs.Lists.{count, upto, range, bind, keep, oneIf, _∈_}
+use Rattle.plank_core.specs.Lists.{count, upto, range, bind, keep, _∈_}
 use Rattle.plank_core.specs.laws.Lists.{refuted, and-true-left, mem-upto, keep-out, keep-most, reverse-out}
 use Rattle.plank_core.specs.laws.Loops.{length-count, upto-suc, range-none, keep-append, bind-bind, reverse-snoc, reverse-range}
 use Rattle.sir_data.specs.Records.{blocks, locals, blockWord, ops}
@@ -17,11 +17,12 @@ use Rattle.sir_data.specs.inner.WellFormed.{WellFormed}
 use Rattle.sir_analyses.specs.Order.{isVisited}
 use Rattle.sir_analyses.specs.Liveness.{Set, has, members, Interval, intervals, Scan, endOpen, closing}
 use Rattle.sir_analyses.specs.Allocation.{allocs, allocAt, reach, marked, sort, merge, merged}
+use Rattle.sir_analyses.specs.Flags.{flagsWord}
 use Rattle.sir_analyses.specs.Answers.{intervalWords, allocationAnswer}
 use Rattle.sir_analyses.specs.inner.Sweep.{meet, nonempty, Sweep, sweepEnd, sweepOp, sweepBlock, sweepFrom, note}
 use Rattle.sir_answers.specs.inner.Scatter.{Pieces, piecesOf, Direction, backward, moved, numberAt, Below, Fits, Scatters}
 use Rattle.sir_analyses.specs.inner.Stages.{PointerStage}
-use Rattle.sir_analyses.specs.inner.Discovery.{Site, headWords}
+use Rattle.sir_analyses.specs.inner.Discovery.{FlagsOf, Site, headWords}
 use Rattle.sir_answers.specs.inner.IntervalPieces.{intervalPieces, closedPieces}
 use Rattle.sir_answers.specs.inner.AllocationPieces.{ownReach, sweptTo, livesAt, sweptEnd, sweptBy, sweptPieces, runPieces, openPieces, sweepPieces, visitedPieces, headOf, headPieces, recordPieces}
 use Rattle.sir_answers.specs.laws.Scatter.{length-in-order, moved-none}
@@ -166,11 +167,11 @@ module _ (w : List ℕ) (good : WellFormed w) where
       ∙ sym (merged-words a l)
 
   -- the record of allocation a
-  pub record-pieces : (a : ℕ) → a < length (allocs w) → a < 512 → piecesOf a (reverse (recordPieces w)) ≡ allocationAnswer w a
-  record-pieces a l h =
+  pub record-pieces : (a : ℕ) → a < length (allocs w) → a < 512 → FlagsOf w a (flagsWord w a) → piecesOf a (reverse (recordPieces w)) ≡ allocationAnswer w a
+  record-pieces a l h f =
       back-append a (visitedPieces w) (headPieces w)
       ∙ ap₂ (λ (xs ys : List ℕ). xs ++ ys) (heads-back a l) (visited-back a l h)
-      ∙ head-is w good (record { known = l; block-is = refl; op-is = refl }) (oneIf (marked w a)) (length (merged w a)) refl refl
+      ∙ head-is w good (record { known = l; block-is = refl; op-is = refl }) f refl
 
   -- ---- every piece is for an allocation
 
@@ -266,11 +267,11 @@ module _ (w : List ℕ) where
 
 -- ---- the heads
 
-pub head-same : {w : List ℕ} {a b o n : ℕ} (t : Bool) → Site w a b o → marked w a ≡ t → n ≡ length (merged w a) → headWords w b o (oneIf t) n ≡ headOf w a
-head-same {w} {a} {b} {o} {n} t x m e =
-    ap (λ (k : ℕ). headWords w k o (oneIf t) n) (x .block-is)
-    ∙ ap (λ (k : ℕ). headWords w (allocAt w a .block) k (oneIf t) n) (x .op-is)
-    ∙ ap₂ (λ (u : Bool) (k : ℕ). headWords w (allocAt w a .block) (allocAt w a .op) (oneIf u) k) (sym m) e
+pub head-same : {w : List ℕ} {a b o f n : ℕ} → Site w a b o → f ≡ flagsWord w a → n ≡ length (merged w a) → headWords w b o f n ≡ headOf w a
+head-same {w} {a} {b} {o} {f} {n} x m e =
+    ap (λ (k : ℕ). headWords w k o f n) (x .block-is)
+    ∙ ap (λ (k : ℕ). headWords w (allocAt w a .block) k f n) (x .op-is)
+    ∙ ap₂ (headWords w (allocAt w a .block) (allocAt w a .op)) m e
 
 -- a piece leaves the cursors of other ids
 pub other-cursor : {d : Direction} {a : ℕ} {xs cursors out cursors′ out′ : List ℕ} (u : ℕ) → a ≢ u → u < length cursors → Scatters d ((a, xs) ∷ []) cursors out cursors′ out′ → numberAt cursors′ u ≡ numberAt cursors u
@@ -283,7 +284,7 @@ other-cursor {d} {a} {xs} {cursors} u n h s =
 
 module _ {w pointers : List ℕ} (stage : PointerStage w pointers) where
   pub records-are : (a : ℕ) → a < length (allocs w) → piecesOf a (reverse (recordPieces w)) ≡ allocationAnswer w a
-  records-are a l = record-pieces w (stage .well-formed) a l (omega (arith, allocations-few stage))
+  records-are a l = let f = stage .discovered .flags-are a l in record-pieces w (stage .well-formed) a l (omega (arith, allocations-few stage)) (subst (FlagsOf w a) (f .word) f)
 
   pub records-small : Small (length (allocs w)) (allocationAnswer w)
   records-small = record { ids = omega (arith, allocations-few stage); words = λ a l. omega (arith, answer-long w (stage .well-formed) (record { known = l; block-is = refl; op-is = refl }), merged-few w (stage .well-formed) a l) }

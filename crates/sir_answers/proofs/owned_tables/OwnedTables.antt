@@ -10,8 +10,8 @@ use lib.ListN.{length, getD, take, drop, replicate, set}
 use lib.Seq.{take-all, getD-take, getD-drop}
 use lib.Dec.{eqb, ltb}
 use borrow.Author.Tests.{eq-eqb, ne-eqb, eqb-true, eqb-false, lt-ltb, le-ltb, ltb-true, ltb-false}
-use Rattle.plank_core.specs.Lists.{mem, oneIf}
-use Rattle.plank_core.specs.laws.Lists.{split, any-some, oneIf-told, zero-at}
+use Rattle.plank_core.specs.Lists.{mem}
+use Rattle.plank_core.specs.laws.Lists.{split, any-some, zero-at}
 use Rattle.plank_core.specs.laws.Distinct.{eqb-swap}
 use Rattle.plank_core.specs.inner.DenseIndexSet.{contains, added, members, meets, rowOf, rowUnion, rowDifference}
 use Rattle.plank_core.specs.laws.DenseIndexSet.{contains-row, contains-cleared, set-union, set-difference, length-union}
@@ -21,7 +21,7 @@ use Rattle.sir_data.specs.inner.WellFormed.{WellFormed}
 use Rattle.sir_analyses.specs.Liveness.{Set, has}
 use Rattle.sir_analyses.specs.Allocation.{allocs, allocAt, reach, marked}
 use Rattle.sir_analyses.specs.inner.Tables.{Adds}
-use Rattle.sir_analyses.specs.inner.Stages.{part, ownersIn, marksIn, PointerStage}
+use Rattle.sir_analyses.specs.inner.Stages.{part, ownersIn, flagsIn, PointerStage}
 use Rattle.sir_answers.specs.inner.Scatter.{numberAt}
 use Rattle.sir_answers.specs.inner.AllocationPieces.{ownReach, unownedIn, ownRowsIn, ownerIn, unmarkedOwner, OwnedTables, OwnedListed, livesIn, side}
 use Rattle.sir_analyses.proofs.SetLaws.{none-in}
@@ -46,17 +46,17 @@ module _ (pointers : List ℕ) (v : ℕ) where
   unfolding unmarkedOwner
   unowned e = rw e
 
-  pub owned-marked : ¬ (ownerOf ≡ 0) → not (eqb (getD (marksIn pointers) (ownerOf - 1) 0) 0) ≡ true → unmarkedOwner pointers v ≡ 0
+  pub owned-marked : ¬ (ownerOf ≡ 0) → not (eqb (getD (flagsIn pointers) (ownerOf - 1) 0) 0) ≡ true → unmarkedOwner pointers v ≡ 0
   unfolding unmarkedOwner
-  owned-marked n m = ap (λ (t : Bool). cond t 0 (cond (eqb (getD (marksIn pointers) (ownerOf - 1) 0) 0) ownerOf 0)) (ne-eqb ownerOf 0 n) ∙ go (eqb (getD (marksIn pointers) (ownerOf - 1) 0) 0) m
+  owned-marked n m = ap (λ (t : Bool). cond t 0 (cond (eqb (getD (flagsIn pointers) (ownerOf - 1) 0) 0) ownerOf 0)) (ne-eqb ownerOf 0 n) ∙ go (eqb (getD (flagsIn pointers) (ownerOf - 1) 0) 0) m
     where
       go : (t : Bool) → not t ≡ true → cond t ownerOf 0 ≡ 0
       go true e = absurd (let q : _≡_ {A = ℕ} 0 1 = cc in omega arith)
       go false e = refl
 
-  pub owned-unmarked : ¬ (ownerOf ≡ 0) → not (eqb (getD (marksIn pointers) (ownerOf - 1) 0) 0) ≡ false → unmarkedOwner pointers v ≡ ownerOf
+  pub owned-unmarked : ¬ (ownerOf ≡ 0) → not (eqb (getD (flagsIn pointers) (ownerOf - 1) 0) 0) ≡ false → unmarkedOwner pointers v ≡ ownerOf
   unfolding unmarkedOwner
-  owned-unmarked n m = ap (λ (t : Bool). cond t 0 (cond (eqb (getD (marksIn pointers) (ownerOf - 1) 0) 0) ownerOf 0)) (ne-eqb ownerOf 0 n) ∙ go (eqb (getD (marksIn pointers) (ownerOf - 1) 0) 0) m
+  owned-unmarked n m = ap (λ (t : Bool). cond t 0 (cond (eqb (getD (flagsIn pointers) (ownerOf - 1) 0) 0) ownerOf 0)) (ne-eqb ownerOf 0 n) ∙ go (eqb (getD (flagsIn pointers) (ownerOf - 1) 0) 0) m
     where
       go : (t : Bool) → not t ≡ false → cond t ownerOf 0 ≡ ownerOf
       go true e = refl
@@ -64,7 +64,7 @@ module _ (pointers : List ℕ) (v : ℕ) where
 
 pub owner-cases : (pointers : List ℕ) (v : ℕ) → (unmarkedOwner pointers v ≡ 0) ⊎ (unmarkedOwner pointers v ≡ ownerOf pointers v)
 unfolding unmarkedOwner
-owner-cases pointers v = go (eqb (ownerOf pointers v) 0) (eqb (getD (marksIn pointers) (ownerOf pointers v - 1) 0) 0)
+owner-cases pointers v = go (eqb (ownerOf pointers v) 0) (eqb (getD (flagsIn pointers) (ownerOf pointers v - 1) 0) 0)
   where
     go : (s t : Bool) → (cond s 0 (cond t (ownerOf pointers v) 0) ≡ 0) ⊎ (cond s 0 (cond t (ownerOf pointers v) 0) ≡ ownerOf pointers v)
     go true t = inl refl
@@ -115,8 +115,8 @@ module _ {w pointers : List ℕ} (stage : PointerStage w pointers) where
   good : WellFormed w
   good = stage .well-formed
 
-  mark-zero : (a : ℕ) → a < length (allocs w) → (t : Bool) → marked w a ≡ t → not (eqb (getD (marksIn pointers) a 0) 0) ≡ t
-  mark-zero a l t e = ap (λ (k : ℕ). not (eqb k 0)) (stage .discovered .mark-is a l ∙ ap oneIf e) ∙ oneIf-told t
+  mark-zero : (a : ℕ) → a < length (allocs w) → (t : Bool) → marked w a ≡ t → not (eqb (getD (flagsIn pointers) a 0) 0) ≡ t
+  mark-zero a l t e = sym (stage .discovered .flags-are a l .mark) ∙ e
 
   -- no other owner is taken
   other-owner : (v k : ℕ) → ¬ (k ≡ 0) → ¬ (owner v ≡ k) → eqb (unmarkedOwner pointers v) k ≡ false
@@ -130,10 +130,10 @@ module _ {w pointers : List ℕ} (stage : PointerStage w pointers) where
           let i : owner v ≡ a + 1 = eqb-true (owner v) (a + 1) e in
           let p : a ≡ owner v - 1 = omega arith in
           let z : ¬ (owner v ≡ 0) = λ q. omega arith in
-          let t : not (eqb (getD (marksIn pointers) (owner v - 1) 0) 0) ≡ m = rw p at (mark-zero a l m u) in
+          let t : not (eqb (getD (flagsIn pointers) (owner v - 1) 0) 0) ≡ m = rw p at (mark-zero a l m u) in
           by m t z i
         where
-          by : (m : Bool) → not (eqb (getD (marksIn pointers) (owner v - 1) 0) 0) ≡ m → ¬ (owner v ≡ 0) → owner v ≡ a + 1 → eqb (unmarkedOwner pointers v) (a + 1) ≡ (not m && true)
+          by : (m : Bool) → not (eqb (getD (flagsIn pointers) (owner v - 1) 0) 0) ≡ m → ¬ (owner v ≡ 0) → owner v ≡ a + 1 → eqb (unmarkedOwner pointers v) (a + 1) ≡ (not m && true)
           by true t z i = ap (λ (k : ℕ). eqb k (a + 1)) (owned-marked pointers v z t) ∙ ne-eqb 0 (a + 1) (λ q. omega arith)
           by false t z i = ap (λ (k : ℕ). eqb k (a + 1)) (owned-unmarked pointers v z t) ∙ eq-eqb (owner v) (a + 1) i
       go false e m u = other-owner v (a + 1) (λ q. omega arith) (eqb-false (owner v) (a + 1) e) ∙ sym (and-false (not m))

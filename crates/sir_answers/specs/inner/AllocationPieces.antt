@@ -7,15 +7,16 @@ use mathlib.Core.List.{List, [], _∷_, _++_, map, foldr, reverse}
 use Prim.Native.Nat.{ℕ, _+_, _-_, _*_, _≤_, _<_}
 use lib.ListN.{length, getD, replicate}
 use lib.Dec.{eqb, ltb}
-use Rattle.plank_core.specs.Lists.{bind, keep, upto, range, mem, oneIf, _∈_}
+use Rattle.plank_core.specs.Lists.{bind, keep, upto, range, mem, _∈_}
 use Rattle.plank_core.specs.inner.DenseIndexSet.{contains, members, meets, rowOf}
 use Rattle.sir_data.specs.Records.{blocks, locals, blockWord, ops}
 use Rattle.sir_analyses.specs.Order.{isVisited}
 use Rattle.sir_analyses.specs.Liveness.{Set, has}
 use Rattle.sir_analyses.specs.Allocation.{allocs, allocAt, reach, marked, merged}
+use Rattle.sir_analyses.specs.Flags.{flagsWord}
 use Rattle.sir_analyses.specs.inner.Discovery.{headWords}
 use Rattle.sir_analyses.specs.inner.Sweep.{nonempty, Sweep, sweepEnd, sweepOp}
-use Rattle.sir_analyses.specs.inner.Stages.{part, readsIn, writesIn, ownersIn, marksIn}
+use Rattle.sir_analyses.specs.inner.Stages.{part, readsIn, writesIn, ownersIn, flagsIn}
 use Rattle.sir_answers.specs.inner.Scatter.{Pieces, numberAt}
 use Rattle.sir_answers.specs.inner.IntervalPieces.{closedPieces}
 
@@ -66,7 +67,7 @@ visitedPieces w = bind (reverse (keep (isVisited w) (upto (blocks w)))) (sweepPi
 
 -- the head of the record of allocation a
 abbrev pub headOf : List ℕ → ℕ → List ℕ
-headOf w a = headWords w (allocAt w a .block) (allocAt w a .op) (oneIf (marked w a)) (length (merged w a))
+headOf w a = headWords w (allocAt w a .block) (allocAt w a .op) (flagsWord w a) (length (merged w a))
 
 -- the heads of all records
 abbrev pub headPieces : List ℕ → Pieces
@@ -93,7 +94,7 @@ ownerIn owned v = numberAt (part 4104 512 owned) v
 unfoldable pub unmarkedOwner : List ℕ → ℕ → ℕ
 unmarkedOwner pointers v =
     let owner = getD (ownersIn pointers) v 0 in
-    cond (eqb owner 0) 0 (cond (eqb (getD (marksIn pointers) (owner - 1) 0) 0) owner 0)
+    cond (eqb owner 0) 0 (cond (eqb (getD (flagsIn pointers) (owner - 1) 0) 0) owner 0)
 
 pub record OwnedTables (w owned : List ℕ) : Type 0 where
   pub long : length owned ≡ 4616

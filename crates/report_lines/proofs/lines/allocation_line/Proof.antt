@@ -37,7 +37,7 @@ put-text-requires c κs =
     let start = at-shared-slice-known .before in
     let a = at-put-allocation-head .put-allocation-head .ensures in
     let b = at-put-intervals-at .put-intervals-at .ensures in
-    omega (arith, start .pre .0 .1, start .pre .0 .2, a .0, a .1 .long, b .next, b .long, intervals-short (start .args .answer .now) 8 ((length (start .args .answer .now) - 32) / 12) (λ i. omega (arith, at-shared-slice-known .shared-slice-known .given i)))
+    omega (arith, start .pre .0 .1, start .pre .0 .2, a .0, a .1 .long, b .next, b .long, intervals-short (start .args .answer .now) 9 ((length (start .args .answer .now) - 36) / 12) (λ i. omega (arith, at-shared-slice-known .shared-slice-known .given i)))
 
 same-length : tie.Need-same-length
 same-length c = search needs

@@ -26,9 +26,15 @@ is-marked-requires c κs =
     let start = at-shared-slice-known2 .before .before in
     (start .pre .1 .1 .0 .long, omega (arith, start .pre .1 .1 .1, allocations-few (start .pre .1 .1 .0)))
 
+flags-of-requires : tie.Need-flags-of-requires
+flags-of-requires c κs =
+    let at-site-of = c .before .before in
+    let start = at-site-of .before .before .before .before .before .before .before in
+    (start .pre .1 .1 .0 .long, omega (arith, start .pre .1 .1 .1, allocations-few (start .pre .1 .1 .0)))
+
 marked-answer-requires : tie.Need-marked-answer-requires
 marked-answer-requires c κs =
-    let at-site-of = c .before .before .before in
+    let at-site-of = c .before .before .before .before in
     let at-alloc-sites = at-site-of .before in
     let at-shared-slice-known = at-alloc-sites .before .before .before .before .before in
     let start = at-shared-slice-known .before in
@@ -40,14 +46,16 @@ same-length c = search needs
 returns : tie.Need-returns
 returns c =
     let at-marked-answer = c .before .before in
-    let at-if1 = at-marked-answer .before .before in
+    let at-flags-of = at-marked-answer .before .before in
+    let at-if1 = at-flags-of .before in
     let at-is-marked = at-if1 .before in
     let at-site-of = at-is-marked .before in
     let at-alloc-sites = at-site-of .before in
     let at-shared-slice-known = at-alloc-sites .before .before .before .before .before in
     let start = at-shared-slice-known .before in
     let x = at-site-of .site-of .ensures (start .args .words .now) (start .pre .0 .well-formed) (at-alloc-sites .alloc-sites .ensures ∙ start .pre .1 .1 .0 .sites-are) in
-    at-marked-answer .marked-answer .ensures (start .args .a .0) x (mark-told (start .pre .1 .1 .0 .discovered) (x .known) (at-is-marked .is-marked .ensures) (at-if1 .if1 .taken))
+    let d = start .pre .1 .1 .0 .discovered in
+    at-marked-answer .marked-answer .ensures (start .args .a .0) x (rw (at-flags-of .flags-of .ensures) (d .flags-are (start .args .a .0) (x .known))) (mark-told d (x .known) (at-is-marked .is-marked .ensures) (at-if1 .if1 .taken))
 
 slice-aggregate-owned-locals : tie.Need-slice-aggregate-owned-locals
 slice-aggregate-owned-locals c = search needs
@@ -98,6 +106,7 @@ allocation-answer-spec =
     alloc-sites-requires
     site-of-requires
     is-marked-requires
+    flags-of-requires
     marked-answer-requires
     same-length
     returns

@@ -37,7 +37,7 @@ returns c =
     let w = start .args .words .now in
     let out = start .args .out .now in
     let f = at-finish .finish in
-    λ a x t. finished (allocationAnswer w a) out (subst (λ (n : ℕ). Finished n (length out) (f .result .number) (f .result .length)) (marked-long w (start .pre .0) x t) (f .ensures)) (puts-as (marked-answer w (start .pre .0) x t) (at-put-head .put-head .ensures)) refl
+    λ a x F t. finished (allocationAnswer w a) out (subst (λ (n : ℕ). Finished n (length out) (f .result .number) (f .result .length)) (marked-long w (start .pre .0) x t) (f .ensures)) (puts-as (marked-answer w (start .pre .0) x t F) (at-put-head .put-head .ensures)) refl
 
 pub marked-answer-spec : {M : Type 1} → statement M
 marked-answer-spec =

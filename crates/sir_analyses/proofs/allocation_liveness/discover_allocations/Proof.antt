@@ -11,10 +11,10 @@ use Rattle.sir_analyses.proofs.allocation_liveness.discover_allocations
 use Rattle.sir_analyses.proofs.allocation_liveness.discover_allocations.Tie as tie
 
 abbrev Inv-loop : tie.InvT-loop
-Inv-loop words sites links escaping pointers₀ i₀ pointers i = (i ≤ length sites) × TurnedTo words sites links escaping pointers i
+Inv-loop words sites links causes pointers₀ i₀ pointers i = (i ≤ length sites) × TurnedTo words sites links causes pointers i
 
 abbrev μ-loop : tie.MeasureT-loop
-μ-loop words sites links escaping pointers₀ i₀ pointers i = length sites - i
+μ-loop words sites links causes pointers₀ i₀ pointers i = length sites - i
 
 store-sites-requires : tie.Need-store-sites-requires Inv-loop μ-loop
 store-sites-requires c κs =
@@ -85,7 +85,7 @@ propagate-pointers-and-mark-escapes-requires c κs =
     let at-shared-slice-known4 = at-slice-known2 .before .before .before .before .before in
     let start = at-shared-slice-known4 .before .before .before .before in
     let most = start .pre .0 .sites-few in
-    ((start .pre .1 .0 .links-long, start .pre .1 .0 .escaping-long), ((room-turned (start .pre .0) (start .pre .1 .0) (at-loop .loop .inv .1), at-loop .loop .inv .1 .none-left), (omega (arith, at-base-of .base-of .ensures .1, start .pre .0 .well-formed .sized .locals-most), omega (arith, most))))
+    ((start .pre .1 .0 .links-long, start .pre .1 .0 .causes-long), ((room-turned (start .pre .0) (start .pre .1 .0) (at-loop .loop .inv .1), at-loop .loop .inv .1 .none-left), (omega (arith, at-base-of .base-of .ensures .1, start .pre .0 .well-formed .sized .locals-most), omega (arith, most))))
 
 add-i : tie.Need-add-i Inv-loop μ-loop
 add-i c =

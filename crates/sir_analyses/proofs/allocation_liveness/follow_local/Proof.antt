@@ -2,27 +2,26 @@
 use mathlib.Core.Path.{_≡_, sym, ap, _∙_}
 use mathlib.Core.List.{List}
 use Prim.Native.Nat.{ℕ, _+_, _-_, _≤_, _<_}
-use lib.ListN.{length, getD, take, length-set}
+use lib.ListN.{length, getD, take}
 use Rattle.plank_core.specs.inner.DenseIndexSet.{members, rowOf}
-use Rattle.plank_core.specs.Lists.{foldl}
 use Rattle.plank_core.specs.laws.DenseIndexSet.{length-row}
 use Rattle.plank_core.specs.laws.Lists.{getD-mem}
 use Rattle.plank_core.specs.laws.Members.{members-most, member-is}
-use Rattle.sir_analyses.specs.Propagation.{linkLocal}
-use Rattle.sir_analyses.specs.inner.Discovery.{linksIn}
+use Rattle.sir_analyses.specs.inner.Following.{linkAll}
+use Rattle.sir_analyses.specs.inner.Discovery.{linksIn, usedIn}
 use Rattle.sir_analyses.specs.inner.Stages.{PointerStep}
 use Rattle.sir_analyses.proofs.allocation_liveness.Linking.{found-at}
-use Rattle.sir_analyses.proofs.allocation_liveness.PointerTables.{room-after, links-none, links-more, followed-marked, followed-plain}
+use Rattle.sir_analyses.proofs.allocation_liveness.PointerTables.{room-after, links-none, links-more, links-flagged}
 use borrow.Author.Needs.{needs}
 use native.Mathlib.Omega.{arith}
 use Rattle.sir_analyses.proofs.allocation_liveness.follow_local.Statement.{statement}
 use Rattle.sir_analyses.proofs.allocation_liveness.follow_local.Tie as tie
 
 abbrev Inv-loop : tie.InvT-loop
-Inv-loop links escaping pointers₀ local a found count i₀ pointers i = (i ≤ count) × (count ≡ length (linksIn links (local .0))) × ((k : ℕ) → k < length (linksIn links (local .0)) → getD found k 0 ≡ getD (linksIn links (local .0)) k 0) × PointerStep (take i (linksIn links (local .0))) (a .0) (λ s. foldl (linkLocal (a .0)) s (take i (linksIn links (local .0)))) pointers₀ pointers
+Inv-loop links causes pointers₀ local a found count i₀ pointers i = (i ≤ count) × (count ≡ length (linksIn links (local .0))) × ((k : ℕ) → k < length (linksIn links (local .0)) → getD found k 0 ≡ getD (linksIn links (local .0)) k 0) × PointerStep (take i (linksIn links (local .0))) (a .0) (linkAll (a .0) (take i (linksIn links (local .0)))) pointers₀ pointers
 
 abbrev μ-loop : tie.MeasureT-loop
-μ-loop links escaping pointers₀ local a found count i₀ pointers i = count - i
+μ-loop links causes pointers₀ local a found count i₀ pointers i = count - i
 
 cast-row-of : tie.Need-cast-row-of Inv-loop μ-loop
 cast-row-of c = search needs
@@ -62,8 +61,8 @@ array-read-t20 c =
     let start = at-struct-known .before .before .before .before in
     omega (arith, members-most (rowOf (start .args .links .now) (start .args .local .0)), at-loop .loop .inv .1)
 
-link-local-to-alloc-requires : tie.Need-link-local-to-alloc-requires Inv-loop μ-loop
-link-local-to-alloc-requires c κs =
+reach-local-requires : tie.Need-reach-local-requires Inv-loop μ-loop
+reach-local-requires c κs =
     let at-loop = c .before .before in
     let at-struct-known = at-loop .before .before .before .before .before in
     let start = at-struct-known .before .before .before .before in
@@ -84,73 +83,34 @@ loop-less c = omega arith
 
 loop-again : tie.Need-loop-again Inv-loop μ-loop
 loop-again c =
-    let at-link-local-to-alloc = c .before .before in
-    let at-loop = at-link-local-to-alloc .before .before .before in
+    let at-reach-local = c .before .before in
+    let at-loop = at-reach-local .before .before .before in
     let at-struct-known = at-loop .before .before .before .before .before in
     let start = at-struct-known .before .before .before .before in
     let l = at-loop .loop in
     let xs = linksIn (start .args .links .now) (start .args .local .0) in
     let i : l .i < length xs = omega (arith, l .inv .1) in
-    (omega arith, l .inv .1, l .inv .2, links-more xs (l .i) i (l .inv .3) (rw (l .inv .2 (l .i) i) at (at-link-local-to-alloc .link-local-to-alloc .ensures)))
+    (omega arith, l .inv .1, l .inv .2, links-more xs (l .i) i (l .inv .3) (rw (l .inv .2 (l .i) i) at (at-reach-local .reach-local .ensures)))
 
-row-contains-requires : tie.Need-row-contains-requires Inv-loop μ-loop
-row-contains-requires c κs =
-    let at-row-of = c .before .before .before .before .before in
-    let start = at-row-of .before .before .before .before .before in
-    (omega (arith, start .pre .0 .1), start .pre .1 .1 .0)
-
-cast-pointers : tie.Need-cast-pointers Inv-loop μ-loop
-cast-pointers c = omega arith
-
-add-pointers : tie.Need-add-pointers Inv-loop μ-loop
-add-pointers c = omega arith
-
-mul-pointers : tie.Need-mul-pointers Inv-loop μ-loop
-mul-pointers c = omega arith
-
-slice-write-pointers : tie.Need-slice-write-pointers Inv-loop μ-loop
-slice-write-pointers c =
-    let at-loop = c .before .before .before .before in
+flag-uses-requires : tie.Need-flag-uses-requires Inv-loop μ-loop
+flag-uses-requires c κs =
+    let at-loop = c .before .before in
     let at-struct-known = at-loop .before .before .before .before .before in
     let start = at-struct-known .before .before .before .before in
-    omega (arith, at-loop .loop .inv .3 .long, start .pre .1 .1 .1)
+    ((start .pre .0 .1, room-after (at-loop .loop .inv .3)), start .pre .1 .1)
 
 same-length : tie.Need-same-length Inv-loop μ-loop
-same-length c =
-    let at-loop = c .before .before .before .before in
-    let at-struct-known = at-loop .before .before .before .before .before in
-    let start = at-struct-known .before .before .before .before in
-    length-set (at-loop .loop .pointers) (1026 + start .args .a .0) 1 ∙ at-loop .loop .inv .3 .long ∙ sym (start .pre .1 .0 .long)
+same-length c = search needs
 
 returns : tie.Need-returns Inv-loop μ-loop
 returns c =
-    let at-if1 = c .before in
-    let at-row-contains = at-if1 .before in
-    let at-loop = at-row-contains .before .before in
+    let at-flag-uses = c .before .before in
+    let at-loop = at-flag-uses .before .before .before in
     let at-struct-known = at-loop .before .before .before .before .before in
     let start = at-struct-known .before .before .before .before in
     let xs = linksIn (start .args .links .now) (start .args .local .0) in
     let e : length xs ≤ at-loop .loop .i = omega (arith, at-loop .loop .inv .1) in
-    let z : 0 + start .args .local .0 ≡ start .args .local .0 = omega arith in
-    followed-marked xs (at-loop .loop .i) e (at-loop .loop .inv .3) _ (start .pre .1 .1 .1) (rw z at (sym (at-row-contains .row-contains .ensures) ∙ at-if1 .if1 .taken))
-
-same-length-2 : tie.Need-same-length-2 Inv-loop μ-loop
-same-length-2 c =
-    let at-loop = c .before .before .before in
-    let at-struct-known = at-loop .before .before .before .before .before in
-    let start = at-struct-known .before .before .before .before in
-    at-loop .loop .inv .3 .long ∙ sym (start .pre .1 .0 .long)
-
-returns-2 : tie.Need-returns-2 Inv-loop μ-loop
-returns-2 c =
-    let at-row-contains = c .before in
-    let at-loop = at-row-contains .before .before in
-    let at-struct-known = at-loop .before .before .before .before .before in
-    let start = at-struct-known .before .before .before .before in
-    let xs = linksIn (start .args .links .now) (start .args .local .0) in
-    let e : length xs ≤ at-loop .loop .i = omega (arith, at-loop .loop .inv .1) in
-    let z : 0 + start .args .local .0 ≡ start .args .local .0 = omega arith in
-    followed-plain xs (at-loop .loop .i) e (at-loop .loop .inv .3) _ (rw z at (sym (at-row-contains .row-contains .ensures) ∙ c .if1 .left))
+    links-flagged xs (at-loop .loop .i) e (at-loop .loop .inv .3) (usedIn (start .args .causes .now) (start .args .local .0)) (at-flag-uses .flag-uses .ensures)
 
 pub follow-local-spec : {M : Type 1} → statement M
 follow-local-spec =
@@ -165,16 +125,10 @@ follow-local-spec =
     loop-holds
     mul-t17
     array-read-t20
-    link-local-to-alloc-requires
+    reach-local-requires
     add-i
     loop-less
     loop-again
-    row-contains-requires
-    cast-pointers
-    add-pointers
-    mul-pointers
-    slice-write-pointers
+    flag-uses-requires
     same-length
-    returns
-    same-length-2
-    returns-2)
+    returns)

@@ -10,10 +10,10 @@ use Rattle.sir_analyses.proofs.allocation_liveness.propagate_pointers_a
 use Rattle.sir_analyses.proofs.allocation_liveness.propagate_pointers_and_mark_escapes.Tie as tie
 
 abbrev Inv-loop : tie.InvT-loop
-Inv-loop links escaping pointers₀ a pointers = OnTheWay links escaping (a .0) pointers₀ pointers
+Inv-loop links causes pointers₀ a pointers = OnTheWay links causes (a .0) pointers₀ pointers
 
 abbrev μ-loop : tie.MeasureT-loop
-μ-loop links escaping pointers₀ a pointers = zeros (ownersIn pointers) + leftIn pointers
+μ-loop links causes pointers₀ a pointers = zeros (ownersIn pointers) + leftIn pointers
 
 slice-write-pointers : tie.Need-slice-write-pointers Inv-loop μ-loop
 slice-write-pointers c = omega (arith, c .before .before .before .pre .1 .0 .0 .long)

@@ -16,7 +16,7 @@ put-words-requires c κs =
     let at-alloc-head = c .before .before .before .before in
     let start = at-alloc-head .before .before .before in
     let a = start .args in
-    omega (arith, ap length (at-alloc-head .alloc-head .ensures), head-long (a .words .now) (a .site .block .0) (a .site .op .0) (a .mark) (a .count))
+    omega (arith, ap length (at-alloc-head .alloc-head .ensures), head-long (a .words .now) (a .site .block .0) (a .site .op .0) (a .flags) (a .count))
 
 same-length : tie.Need-same-length
 same-length c = search needs

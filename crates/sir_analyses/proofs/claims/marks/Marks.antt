@@ -231,22 +231,29 @@ module _ (w : List ℕ) (good : WellFormed w) where
       let l = carried-link w mx mv in
       spread-step (nextOf w) w (base w (allocAt w a)) (bind-mem (next w) (members-in (reach w (allocAt w a)) u (reach-complete a u h r)) (link-next w l)) (link-less l)
 
+  -- another allocation than a that reaches v
+  pub other-reaches : (a v : ℕ) → reachedByOther w a v ≡ true → (b : ℕ) × (b < length (allocs w)) × (¬ (a ≡ b)) × Reached w b v
+  other-reaches a v t =
+      let q = any-out (λ (k : ℕ). not (eqb k a) && has (reach w (allocAt w k)) v) (upto (length (allocs w))) t in
+      let other = not-true (eqb (q .0) a) (and-true-left (not (eqb (q .0) a)) (has (reach w (allocAt w (q .0))) v) (q .2)) in
+      let reaches = and-true-right (not (eqb (q .0) a)) (has (reach w (allocAt w (q .0))) v) (q .2) in
+      (q .0, mem-upto (q .0) (length (allocs w)) (q .1), λ e. eqb-false (q .0) a other (sym e), reach-sound (q .0) v reaches)
+
+  pub reached-by-other : (a v b : ℕ) → b < length (allocs w) → ¬ (a ≡ b) → Reached w b v → reachedByOther w a v ≡ true
+  reached-by-other a v b l n q =
+      any-mem (λ (k : ℕ). not (eqb k a) && has (reach w (allocAt w k)) v) (upto-mem b (length (allocs w)) l)
+      (both-true (not (eqb b a)) (has (reach w (allocAt w b)) v) (ap not (ne-eqb b a (λ e. n (sym e)))) (reach-complete b v l q))
+
   mark-sound : (a : ℕ) → marked w a ≡ true → Marked w a
   mark-sound a t = go (any-out (λ (v : ℕ). escapes w v || isReturned w v || reachedByOther w a v) (members (reach w (allocAt w a))) t)
     where
-      other : (v : ℕ) → Reached w a v → (k : ℕ) × (k ∈ upto (length (allocs w))) × ((not (eqb k a) && has (reach w (allocAt w k)) v) ≡ true) → Marked w a
-      other v r q =
-          let other = not-true (eqb (q .0) a) (and-true-left (not (eqb (q .0) a)) (has (reach w (allocAt w (q .0))) v) (q .2)) in
-          let reaches = and-true-right (not (eqb (q .0) a)) (has (reach w (allocAt w (q .0))) v) (q .2) in
-          met r (mem-upto (q .0) (length (allocs w)) (q .1)) (λ e. eqb-false (q .0) a other (sym e)) (reach-sound (q .0) v reaches)
-
       why : (v : ℕ) → Reached w a v → ((escapes w v || isReturned w v) ≡ true) ⊎ (reachedByOther w a v ≡ true) → Marked w a
       why v r (inl h) = first-two (or-cases (escapes w v) (isReturned w v) h)
         where
           first-two : (escapes w v ≡ true) ⊎ (isReturned w v ≡ true) → Marked w a
           first-two (inl k) = escaped r k
           first-two (inr k) = returned r k
-      why v r (inr h) = other v r (any-out (λ (k : ℕ). not (eqb k a) && has (reach w (allocAt w k)) v) (upto (length (allocs w))) h)
+      why v r (inr h) = let q = other-reaches a v h in met r (q .1) (q .2) (q .3)
 
       go : (v : ℕ) × (v ∈ members (reach w (allocAt w a))) × ((escapes w v || isReturned w v || reachedByOther w a v) ≡ true) → Marked w a
       go q = why (q .0) (reach-sound a (q .0) (members-out (reach w (allocAt w a)) (q .1))) (or-cases (escapes w (q .0) || isReturned w (q .0)) (reachedByOther w a (q .0)) (q .2))
@@ -260,9 +267,7 @@ module _ (w : List ℕ) (good : WellFormed w) where
       go : Marked w a → marked w a ≡ true
       go (escaped {v} r t) = because v r (or-true-left (escapes w v || isReturned w v) (reachedByOther w a v) (or-true-left (escapes w v) (isReturned w v) t))
       go (returned {v} r t) = because v r (or-true-left (escapes w v || isReturned w v) (reachedByOther w a v) (or-true-right (escapes w v) (isReturned w v) t))
-      go (met {v} {b} r l n q) =
-          let m : reachedByOther w a v ≡ true = any-mem (λ (k : ℕ). not (eqb k a) && has (reach w (allocAt w k)) v) (upto-mem b (length (allocs w)) l) (both-true (not (eqb b a)) (has (reach w (allocAt w b)) v) (ap not (ne-eqb b a (λ e. n (sym e)))) (reach-complete b v l q)) in
-          because v r (or-true-right (escapes w v || isReturned w v) (reachedByOther w a v) m)
+      go (met {v} {b} r l n q) = because v r (or-true-right (escapes w v || isReturned w v) (reachedByOther w a v) (reached-by-other a v b l n q))
 
   pub mark-rule : MarkRule w
   mark-rule = record { reach-exact = λ a v h. (reach-sound a v, reach-complete a v h); mark-exact = λ a h. (mark-sound a, mark-complete a h) }

@@ -29,8 +29,7 @@ use Rattle.sir_analyses.proofs.claims.source.Tables.{listOf, Appends, a
 use Rattle.sir_analyses.proofs.claims.source.Liveness.{source-exits}
 use Rattle.sir_analyses.proofs.claims.source.Scans.{source-local-intervals}
 use Rattle.sir_analyses.proofs.claims.source.Merging.{AllNumbered, merge-same}
-use Rattle.sir_analyses.proofs.claims.source.Marks.{source-ends, source-marks}
-use Rattle.sir_analyses.proofs.claims.marks.Propagation.{ended-reach}
+use Rattle.sir_analyses.proofs.claims.source.Marks.{ended-reach, harmful, source-ends, source-marks}
 
 -- ---- the numbers of starts and ends
 
@@ -166,7 +165,7 @@ module _ (intervalsOf : ℕ → List Interval) (s : State) (a : ℕ) where
 
 module _ (w : List ℕ) (good : WellFormed w) (twelve : rule12 w ≡ false) where
   pub reach-owned : (a v : ℕ) → a < length (allocs w) → marked w a ≡ false → has (reach w (allocAt w a)) v ≡ eqb (getD (sourceState w .owner) v 0) (suc a)
-  reach-owned = let end = source-ends w good twelve in ended-reach w good (sourceState w) (end .1) (end .2)
+  reach-owned a v h free = let end = source-ends w good twelve in ended-reach w good (harmful w) (sourceState w) (end .1) (end .2) a v h (source-marks w good twelve a h ∙ free)
 
   abbrev ownedBy : ℕ → List ℕ
   ownedBy a = keep (λ v. eqb (getD (sourceState w .owner) v 0) (suc a)) (upto (locals w))

@@ -18,12 +18,12 @@ use Rattle.sir_data.specs.inner.WellFormed.{WellFormed}
 use Rattle.sir_analyses.specs.Liveness.{Use, uses, Set, has, addAll, members}
 use Rattle.sir_analyses.specs.Allocation.{allocs, allocAt, base, carried, next, nextOf, spread, unowned, give, link, owners}
 use Rattle.sir_analyses.specs.inner.Discovery.{zeros}
-use Rattle.sir_analyses.specs.Propagation.{State, linkLocal, follow, start}
+use Rattle.sir_analyses.specs.Propagation.{State, linkLocal, start}
 use Rattle.sir_analyses.specs.Source.{followUse, pop, drain, propagate, sourceState}
 use Rattle.sir_analyses.proofs.SetLaws.{members-in, members-out}
 use Rattle.sir_analyses.proofs.claims.marks.Marks.{spread-sound, spread-base, spread-step, next-less, base-less}
 use Rattle.sir_analyses.proofs.claims.source.Discovery.{after-same}
-use Rattle.sir_analyses.proofs.claims.source.Steps.{marksAt, follow-use, zeros-most, zeros-fewer, zeros-no-more, start-length}
+use Rattle.sir_analyses.proofs.claims.source.Steps.{follow, marksAt, follow-use, zeros-most, zeros-fewer, zeros-no-more, start-length}
 
 -- what the work list comes to from v, where o has the owners before: v itself, and what nobody had
 pub data Onward (w o : List ℕ) (v : ℕ) : ℕ → Type 0 where
@@ -249,26 +249,39 @@ module _ (w : List ℕ) (good : WellFormed w) where
     abbrev v : ℕ
     v = base w (allocAt w a)
 
-    reached : Set
-    reached = spread w (unowned w o) v
-
-    reached-onward : (x : ℕ) → has reached x ≡ true → Onward w o v x
-    unfolding reached
+    pub reached-onward : (x : ℕ) → has (spread w (unowned w o) v) x ≡ true → Onward w o v x
     reached-onward = spread-sound (unowned w o) w v (Onward w o v) (itself refl) (λ s h x m.
         let p = keep-out (λ (x : ℕ). eqb (getD o x 0) 0) (nextOf w s) m in
         let q = bind-out (next w) (members s) (p .0) in
         onwards (h (q .0) (members-out s (q .1))) (q .2) (eqb-true (getD o x 0) 0 (p .1)))
 
-    onward-reached : {x : ℕ} → Onward w o v x → has reached x ≡ true
-    unfolding reached
+    pub onward-reached : {x : ℕ} → Onward w o v x → has (spread w (unowned w o) v) x ≡ true
     onward-reached {x} (itself q) = spread-base (unowned w o) w v q (base-less w good a less)
     onward-reached {x} (onwards {u} f m z) =
         spread-step (unowned w o) w v
-        (keep-mem (λ (x : ℕ). eqb (getD o x 0) 0) (bind-mem (next w) (members-in reached u (onward-reached f)) m) (eq-eqb (getD o x 0) 0 z))
+        (keep-mem (λ (x : ℕ). eqb (getD o x 0) 0) (bind-mem (next w) (members-in (spread w (unowned w o) v) u (onward-reached f)) m) (eq-eqb (getD o x 0) 0 z))
         (next-less w good u x m)
 
-    taken : List ℕ
-    taken = nextOf w reached
+    -- a turn of the definition gives an owner to what is to be taken
+    pub turn-takes : {u x : ℕ} → Onward w o v u → x ∈ next w u → getD (link w o a) x 0 ≡ suc a
+    turn-takes {u} {x} f m = give-in o a (rw size (next-less w good u x m)) (bind-mem (next w) (members-in (spread w (unowned w o) v) u (onward-reached f)) m)
+
+    -- and to nothing else
+    pub turn-gives : (x : ℕ) → (getD (link w o a) x 0 ≡ getD o x 0) ⊎ ((getD (link w o a) x 0 ≡ suc a) × Taken w o v x)
+    turn-gives x = go (bool-or (mem x taken))
+      where
+        reached : Set
+        reached = spread w (unowned w o) v
+
+        taken : List ℕ
+        taken = nextOf w reached
+
+        go : (mem x taken ≡ true) ⊎ (mem x taken ≡ false) → (getD (link w o a) x 0 ≡ getD o x 0) ⊎ ((getD (link w o a) x 0 ≡ suc a) × Taken w o v x)
+        go (inl t) =
+            let q = bind-out (next w) (members reached) (mem-in x taken t) in
+            let k : Taken w o v x = record { by = q .0; onward = reached-onward (q .0) (members-out reached (q .1)); carries = q .2 } in
+            inr (turn-takes (k .onward) (k .carries), k)
+        go (inr t) = inl (give-out o taken a x (λ m. none (mem x taken) (in-mem x m) t))
 
     -- a turn begins with the base
     pub first : Taking w o v a o (v ∷ []) []
@@ -280,22 +293,13 @@ module _ (w : List ℕ) (good : WellFormed w) where
 
     -- once nothing is left, the owners are those that one turn of the definition gives
     pub turned : {after : List ℕ} → Taking w o v a after [] [] → after ≡ link w o a
-    unfolding reached taken
-    turned {after} I = ext-getD 0 after (link w o a) (I .size ∙ sym (length-give o taken a ∙ size)) (λ x h. each x (omega (arith, I .size)) (bool-or (mem x taken)))
+    turned {after} I = ext-getD 0 after (link w o a) (I .size ∙ sym (length-give o (nextOf w (spread w (unowned w o) v)) a ∙ size)) (λ x h. each x (I .from x) (turn-gives x))
       where
-        each : (x : ℕ) → x < locals w → (mem x taken ≡ true) ⊎ (mem x taken ≡ false) → getD after x 0 ≡ getD (give o taken a) x 0
-        each x h (inl t) =
-            let m = mem-in x taken t in
-            let q = bind-out (next w) (members reached) m in
-            ended-done w o v a I (reached-onward (q .0) (members-out reached (q .1))) x (q .2) ∙ sym (give-in o a (omega arith) m)
-        each x h (inr t) = go (I .from x)
-          where
-            not-in : ¬ (x ∈ taken)
-            not-in m = none (mem x taken) (in-mem x m) t
-
-            go : (getD after x 0 ≡ getD o x 0) ⊎ ((getD after x 0 ≡ suc a) × Taken w o v x) → getD after x 0 ≡ getD (give o taken a) x 0
-            go (inl e) = e ∙ sym (give-out o taken a x not-in)
-            go (inr e) = absurd (not-in (bind-mem (next w) (members-in reached (e .1 .by) (onward-reached (e .1 .onward))) (e .1 .carries)))
+        each : (x : ℕ) → (getD after x 0 ≡ getD o x 0) ⊎ ((getD after x 0 ≡ suc a) × Taken w o v x) → (getD (link w o a) x 0 ≡ getD o x 0) ⊎ ((getD (link w o a) x 0 ≡ suc a) × Taken w o v x)
+            → getD after x 0 ≡ getD (link w o a) x 0
+        each x (inl e) (inl g) = e ∙ sym g
+        each x (inl e) (inr g) = ended-done w o v a I (g .1 .onward) x (g .1 .carries) ∙ sym (g .0)
+        each x (inr e) g = e .0 ∙ sym (turn-takes (e .1 .onward) (e .1 .carries))
 
     -- one turn of the source
     turn : (marks : Set) (work : List ℕ) → propagate (uses w) w (record { owner = o; marks = marks; work = work }) a .owner ≡ link w o a

@@ -14,11 +14,11 @@ use Rattle.plank_core.specs.Lists.{foldl, upto, _∈_}
 use Rattle.sir_data.specs.Records.{locals, control, inputs, successors, code, outs}
 use Rattle.sir_data.specs.Codes.{derives}
 use Rattle.sir_analyses.specs.Liveness.{Use, Set, has, addAll}
-use Rattle.sir_analyses.specs.Allocation.{allocs, allocAt, base, bases, carried, next, escapesBy, escapesAt, returnedAt, escapes, isReturned}
+use Rattle.sir_analyses.specs.Allocation.{allocs, allocAt, base, bases, carried, next, escapesBy, escapesAt, returnedAt}
 use Rattle.sir_analyses.specs.inner.Discovery.{zeros}
-use Rattle.sir_analyses.specs.Propagation.{State, linkLocal, mark, follow}
+use Rattle.sir_analyses.specs.Propagation.{State, linkLocal, mark}
 use Rattle.sir_analyses.specs.Source.{followOperation, followOutput, followUse}
-use Rattle.sir_analyses.specs.Claims.{Reached, Marked, met}
+use Rattle.sir_analyses.specs.Claims.{Reached}
 use Rattle.sir_analyses.proofs.SetLaws.{length-addAll, add-keeps, add-in, add-out}
 use Rattle.sir_analyses.proofs.Accepted.{returns-last}
 
@@ -89,6 +89,10 @@ module _ (f : ℕ → ℕ) where
 
 -- ---- one use
 
+-- xs, what a use carries, are linked, and where the use marks the allocation is marked
+abbrev pub follow : List ℕ → Bool → ℕ → State → State
+follow xs marking a s = let t = foldl (linkLocal a) s xs in cond marking (mark a t) t
+
 -- does this use of v mark?
 abbrev pub marksAt : List ℕ → ℕ → Use → Bool
 marksAt w v u = escapesAt w v u || returnedAt w u
@@ -144,20 +148,27 @@ meets-trans {marks} (each p q) (each r t) = each p t
 pub joined-grow : {root root′ : ℕ → ℕ} {marks marks′ : Set} {d y : ℕ} → ((x d : ℕ) → root x ≡ suc d → root′ x ≡ suc d) → ((d : ℕ) → has marks d ≡ true → has marks′ d ≡ true) → Joined root marks d y → Joined root′ marks′ d y
 joined-grow {y = y} f g j = record { one = j .one; is-root = f y (j .one) (j .is-root); meets = meets-grow g (j .meets) }
 
-module _ (w : List ℕ) where
+-- base of allocation a
+abbrev pub baseOf : List ℕ → ℕ → ℕ
+baseOf w a = base w (allocAt w a)
+
+pub start-length : (w : List ℕ) → length (bases w) ≡ locals w
+start-length w = bases-length (baseOf w) (replicate (locals w) 0) (upto (length (allocs w))) ∙ length-replicate (locals w) 0
+
+-- `harms` tells which locals mark whoever reaches them
+module _ (w : List ℕ) (harms : ℕ → Bool) where
   abbrev n : ℕ
   n = length (allocs w)
 
-  abbrev pub baseOf : ℕ → ℕ
-  baseOf a = base w (allocAt w a)
+  -- allocation a reaches a local that harms, or one that another allocation reaches too
+  pub data MarkedBy (a : ℕ) : Type 0 where
+    harmed : {v : ℕ} → Reached w a v → harms v ≡ true → MarkedBy a
+    met : {v b : ℕ} → Reached w a v → b < n → ¬ (a ≡ b) → Reached w b v → MarkedBy a
 
-  pub start-length : length (bases w) ≡ locals w
-  start-length = bases-length baseOf (replicate (locals w) 0) (upto n) ∙ length-replicate (locals w) 0
-
-  -- all that x carries is joined to d, and where x escapes d is marked
+  -- all that x carries is joined to d, and where x harms d is marked
   pub record Done (root : ℕ → ℕ) (marks : Set) (x d : ℕ) : Type 0 where
     pub links : (y : ℕ) → y ∈ next w x → Joined root marks d y
-    pub marks-it : (escapes w x || isReturned w x) ≡ true → has marks d ≡ true
+    pub marks-it : harms x ≡ true → has marks d ≡ true
 
   -- allocation a is being followed; `root` is the first owner of each local; `more` are the locals whose turn comes later
   pub record Inv (a : ℕ) (s : State) (more : List ℕ) : Type 0 where
@@ -166,9 +177,9 @@ module _ (w : List ℕ) where
     pub marks-length : length (s .marks) ≡ n
     pub unowned : (x : ℕ) → getD (s .owner) x 0 ≡ 0 → root x ≡ 0
     pub owned : (x c : ℕ) → getD (s .owner) x 0 ≡ suc c → Joined root (s .marks) c x × Reached w c x × (c < n)
-    pub bases-kept : (k : ℕ) → k < n → root (baseOf k) ≡ suc k
+    pub bases-kept : (k : ℕ) → k < n → root (baseOf w k) ≡ suc k
     pub done : (x d : ℕ) → root x ≡ suc d → (x ∈ s .work) ⊎ ((x ∈ more) ⊎ Done root (s .marks) x d)
-    pub sound : (d : ℕ) → has (s .marks) d ≡ true → Marked w d
+    pub sound : (d : ℕ) → has (s .marks) d ≡ true → MarkedBy d
     pub mine : (x : ℕ) → x ∈ s .work → (root x ≡ suc a) × Reached w a x
 
   pub record Grown {a : ℕ} {s : State} {more : List ℕ} (I : Inv a s more) (s′ : State) : Type 0 where
@@ -192,7 +203,7 @@ module _ (w : List ℕ) where
   grown-refl I = record { inv = I; roots = λ x d e. e; marked-still = λ d t. t; cost = omega arith }
 
   -- marks are added
-  pub remark : {a : ℕ} {s : State} {more : List ℕ} (I : Inv a s more) (vs : List ℕ) → ((d : ℕ) → d ∈ vs → Marked w d) → Grown I (record { owner = s .owner; marks = addAll (s .marks) vs; work = s .work })
+  pub remark : {a : ℕ} {s : State} {more : List ℕ} (I : Inv a s more) (vs : List ℕ) → ((d : ℕ) → d ∈ vs → MarkedBy d) → Grown I (record { owner = s .owner; marks = addAll (s .marks) vs; work = s .work })
   remark {a} {s} {more} I vs f = record {
     inv = record {
       root = I .root;
@@ -218,7 +229,7 @@ module _ (w : List ℕ) where
       pending x d (inr (inl h)) = inr (inl h)
       pending x d (inr (inr h)) = inr (inr (done-grow (λ x d e. e) still h))
 
-      sounds : (d : ℕ) → (has (s .marks) d ≡ true) ⊎ (d ∈ vs) → Marked w d
+      sounds : (d : ℕ) → (has (s .marks) d ≡ true) ⊎ (d ∈ vs) → MarkedBy d
       sounds d (inl t) = I .sound d t
       sounds d (inr m) = f d m
 
@@ -263,7 +274,7 @@ module _ (w : List ℕ) where
         marks-length = I .marks-length;
         unowned = λ x e. free x e (ℕ-discrete x v);
         owned = λ x c e. had x c e (ℕ-discrete x v);
-        bases-kept = λ k h. grow (baseOf k) k (I .bases-kept k h);
+        bases-kept = λ k h. grow (baseOf w k) k (I .bases-kept k h);
         done = λ x d e. pending x d e (ℕ-discrete x v);
         sound = I .sound;
         mine = ours;
@@ -341,7 +352,7 @@ module _ (w : List ℕ) where
           let G = reown (M .inv) v less small r j′ in
           (grown-trans M G, joined-grow {root = M .inv .root} {root′ = G .inv .root} (G .roots) (G .marked-still) j′)
         where
-          twice : (k c : ℕ) → c ≡ k - 1 → ¬ (c ≡ a) → Reached w c v → c < n → (d : ℕ) → d ∈ (a ∷ (k - 1) ∷ []) → Marked w d
+          twice : (k c : ℕ) → c ≡ k - 1 → ¬ (c ≡ a) → Reached w c v → c < n → (d : ℕ) → d ∈ (a ∷ (k - 1) ∷ []) → MarkedBy d
           twice k c z d rc lc x (List·Memᴰ·head e) = rw e (met r lc (λ q. d (sym q)) rc)
           twice k c z d rc lc x (List·Memᴰ·tail (List·Memᴰ·head e)) = let y : x ≡ c = e ∙ sym z in rw y (met rc less d r)
           twice k c z d rc lc x (List·Memᴰ·tail (List·Memᴰ·tail m)) = absurd (List·Memᴰ·not-nil m)

@@ -71,9 +71,9 @@ loop-again c =
     let xs = at-op-inputs .op-inputs .result .now in
     let e = c .before .operation-causes-ptr-escape .ensures in
     let h = read-places (start .pre .0) (start .args .o .0) (l .k) (at-op-inputs .op-inputs .ensures) (start .pre .1 .0) (c .before .before .loop-test .taken) in
-    let a : Adds (l .escaping) (escapingAt code xs (l .k)) (c .if1 .escaping) =
+    let a : Adds (l .causes) (escapingAt code xs (l .k)) (c .if1 .causes) =
     ⊎-elim
-    (λ x. let t : escaping code (l .k) ≡ true = sym e ∙ x .0 .taken in rw (x .6, x .3 .ensures .1) (adds-as (λ r v i. rw t) (adds-one (l .escaping) 0 (getD xs (l .k) 0) h)))
+    (λ x. let t : escaping code (l .k) ≡ true = sym e ∙ x .0 .taken in rw (x .6, x .3 .ensures .1) (adds-as (λ r v i. rw t) (adds-one (l .causes) 0 (getD xs (l .k) 0) h)))
     (λ x. let t : escaping code (l .k) ≡ false = sym e ∙ x .0 .left in rw (x .1) (adds-none (λ r v i. rw t)))
     (c .if1 .came) in
     (omega arith, adds-counted (escapingAt code xs) (l .k) (l .inv .1) a)

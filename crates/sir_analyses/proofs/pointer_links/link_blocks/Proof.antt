@@ -19,7 +19,7 @@ use Rattle.sir_analyses.proofs.pointer_links.link_blocks.Statement.{sta
 use Rattle.sir_analyses.proofs.pointer_links.link_blocks.Tie as tie
 
 abbrev Inv-loop : tie.InvT-loop
-Inv-loop words visit links₀ escaping₀ order i₀ links escaping i = (i ≤ length order) × Adds links₀ (λ v u. any (λ b. any (λ s. passesBy words b s v u) (successors words b)) (take i order)) links × Adds escaping₀ (λ r v. any (λ b. eqb r 0 && mem v (returned words b)) (take i order)) escaping
+Inv-loop words visit links₀ escaping₀ order i₀ links escaping i = (i ≤ length order) × Adds links₀ (λ v u. any (λ b. any (λ s. passesBy words b s v u) (successors words b)) (take i order)) links × Adds escaping₀ (λ r v. any (λ b. eqb r 1 && mem v (returned words b)) (take i order)) escaping
 
 abbrev μ-loop : tie.MeasureT-loop
 μ-loop words visit links₀ escaping₀ order i₀ links escaping i = length order - i
@@ -92,7 +92,7 @@ loop-again c =
     let order = at-rpo .rpo .result .now in (
       omega arith,
       adds-listed (λ b v u. any (λ t. passesBy w b t v u) (successors w b)) order (l .i) (at-loop-test .loop-test .taken) (l .inv .1) (at-link-edges .link-edges .ensures),
-      adds-listed (λ b r v. eqb r 0 && mem v (returned w b)) order (l .i) (at-loop-test .loop-test .taken) (l .inv .2) (rw (at-returned-outputs .returned-outputs .ensures) at (at-add-run .add-run .ensures)),
+      adds-listed (λ b r v. eqb r 1 && mem v (returned w b)) order (l .i) (at-loop-test .loop-test .taken) (l .inv .2) (rw (at-returned-outputs .returned-outputs .ensures) at (at-add-run .add-run .ensures)),
     )
 
 same-length : tie.Need-same-length Inv-loop μ-loop
@@ -110,7 +110,7 @@ returns c =
     let w = start .args .words .now in
     let order = at-rpo .rpo .result .now in (
       rw (at-rpo .rpo .ensures ∙ start .pre .0 .rpo-is) at (adds-all (λ b v u. any (λ t. passesBy w b t v u) (successors w b)) order (l .i) (c .loop-test .left) (l .inv .1)),
-      rw (at-rpo .rpo .ensures ∙ start .pre .0 .rpo-is) at (adds-all (λ b r v. eqb r 0 && mem v (returned w b)) order (l .i) (c .loop-test .left) (l .inv .2)),
+      rw (at-rpo .rpo .ensures ∙ start .pre .0 .rpo-is) at (adds-all (λ b r v. eqb r 1 && mem v (returned w b)) order (l .i) (c .loop-test .left) (l .inv .2)),
     )
 
 pub link-blocks-spec : {M : Type 1} → statement M

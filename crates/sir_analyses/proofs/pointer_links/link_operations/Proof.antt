@@ -75,7 +75,7 @@ loop-again c =
     (λ x. rw (x .9) (adds-as (λ v u i. rw (sym seen ∙ x .0 .taken)) (x .2 .ensures)))
     (λ x. rw (x .1) (adds-none (λ v u i. rw (sym seen ∙ x .0 .left))))
     (c .if1 .came) in
-    let b : Adds (l .escaping) (λ r v. isVisitedOp w (l .o) && (eqb r 0 && escapesBy w (l .o) v)) (c .if1 .escaping) =
+    let b : Adds (l .causes) (λ r v. isVisitedOp w (l .o) && (eqb r 0 && escapesBy w (l .o) v)) (c .if1 .causes) =
     ⊎-elim
     (λ x. rw (x .10) (adds-as (λ r v i. rw (sym seen ∙ x .0 .taken)) (x .6 .ensures)))
     (λ x. rw (x .2) (adds-none (λ r v i. rw (sym seen ∙ x .0 .left))))

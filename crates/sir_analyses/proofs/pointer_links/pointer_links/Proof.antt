@@ -20,7 +20,7 @@ link-operations-requires c κs =
     let at-visited-ops = c .before .before .before .before in
     let at-shared-slice-known = at-visited-ops .before .before .before .before .before in
     let start = at-shared-slice-known .before in
-    (start .pre .0 .well-formed, (at-visited-ops .visited-ops .ensures, (cleared-long (start .args .links .now) 4096 (start .pre .1 .0), cleared-long (start .args .escaping .now) 8 (start .pre .1 .1))))
+    (start .pre .0 .well-formed, (at-visited-ops .visited-ops .ensures, (cleared-long (start .args .links .now) 4096 (start .pre .1 .0), cleared-long (start .args .causes .now) 16 (start .pre .1 .1))))
 
 link-blocks-requires : tie.Need-link-blocks-requires
 link-blocks-requires c κs =
@@ -30,7 +30,7 @@ link-blocks-requires c κs =
     let at-shared-slice-known = at-visited-ops .before .before .before .before .before in
     let start = at-shared-slice-known .before in
     let r = at-link-operations .link-operations .ensures in
-    (start .pre .0, (r .0 .long ∙ cleared-long (start .args .links .now) 4096 (start .pre .1 .0), r .1 .long ∙ cleared-long (start .args .escaping .now) 8 (start .pre .1 .1)))
+    (start .pre .0, (r .0 .long ∙ cleared-long (start .args .links .now) 4096 (start .pre .1 .0), r .1 .long ∙ cleared-long (start .args .causes .now) 16 (start .pre .1 .1)))
 
 same-length : tie.Need-same-length
 same-length c = search needs

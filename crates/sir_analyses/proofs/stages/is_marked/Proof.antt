@@ -1,34 +1,21 @@
 -- `is_marked` meets its contract.
-use mathlib.Core.Path.{sym, ap}
+use mathlib.Core.Path.{ap}
 use mathlib.Core.Bool.{not}
 use Prim.Native.Nat.{ℕ}
 use lib.Dec.{eqb}
-use Rattle.sir_analyses.proofs.stages.Parts.{part-get}
-use native.Mathlib.Omega.{arith}
+use borrow.Author.Needs.{needs}
 use Rattle.sir_analyses.proofs.stages.is_marked.Statement.{statement}
 use Rattle.sir_analyses.proofs.stages.is_marked.Tie as tie
 
-cast-result : tie.Need-cast-result
-cast-result c = omega (arith, c .before .pre)
-
-add-result : tie.Need-add-result
-add-result c = omega (arith, c .before .pre)
-
-mul-result : tie.Need-mul-result
-mul-result c = omega (arith, c .before .pre)
-
-shared-slice-read-result : tie.Need-shared-slice-read-result
-shared-slice-read-result c = omega (arith, c .before .before .pre)
+flags-of-requires : tie.Need-flags-of-requires
+flags-of-requires c κs = search needs
 
 returns : tie.Need-returns
-returns c = ap (λ (k : ℕ). not (eqb k 0)) (sym (part-get 1026 512 (c .before .before .args .a .0) (c .before .before .args .pointers .now) (c .before .before .pre .1)))
+returns c = ap (λ (k : ℕ). not (eqb k 0)) (c .flags-of .ensures)
 
 pub is-marked-spec : {M : Type 1} → statement M
 is-marked-spec =
     tie.close
     (tie.spec
-    cast-result
-    add-result
-    mul-result
-    shared-slice-read-result
+    flags-of-requires
     returns)

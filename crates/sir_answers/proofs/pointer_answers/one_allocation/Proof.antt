@@ -26,9 +26,16 @@ site-of-requires c κs =
     let start = at-shared-slice-known2 .before .before in
     omega (arith, ap length (c .alloc-sites .ensures ∙ start .pre .1 .0 .sites-are), sites-long (start .args .words .now), start .pre .1 .1)
 
+flags-of-requires : tie.Need-flags-of-requires
+flags-of-requires c κs =
+    let at-alloc-sites = c .before in
+    let at-shared-slice-known2 = at-alloc-sites .before .before .before .before .before in
+    let start = at-shared-slice-known2 .before .before in
+    (start .pre .1 .0 .long, omega (arith, start .pre .1 .1, allocations-few (start .pre .1 .0)))
+
 marked-answer-requires : tie.Need-marked-answer-requires
 marked-answer-requires c κs =
-    let at-site-of = c .before in
+    let at-site-of = c .before .before in
     let at-alloc-sites = at-site-of .before in
     let at-shared-slice-known2 = at-alloc-sites .before .before .before .before .before in
     let start = at-shared-slice-known2 .before .before in
@@ -40,13 +47,15 @@ same-length c = search needs
 returns : tie.Need-returns
 returns c =
     let at-marked-answer = c .before .before in
-    let at-site-of = at-marked-answer .before .before in
+    let at-flags-of = at-marked-answer .before .before in
+    let at-site-of = at-flags-of .before in
     let at-alloc-sites = at-site-of .before in
     let at-if1 = at-alloc-sites .before in
     let at-is-marked = at-if1 .before in
     let start = at-is-marked .before .before .before .before .before in
     let x = at-site-of .site-of .ensures (start .args .words .now) (start .pre .0 .well-formed) (at-alloc-sites .alloc-sites .ensures ∙ start .pre .1 .0 .sites-are) in
-    at-marked-answer .marked-answer .ensures (start .args .a .0) x (mark-told (start .pre .1 .0 .discovered) (x .known) (at-is-marked .is-marked .ensures) (at-if1 .if1 .taken))
+    let d = start .pre .1 .0 .discovered in
+    at-marked-answer .marked-answer .ensures (start .args .a .0) x (rw (at-flags-of .flags-of .ensures) (d .flags-are (start .args .a .0) (x .known))) (mark-told d (x .known) (at-is-marked .is-marked .ensures) (at-if1 .if1 .taken))
 
 slice-aggregate-compute-liveness : tie.Need-slice-aggregate-compute-liveness
 slice-aggregate-compute-liveness c = search needs
@@ -80,6 +89,7 @@ one-allocation-spec =
     is-marked-requires
     alloc-sites-requires
     site-of-requires
+    flags-of-requires
     marked-answer-requires
     same-length
     returns
