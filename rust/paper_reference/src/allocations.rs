@@ -41,26 +41,29 @@ pub fn breaks_12(allocations: &[Allocation]) -> bool {
 pub struct Uses {
     /// By local: what one step of the reach adds for it.
     links: Vec<BTreeSet<usize>>,
-    /// By local: whether it is used in an escaping operand or is an `InternalReturn` output.
-    published: Vec<bool>,
+    /// By local: whether it is used in an escaping operand.
+    pub escaping: Vec<bool>,
+    /// By local: whether it is an `InternalReturn` output.
+    pub returned: Vec<bool>,
 }
 
 impl Uses {
     /// Those of an image. A use is one in a visited block.
     pub fn of(records: &Records, order: &Order) -> Uses {
-        let mut uses = Uses { links: vec![BTreeSet::new(); records.locals], published: vec![false; records.locals] };
+        let [escaping, returned] = [(); 2].map(|()| vec![false; records.locals]);
+        let mut uses = Uses { links: vec![BTreeSet::new(); records.locals], escaping, returned };
         for operation in order.operations(records) {
             for (position, &input) in operation.inputs.iter().enumerate() {
                 if codes::derives(operation.code) {
                     uses.links[input].extend(&operation.outputs);
                 }
-                uses.published[input] |= codes::escapes(operation.code, position);
+                uses.escaping[input] |= codes::escapes(operation.code, position);
             }
         }
         for block in order.blocks() {
             let block = &records.blocks[block];
             for (position, &output) in block.outputs.iter().enumerate() {
-                uses.published[output] |= block.returns;
+                uses.returned[output] |= block.returns;
                 uses.links[output].extend(block.successors.iter().map(|&next| records.blocks[next].inputs[position]));
             }
         }
@@ -98,21 +101,35 @@ pub fn marked(reaches: &[BTreeSet<usize>], uses: &Uses, allocation: usize) -> bo
         let others = reaches.iter().enumerate().filter(|&(other, _)| other != allocation);
         others.into_iter().any(|(_, reach)| reach.contains(local))
     };
-    reaches[allocation].iter().any(|local| uses.published[*local] || reached_by_another(local))
+    let published = |local: usize| uses.escaping[local] || uses.returned[local];
+    reaches[allocation].iter().any(|local| published(*local) || reached_by_another(local))
+}
+
+/// The locals at which each allocation is first.
+///
+/// Every base is had by its own allocation from the start. Then the allocations take their turns: each goes from its base to
+/// whatever nobody had before its turn, and is first there; from a local that somebody had it does not go on.
+pub fn firsts(allocations: &[Allocation], uses: &Uses) -> Vec<BTreeSet<usize>> {
+    let mut had: BTreeSet<usize> = allocations.iter().map(|allocation| allocation.base).collect();
+    let turn = |allocation: &Allocation| {
+        let first = uses.closure(allocation.base, |local| !had.contains(&local));
+        had.extend(&first);
+        first
+    };
+    allocations.iter().map(turn).collect()
 }
 
 /// The owner of each local: allocation + 1, or 0.
 ///
-/// First every base is its allocation's own. Then the allocations in turn go on from their bases and from what nobody
-/// had, and whatever they link is theirs, also what another had.
-pub fn owners(records: &Records, allocations: &[Allocation], uses: &Uses) -> Vec<u32> {
+/// First every base is its allocation's own. Then the allocations in turn go on from where they are first, and whatever they
+/// link is theirs, also what another had.
+pub fn owners(records: &Records, allocations: &[Allocation], uses: &Uses, firsts: &[BTreeSet<usize>]) -> Vec<u32> {
     let mut owners = vec![0; records.locals];
     for (number, allocation) in allocations.iter().enumerate() {
         owners[allocation.base] = number as u32 + 1;
     }
-    for (number, allocation) in allocations.iter().enumerate() {
-        let first = uses.closure(allocation.base, |local| owners[local] == 0);
-        for local in first {
+    for (number, first) in firsts.iter().enumerate() {
+        for &local in first {
             uses.links[local].iter().for_each(|&linked| owners[linked] = number as u32 + 1);
         }
     }

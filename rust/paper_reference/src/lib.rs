@@ -7,6 +7,7 @@
 
 mod allocations;
 pub mod codes;
+mod flags;
 mod flow;
 mod open;
 mod pages;
@@ -36,6 +37,8 @@ pub struct Reference {
     live: OnceCell<Liveness>,
     uses: OnceCell<allocations::Uses>,
     reaches: OnceCell<Vec<BTreeSet<usize>>>,
+    firsts: OnceCell<Vec<BTreeSet<usize>>>,
+    flags: OnceCell<Vec<u32>>,
     owners: OnceCell<Vec<u32>>,
     /// By allocation: its merged intervals, or `None` where it is marked.
     lifetimes: Vec<OnceCell<Option<Vec<Interval>>>>,
@@ -65,6 +68,8 @@ impl Reference {
             live: OnceCell::new(),
             uses: OnceCell::new(),
             reaches: OnceCell::new(),
+            firsts: OnceCell::new(),
+            flags: OnceCell::new(),
             owners: OnceCell::new(),
         })
     }
@@ -185,6 +190,17 @@ impl Reference {
             .collect()
     }
 
+    /// The flags of each allocation: what marked it.
+    pub fn flags(&self) -> &[u32] {
+        self.flags.get_or_init(|| flags::flags(self.reaches(), self.firsts(), self.uses()))
+    }
+
+    /// What the flags would be if the lowest number that reaches a local were first there. No answer has these: they tell
+    /// whether an image shows that going by turns is something else.
+    pub fn flags_by_lowest_number(&self) -> Vec<u32> {
+        flags::flags(self.reaches(), &flags::lowest(self.reaches()), self.uses())
+    }
+
     fn order(&self) -> Vec<u32> {
         let mut answer = Vec::new();
         for (function, blocks) in &self.order.functions {
@@ -210,8 +226,13 @@ impl Reference {
         self.reaches.get_or_init(|| allocations::reaches(&self.allocations, self.uses()))
     }
 
+    fn firsts(&self) -> &[BTreeSet<usize>] {
+        self.firsts.get_or_init(|| allocations::firsts(&self.allocations, self.uses()))
+    }
+
     fn owners(&self) -> &[u32] {
-        self.owners.get_or_init(|| allocations::owners(&self.records, &self.allocations, self.uses()))
+        let owners = || allocations::owners(&self.records, &self.allocations, self.uses(), self.firsts());
+        self.owners.get_or_init(owners)
     }
 
     fn intervals(&self, local: usize) -> Vec<Interval> {
@@ -229,7 +250,8 @@ impl Reference {
             false => (0, operation.extras[0], operation.extras[1]),
         };
         let mut answer = words(&[allocation.block, allocation.operation, allocation.base]);
-        answer.extend([kind, size, id, u32::from(lifetime.is_none()), intervals.len() as u32]);
+        let mark = u32::from(lifetime.is_none());
+        answer.extend([kind, size, id, mark, self.flags()[number], intervals.len() as u32]);
         answer.extend(interval_words(intervals));
         answer
     }

@@ -40,7 +40,7 @@ fn lines(reference: &Reference) -> Result<String, u32> {
         let answer = ask(Question::Allocation(AllocId(number)))?;
         let mark = ["kept", "escaped"][answer[6] as usize];
         let [block, operation, base] = [answer[0], answer[1], answer[2]];
-        writeln!(text, "a{number} b{block} op{operation} v{base} {mark}{}", intervals(&answer[8..])).unwrap();
+        writeln!(text, "a{number} b{block} op{operation} v{base} {mark}{}", intervals(&answer[9..])).unwrap();
     }
     Ok(text)
 }

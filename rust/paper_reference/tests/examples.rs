@@ -39,7 +39,7 @@ fn report() {
     assert_eq!(ask("intervals:0"), [0, 1, 3]);
     assert_eq!(ask("intervals:1"), [0, 2, END]);
     assert_eq!(ask("intervals:2"), [1, 0, 4]);
-    assert_eq!(ask("allocation:0"), [0, 1, 1, 0, 32, 0, 0, 2, 0, 2, END, 1, 0, 4]);
+    assert_eq!(ask("allocation:0"), [0, 1, 1, 0, 32, 0, 0, 0, 2, 0, 2, END, 1, 0, 4]);
     assert_eq!(ask("owner:2"), [1]);
     assert_eq!(ask("owner:3"), [0]);
 }
@@ -54,7 +54,7 @@ fn all_ids() {
     assert_eq!(ask("all_uses"), [3, 0, 0, 2, 6, 0, 0, 2, 0, 2, 0, 3, 1, 0, 3, 0]);
     assert_eq!(ask("all_intervals"), [3, 0, 1, 3, 3, 0, 2, END, 3, 1, 0, 4, 0]);
     assert_eq!(ask("all_owners"), [1, 0, 1, 1, 1, 1, 1, 0]);
-    assert_eq!(ask("all_allocations"), [14, 0, 1, 1, 0, 32, 0, 0, 2, 0, 2, END, 1, 0, 4]);
+    assert_eq!(ask("all_allocations"), [15, 0, 1, 1, 0, 32, 0, 0, 0, 2, 0, 2, END, 1, 0, 4]);
     let room = |room| Reference::new(&image.pages()).unwrap().bytes_within(question("all_predecessors"), room);
     assert_eq!((room(11), room(12).map(|bytes| bytes.len())), (Err(14), Ok(12)));
 }
@@ -81,8 +81,8 @@ fn pointers_in_logs() {
     let image = samples::logs();
     let records: Vec<Vec<u32>> = (0..20).map(|number| answer(&image, &format!("allocation:{number}"))).collect();
     assert_eq!(records.iter().map(|record| record[6]).collect::<Vec<_>>(), samples::LOG_MARKS);
-    assert!(records.iter().all(|record| record[6] + record[7] == 1), "one interval, or the mark: {records:?}");
-    assert_eq!(answer(&samples::topic(), "allocation:0"), [0, 0, 0, 0, 32, 0, 1, 0]);
+    assert!(records.iter().all(|record| record[6] + record[8] == 1), "one interval, or the mark: {records:?}");
+    assert_eq!(answer(&samples::topic(), "allocation:0"), [0, 0, 0, 0, 32, 0, 1, 1, 0]);
 }
 
 #[test]
@@ -91,7 +91,7 @@ fn a_pointer_as_condition() {
     allocate(&mut image, 0);
     block(&mut image, Control::Branches { condition: 0, non_zero: 1, zero: 1 });
     image.block(&[], &[], Span::EMPTY, Control::LastOpTerminates);
-    assert_eq!(answer(&image, "allocation:0")[6..], [0, 1, 0, 1, END]);
+    assert_eq!(answer(&image, "allocation:0")[6..], [0, 0, 1, 0, 1, END]);
 }
 
 #[test]
@@ -99,14 +99,14 @@ fn an_unused_allocation() {
     let mut image = Image::new(1);
     allocate(&mut image, 0);
     block(&mut image, Control::LastOpTerminates);
-    assert_eq!(answer(&image, "allocation:0")[6..], [0, 0]);
+    assert_eq!(answer(&image, "allocation:0")[6..], [0, 0, 0]);
 }
 
 #[test]
 fn a_sum_of_pointers() {
     let image = samples::sum_of_pointers();
-    assert_eq!(answer(&image, "allocation:0")[6], 1);
-    assert_eq!(answer(&image, "allocation:1")[6], 1);
+    assert_eq!(answer(&image, "allocation:0")[6..], [1, 4, 0]);
+    assert_eq!(answer(&image, "allocation:1")[6..], [1, 4, 0]);
     assert_eq!(answer(&image, "owner:3"), [2]);
 }
 
@@ -132,8 +132,8 @@ fn outputs_are_removed_before_inputs_are_added() {
 fn touching_intervals() {
     let image = samples::touching();
     let ask = |text: &str| answer(&image, text);
-    assert_eq!(ask("allocation:0")[6..], [0, 1, 0, 1, 3]);
-    assert_eq!(ask("allocation:1")[6..], [0, 2, 0, 3, 5, 0, 6, 7]);
+    assert_eq!(ask("allocation:0")[6..], [0, 0, 1, 0, 1, 3]);
+    assert_eq!(ask("allocation:1")[6..], [0, 0, 2, 0, 3, 5, 0, 6, 7]);
     let open: Vec<Vec<u32>> = (0..8).map(|operation| ask(&format!("open:0,{operation}"))).collect();
     assert_eq!(open, [vec![0], vec![0], vec![0, 1], vec![1], vec![1], vec![1], vec![1], vec![]]);
     assert_eq!((ask("crossing:0,1"), ask("crossing:1,0")), (vec![1, 1, 3], vec![1, 1, 3]));
@@ -145,8 +145,8 @@ fn touching_intervals() {
 fn intervals_that_meet_at_bare_ends() {
     let image = samples::bare_ends();
     let ask = |text: &str| answer(&image, text);
-    assert_eq!(ask("allocation:0")[6..], [0, 1, 0, 0, END]);
-    assert_eq!(ask("allocation:1")[6..], [0, 2, 0, 0, END, 1, 0, 1]);
+    assert_eq!(ask("allocation:0")[6..], [0, 0, 1, 0, 0, END]);
+    assert_eq!(ask("allocation:1")[6..], [0, 0, 2, 0, 0, END, 1, 0, 1]);
     assert_eq!((ask("crossing:0,1"), ask("crossing:1,0")), (vec![0, 0, 0], vec![0, 0, 0]));
     assert_eq!((ask("crossing:0,0"), ask("crossing:1,1")), (vec![0, 0, 0], vec![1, 2, 1]));
     assert_eq!((ask("open:1,0"), ask("open:1,1"), ask("open:2,4")), (vec![1], vec![], vec![]));

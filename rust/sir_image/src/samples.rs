@@ -97,6 +97,39 @@ pub fn exchanged_bases() -> Image {
     image
 }
 
+/// A pointer that goes through the base of a later allocation: local 1, the base of allocation 1, is copied from local 0, the
+/// base of allocation 0, and local 2, which is stored, from local 1. Allocation 1 is first at local 2, though allocation 0 comes
+/// there too.
+pub fn through_a_base() -> Image {
+    let mut image = Image::new(3);
+    image.operation_with(Code::StaticAllocZeroed, &[], &[0], [32, 0]);
+    image.operation_with(Code::StaticAllocZeroed, &[], &[1], [32, 1]);
+    image.operation(Code::SetCopy, &[0], &[1]);
+    image.operation(Code::SetCopy, &[1], &[2]);
+    image.operation(Code::MemoryStore, &[0, 2], &[]);
+    image.block(&[], &[], Span::new(0, 5), Control::LastOpTerminates);
+    image.function(0);
+    image
+}
+
+/// Eight allocations, with the bases 0 to 7, of which each has its own number as flags: the odd ones are stored, 2, 3, 6 and 7
+/// are returned, and those from 4 on meet in local 8.
+pub fn every_flag() -> Image {
+    let mut image = Image::new(9);
+    for base in 0..8 {
+        image.operation_with(Code::StaticAllocZeroed, &[], &[base], [32, base]);
+    }
+    for base in [1, 3, 5, 7] {
+        image.operation(Code::MemoryStore, &[base, base], &[]);
+    }
+    for base in 4..8 {
+        image.operation(Code::SetCopy, &[base], &[8]);
+    }
+    image.block(&[], &[2, 3, 6, 7], image.operations_from(0), Control::InternalReturn);
+    image.function(0);
+    image
+}
+
 /// Two allocations that touch: operation 2 reads the pointer of allocation 0 for the last time, and defines a local that also
 /// holds the pointer of allocation 1. The intervals are 1..3, and 3..5 and 6..7.
 pub fn touching() -> Image {
