@@ -5,7 +5,7 @@
  *     target/call IMAGE
  *
  * For each allocation a line: where it is made, its first local, and the stretches of blocks in which its memory is in use;
- * or "escaped" where its pointer may be known elsewhere, so that its memory is never free.
+ * or "escaped" and why, where its pointer may be known elsewhere, so that its memory is never free.
  */
 #include "sir_analyses.h"
 
@@ -55,12 +55,32 @@ static void print_interval(size_t at) {
     }
 }
 
+/* What marked an allocation, from its flags. */
+static void print_causes(uint32_t flags) {
+    static const struct {
+        uint32_t flag;
+        const char *text;
+    } causes[] = {
+        {SIR_MARKED_BY_ESCAPING_OPERAND, "an escaping operand"},
+        {SIR_MARKED_BY_RETURN, "a return"},
+        {SIR_MARKED_BY_MEETING, "a meeting"},
+    };
+    const char *before = ": ";
+    for (size_t i = 0; i < sizeof causes / sizeof causes[0]; i++) {
+        if (flags & causes[i].flag) {
+            printf("%s%s", before, causes[i].text);
+            before = ", ";
+        }
+    }
+}
+
 /* The allocation whose words begin at an index. */
 static void print_allocation(uint32_t allocation, size_t at) {
     int marked = word(at + 6) == 1;
     printf("a%u b%u op%u v%u %s", allocation, word(at), word(at + 1), word(at + 2), marked ? "escaped" : "kept");
-    for (uint32_t i = 0; i < word(at + 7); i++) {
-        print_interval(at + 8 + 3 * (size_t)i);
+    print_causes(word(at + 7));
+    for (uint32_t i = 0; i < word(at + 8); i++) {
+        print_interval(at + 9 + 3 * (size_t)i);
     }
     printf("\n");
 }

@@ -39,7 +39,7 @@ extern "C" {
 #endif
 
 /* Goes up by one where a function, or what one of them takes or gives, is added or changed. */
-#define SIR_ANALYSES_VERSION 5
+#define SIR_ANALYSES_VERSION 6
 
 /* Why a call is refused, in the sequence in which the rules are asked of an image. */
 enum sir_refusal {
@@ -73,6 +73,16 @@ enum sir_refusal {
     SIR_REFUSED_NOT_IN_BLOCK = 15,
     /* result slice shorter than the answer */
     SIR_REFUSED_SHORT_RESULT = 14,
+};
+
+/* What marks an allocation: flags, which are added up. sir_allocation says when each is set. */
+enum sir_mark_cause {
+    /* an escaping operand */
+    SIR_MARKED_BY_ESCAPING_OPERAND = 1,
+    /* a return */
+    SIR_MARKED_BY_RETURN = 2,
+    /* a meeting */
+    SIR_MARKED_BY_MEETING = 4,
 };
 
 /* What a call gives. */
@@ -112,11 +122,24 @@ sir_answer sir_intervals(const uint8_t *image, size_t image_length, uint32_t loc
 sir_answer sir_owner(const uint8_t *image, size_t image_length, uint32_t local, uint8_t *result, size_t result_length);
 
 /* An allocation: defining block, operation, base local, kind (0 static, 1 dynamic), size or size local, static id (0 if
- * dynamic), mark (0 or 1), interval count, intervals as above. The mark is 1 where the pointer may be known elsewhere, as
- * one that is stored, returned or, from version 4 on, a log's topic, or may stand where another allocation's does; the
- * allocation then has no intervals. docs/FORMAT.md has the inputs by which a pointer escapes, code by code. Allocations are
- * numbered in the sequence in which the blocks of the order meet them; the first number that is refused with 13 is their
- * count. */
+ * dynamic), mark (0 or 1), flags (from version 6 on), interval count, intervals as above: nine words, and three for each
+ * interval. Allocations are numbered in the sequence in which the blocks of the order meet them; the first number that is
+ * refused with 13 is their count.
+ *
+ * The mark is 1 where the pointer may be known elsewhere, as one that is stored, returned or, from version 4 on, a log's
+ * topic, or may stand where another allocation's does; the allocation then has no intervals. docs/FORMAT.md has the inputs by
+ * which a pointer escapes, code by code.
+ *
+ * The flags tell what marked it, as a sum of enum sir_mark_cause; they are 0 just where the mark is:
+ *
+ *     4   a pointer of this allocation and one of another may come to the same local; the other one has this flag too
+ *     1   a local at which this allocation was first is in an escaping operand
+ *     2   a local at which this allocation was first is an output of a block that returns
+ *
+ * Who is first goes by turns. Every allocation is first at its own base. Then, by number, each goes from its base to whatever
+ * nobody had yet, is first there and goes on from there, but not from a local that another one had. So where 4 alone is set,
+ * the pointer may still escape or be returned by way of a local at which another allocation was first, and that one's
+ * flags tell; where 4 is not set, the other two tell all. */
 sir_answer sir_allocation(const uint8_t *image, size_t image_length, uint32_t allocation, uint8_t *result,
                           size_t result_length);
 

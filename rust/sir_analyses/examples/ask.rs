@@ -1,5 +1,5 @@
-//! Writes the image of a small program and asks which of its buffers may lie over each other; then writes it again with one of
-//! them enlarged. From the folder `rust`, once `rt staticlib sir_capi` has built the library:
+//! Writes the image of a small program and asks which of its buffers may lie over each other, and what keeps the others from
+//! it; then writes it again with one of them enlarged. From the folder `rust`, once `rt staticlib sir_capi` has built the library:
 //!
 //! ```text
 //! cargo run --offline -p sir_analyses --example ask
@@ -74,6 +74,12 @@ pub fn pairs(image: &[u8]) -> Result<Vec<(usize, usize)>, Refusal> {
     Ok(pairs.filter(|&(one, other)| may_share(&order, &all[one], &all[other])).collect())
 }
 
+/// Why an allocation is marked, in words; `None` where it is not.
+pub fn why(allocation: &Allocation) -> Option<String> {
+    let causes: Vec<String> = allocation.causes().map(|cause| cause.to_string()).collect();
+    allocation.marked.then(|| causes.join(" and "))
+}
+
 /// The image with another size of a static allocation, all else as it was.
 pub fn resized(image: &[u8], allocation: AllocId, size: u32) -> Result<Vec<u8>, Refusal> {
     let operation = sir_analyses::allocation(image, allocation)?.operation;
@@ -85,6 +91,9 @@ pub fn resized(image: &[u8], allocation: AllocId, size: u32) -> Result<Vec<u8>, 
 fn show(image: &[u8]) -> Result<(), Refusal> {
     for (number, allocation) in sir_analyses::all_allocations(image)?.iter().enumerate() {
         println!("{number}: {allocation:?}");
+        if let Some(why) = why(allocation) {
+            println!("   its memory is never free, for {why}");
+        }
     }
     println!("may share their memory: {:?}", pairs(image)?);
     Ok(())

@@ -1,6 +1,6 @@
 //! Answers, decoded.
 
-use sir_questions::{AllocId, BlockId, FunctionId, Id, LocalId, OpIdx};
+use sir_questions::{AllocId, BlockId, Flags, FunctionId, Id, LocalId, MarkCause, OpIdx};
 
 /// A function of the order and its blocks.
 #[derive(Clone, Debug, PartialEq, Eq)]
@@ -73,8 +73,43 @@ pub struct Allocation {
     pub size: Size,
     /// Whether it is marked: its pointer may be known elsewhere, as one that is a log's topic, or stand where another's does.
     pub marked: bool,
+    /// What marked it; 0 where it is not marked.
+    pub flags: Flags,
     /// Where its pointers are alive; none where it is marked.
     pub intervals: Vec<Interval>,
+}
+
+impl Allocation {
+    /// What marked it: an escaping operand, a return, a meeting, in this sequence; nothing where it is not marked.
+    ///
+    /// [`MarkCause::Meeting`] is there exactly where a pointer of this allocation and one of another may come to the same
+    /// local; the other one has it too. The other two tell only of uses of locals at which this allocation was **first**.
+    /// Who is first goes by turns. Every allocation is first at its own base. Then allocations take their turns by number, and
+    /// each goes from its base, by operations that derive and over edges, to whatever nobody had yet: it is first there, and
+    /// goes on from there, but not from a local that another one had.
+    ///
+    /// So where there is nothing but a meeting, the pointer may still stand in an escaping operand or be returned, by way of a
+    /// local at which another allocation was first: that one tells. Without a meeting an allocation is first wherever its
+    /// pointer may come to, and the other two tell all.
+    ///
+    /// ```no_run
+    /// use sir_analyses::{AllocId, MarkCause};
+    ///
+    /// # fn main() -> Result<(), Box<dyn std::error::Error>> {
+    /// let image = std::fs::read("typical.img")?;
+    /// let allocation = sir_analyses::allocation(&image, AllocId(0))?;
+    /// for cause in allocation.causes() {
+    ///     println!("marked by {cause}");
+    /// }
+    /// if allocation.flags.has(MarkCause::Meeting) {
+    ///     println!("its pointer may stand where another one does");
+    /// }
+    /// # Ok(())
+    /// # }
+    /// ```
+    pub fn causes(&self) -> impl Iterator<Item = MarkCause> {
+        self.flags.causes()
+    }
 }
 
 /// The size of an allocation.
@@ -171,7 +206,8 @@ pub(crate) fn allocation(words: &[u32]) -> Allocation {
         base: LocalId(words[2]),
         size,
         marked: words[6] == 1,
-        intervals: intervals(&words[8..]),
+        flags: Flags(words[7]),
+        intervals: intervals(&words[9..]),
     }
 }
 
@@ -198,6 +234,32 @@ mod tests {
             interval(4, Start::Operation(OpIdx(6)), End::Operation(OpIdx(8))),
         ];
         assert_eq!(intervals(&words), expected);
+    }
+
+    #[test]
+    fn allocations_from_words() {
+        let unmarked = Allocation {
+            block: BlockId(3),
+            operation: OpIdx(4),
+            base: LocalId(5),
+            size: Size::Static { size: 96, id: 7 },
+            marked: false,
+            flags: Flags(0),
+            intervals: intervals(&[3, 5, u32::MAX, 8, 0, 9]),
+        };
+        assert_eq!(allocation(&[3, 4, 5, 0, 96, 7, 0, 0, 2, 3, 5, u32::MAX, 8, 0, 9]), unmarked);
+        assert_eq!(unmarked.causes().count(), 0);
+        let size = Size::Dynamic { size_local: LocalId(6) };
+        let marked = Allocation { size, marked: true, flags: Flags(5), intervals: Vec::new(), ..unmarked };
+        assert_eq!(allocation(&[3, 4, 5, 1, 6, 0, 1, 5, 0]), marked);
+        assert!(marked.causes().eq([MarkCause::EscapingOperand, MarkCause::Meeting]));
+    }
+
+    /// The whole word is kept.
+    #[test]
+    fn flags_from_words() {
+        let flags = [0, 1, 2, 4, 7, 8, u32::MAX].map(|word| allocation(&[0, 0, 0, 0, 0, 0, 1, word, 0]).flags);
+        assert_eq!(flags, [0, 1, 2, 4, 7, 8, u32::MAX].map(Flags));
     }
 
     #[test]

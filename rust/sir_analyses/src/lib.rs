@@ -101,7 +101,7 @@ pub mod calls;
 
 pub use answers::{Allocation, Crossing, End, FunctionBlocks, Interval, Place, Size, Start, Use};
 pub use calls::Answer;
-pub use sir_questions::{AllocId, BlockId, Cause, FunctionId, LocalId, OpIdx, Question, Refusal};
+pub use sir_questions::{AllocId, BlockId, Cause, Flags, FunctionId, LocalId, MarkCause, OpIdx, Question, Refusal};
 
 /// Whether the library was there when this was built.
 pub const LINKED: bool = cfg!(sir_linked);
@@ -149,7 +149,7 @@ pub fn owner(image: &[u8], local: LocalId) -> Result<Option<AllocId>, Refusal> {
     Ok(answers::owner(&words(image, Question::Owner(local))?))
 }
 
-/// An allocation.
+/// An allocation. Where it is marked, [`Allocation::causes`] tells why.
 pub fn allocation(image: &[u8], allocation: AllocId) -> Result<Allocation, Refusal> {
     Ok(answers::allocation(&words(image, Question::Allocation(allocation))?))
 }

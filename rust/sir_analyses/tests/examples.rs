@@ -16,6 +16,25 @@ fn from_rust() {
     let all = sir_analyses::all_allocations(&ask::program()).unwrap();
     assert_eq!(all.iter().map(|allocation| allocation.marked).collect::<Vec<_>>(), [false, false, true]);
     assert_eq!(ask::pairs(&ask::program()), Ok(vec![(0, 1)]));
+    assert!(all.iter().map(ask::why).eq([None, None, Some("an escaping operand".to_string())]));
+}
+
+/// Each sum of flags in words.
+#[test]
+fn why_it_is_marked() {
+    let all = sir_analyses::all_allocations(&samples::every_flag().pages()).unwrap();
+    let why: Vec<String> = all.iter().map(|allocation| ask::why(allocation).unwrap_or_default()).collect();
+    let expected = [
+        "",
+        "an escaping operand",
+        "a return",
+        "an escaping operand and a return",
+        "a meeting",
+        "an escaping operand and a meeting",
+        "a return and a meeting",
+        "an escaping operand and a return and a meeting",
+    ];
+    assert_eq!(why, expected);
 }
 
 /// One size is another, and nothing else: back to the old one is back to the old image.
@@ -67,7 +86,7 @@ fn an_unread_buffer() {
     assert_eq!(ask::pairs(&image), Ok(vec![]));
 }
 
-/// Compiles `examples/call.c` where a C compiler is at hand, and runs it on an accepted and on a refused image.
+/// Compiles `examples/call.c` where a C compiler is at hand, and runs it on accepted images and on a refused one.
 #[test]
 fn from_c() {
     let compiler = env::var("CC").unwrap_or("cc".to_string());
@@ -93,5 +112,9 @@ fn from_c() {
     };
     let pages = samples::report().pages();
     assert_eq!(lines(&pages), "a0 b0 op1 v1 kept b0 1..end b1 start..3\n");
+    assert_eq!(
+        lines(&samples::through_a_base().pages()),
+        "a0 b0 op0 v0 escaped: a meeting\na1 b0 op1 v1 escaped: an escaping operand, a meeting\n"
+    );
     assert_eq!(lines(&pages[..511]), "refused 1\n");
 }

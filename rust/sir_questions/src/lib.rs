@@ -1,5 +1,5 @@
-//! What can be asked about an image, and why a question is refused: the ids, the questions and the refusals, each as one
-//! table.
+//! What can be asked about an image, why a question is refused, and what marked an allocation: the ids, the questions, the
+//! refusals and the causes of marks, each as one table.
 //!
 //! The bindings, the reference, Plank's analyses, the comparison, the recording and the benchmarks all speak in these
 //! terms. A new sort of id, a new question and a new refusal are one line of their table each. What writes an image takes
@@ -14,10 +14,12 @@
 //! assert_eq!(Refusal::UNKNOWN_ID.to_string(), "refused 13: id asked for not below its count");
 //! ```
 
+mod flags;
 mod ids;
 mod question;
 mod refusal;
 
+pub use flags::{Flags, MarkCause};
 pub use ids::{AllocId, BlockId, FunctionId, Id, IdKind, LocalId, OpIdx, spread};
 pub use question::{Question, QuestionKind, Unknown, WRITE, Writer, function_names};
 pub use refusal::{Cause, Refusal};

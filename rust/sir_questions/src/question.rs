@@ -23,8 +23,8 @@ macro_rules! questions {
             4 Uses(local: LocalId) = uses;
             /// The intervals of a local. For each: block, start, end.
             5 Intervals(local: LocalId) = intervals;
-            /// An allocation: defining block, operation, base local, kind, size or size local, static id, mark, interval
-            /// count, intervals.
+            /// An allocation: defining block, operation, base local, kind, size or size local, static id, mark, flags,
+            /// interval count, intervals.
             6 Allocation(allocation: AllocId) = allocation;
             /// The owner of a local: allocation + 1, or 0.
             7 Owner(local: LocalId) = owner;

@@ -1,6 +1,6 @@
 //! The C header says what the tables say.
 
-use sir_questions::{Question, Refusal, WRITE, function_names};
+use sir_questions::{MarkCause, Question, Refusal, WRITE, function_names};
 use std::fs;
 use std::path::Path;
 
@@ -18,6 +18,17 @@ fn refusals() {
     let lines: String = lines.collect();
     assert!(header().contains(&lines), "the header wants, with nothing between them:\n{lines}");
     assert_eq!(header().matches("SIR_REFUSED_").count(), Refusal::ALL.len());
+}
+
+/// The header names and explains what marks an allocation as the table does, by the flags.
+#[test]
+fn causes_of_marks() {
+    let line = |cause: &MarkCause| {
+        format!("    /* {} */\n    SIR_MARKED_BY_{} = {},\n", cause.text(), cause.name(), cause.flag())
+    };
+    let lines: String = MarkCause::ALL.iter().map(line).collect();
+    assert!(header().contains(&lines), "the header wants, with nothing between them:\n{lines}");
+    assert_eq!(header().matches("SIR_MARKED_BY_").count(), MarkCause::ALL.len());
 }
 
 /// The parameters of the function of this name.
