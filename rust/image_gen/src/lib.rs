@@ -7,6 +7,7 @@
 //! assert_eq!(generate(Kind::Dense, 7), generate(Kind::Dense, 7));
 //! ```
 
+mod causes;
 mod crossings;
 mod damaged;
 pub mod extremes;
@@ -86,6 +87,8 @@ kinds! {
     Topics
     /// Words that just fill their pages, and words that are one more than that.
     FullPages
+    /// Allocations that are marked for one cause or for several, with pointers that go through bases of others.
+    Causes
 }
 
 impl Kind {
@@ -106,6 +109,7 @@ impl Kind {
         Kind::Crossings,
         Kind::Topics,
         Kind::FullPages,
+        Kind::Causes,
     ];
 
     /// Kinds of large images, on which plain code still ends.
@@ -148,6 +152,7 @@ pub fn generate(kind: Kind, seed: u64) -> Image {
         Kind::Crossings => crossings::image(rng),
         Kind::Topics => lifetimes::image(&small::TOPICS, rng),
         Kind::FullPages => full_pages::image(rng),
+        Kind::Causes => causes::image(rng),
     }
 }
 

@@ -37,7 +37,7 @@ fn kinds_have_what_they_are_for() {
     let marks = |kind, mark| -> usize {
         let images = (0..200).filter_map(|seed| Reference::new(&generate(kind, seed).pages()).ok());
         images
-            .map(|reference| allocations(&reference).filter(|words| words[6] == mark && words[7] > mark).count())
+            .map(|reference| allocations(&reference).filter(|words| words[6] == mark && words[8] > mark).count())
             .sum()
     };
     assert!(marks(Kind::Lives, 0) > 100, "unmarked allocations with intervals");
@@ -83,6 +83,39 @@ fn topics_have_pointers_in_logs() {
     }
     assert!(positions.iter().all(|&count| count > 20), "pointers by position: {positions:?}");
     assert!(unmarked.iter().all(|&count| count > 20), "images with no mark, by a pointer's position: {unmarked:?}");
+}
+
+/// Every sum of flags comes up, and flags that go by turns.
+#[test]
+fn causes_are_of_all_sorts() {
+    let (mut found, mut by_turns) = ([0; 8], [0; 2]);
+    for seed in 0..500 {
+        let reference = Reference::new(&generate(Kind::Causes, seed).pages()).expect("an accepted image");
+        let flags = reference.flags();
+        flags.iter().for_each(|&flags| found[flags as usize] += 1);
+        let lowest = reference.flags_by_lowest_number();
+        let differ = |flag| flags.iter().zip(&lowest).any(|(one, other)| (one ^ other) & flag != 0);
+        [1, 2].into_iter().zip(&mut by_turns).for_each(|(flag, count)| *count += u32::from(differ(flag)));
+    }
+    assert!(found.iter().all(|&count| count > 20), "by flags: {found:?}");
+    assert!(
+        by_turns.iter().all(|&count| count > 20),
+        "other flags by lowest numbers, operands and returns: {by_turns:?}"
+    );
+}
+
+/// "The mark is set exactly when some flag is", and by lowest numbers it would be so too; the meeting goes by reaches alone.
+#[test]
+fn marks_and_flags_agree() {
+    for &kind in Kind::SMALL {
+        for seed in 0..200 {
+            let Ok(reference) = Reference::new(&generate(kind, seed).pages()) else { continue };
+            for (words, other) in allocations(&reference).zip(reference.flags_by_lowest_number()) {
+                assert_eq!((words[6], words[7] & 4), (u32::from(words[7] != 0), other & 4), "{kind:?} {seed}");
+                assert_eq!(words[6], u32::from(other != 0), "{kind:?} {seed}");
+            }
+        }
+    }
 }
 
 /// Words fill their pages, or are one more than that, on one page and on several.
