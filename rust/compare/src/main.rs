@@ -14,7 +14,7 @@
 //! ```
 //!
 //! Images of every kind are taken in turn, each with a seed of its own. Where files are named, these images are taken
-//! and none are generated. With Plank every answer is compared that it has: on all images with its arms for `Log1` to `Log4`
+//! and none are generated. With Plank every answer is compared that it has, without the flags of allocations: on all images with its arms for `Log1` to `Log4`
 //! altered so that topics escape, and then with Plank unaltered on those in which no topic is a pointer. With the
 //! library every answer is compared, its number, its length, each byte of the result slice, unknown ids and slices that are
 //! too short. Each question about one id is put for every id, and then once for all ids; one about two ids for every pair of
@@ -171,7 +171,7 @@ fn compare_all(name: &str, images: impl Iterator<Item = (String, Image)>, compar
         }
         println!("  {answers} answers of {words} words are equal");
         println!("  {all} allocations, {marked} marked, {merged} merged intervals; at most {most_rounds} rounds");
-        println!("  {logs}\n  {open}\n  {crossings}");
+        println!("  {}\n  {logs}\n  {open}\n  {crossings}", tally.flags);
         if writing.accepted > 0 {
             println!("  {writing}");
         }

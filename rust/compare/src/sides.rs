@@ -3,7 +3,7 @@
 use crate::tally::Tally;
 use crate::writing;
 use paper_reference::Reference;
-use plank_oracle::{Program, Source};
+use plank_oracle::{Program, Source, without_flags};
 use sir_analyses::{Answer, calls};
 use sir_image::Image;
 use sir_questions::{Cause, IdKind, Question, QuestionKind, Refusal, spread};
@@ -44,7 +44,8 @@ pub(crate) fn agree<T: Debug + PartialEq>(
     Err(Disagreement { question, paper: format!("{paper:?}"), other: format!("{other:?}"), name })
 }
 
-/// Compares the paper's answers with those of Plank altered, all that Plank has, on an image that it takes.
+/// Compares the paper's answers with those of Plank altered, all that Plank has, on an image that it takes: records of
+/// allocations but for their flags.
 pub fn with_plank(image: &Image, tally: &mut Tally) -> Result<(), Disagreement> {
     with_source(Source::Altered, PLANK, image, Reference::new(&image.pages()), tally)
 }
@@ -76,12 +77,13 @@ fn with_source(
         return Ok(());
     };
     tally.logs.note(&paper);
+    tally.flags.note(&paper);
     agree("number of allocations", paper.count(IdKind::Allocation), name, plank.count(IdKind::Allocation))?;
     for question in all_questions(&paper) {
         let said = paper.answer(question);
         tally.note(&paper, question, said.as_deref().map_err(|&number| number));
         if let Some(other) = plank.answer(question) {
-            let answer = said.expect("the ids are below their counts");
+            let answer = without_flags(question, said.expect("the ids are below their counts"));
             tally.compared(&answer);
             agree(question, answer, name, other)?;
         }
@@ -144,6 +146,7 @@ pub fn with_library(image: &Image, tally: &mut Tally) -> Result<(), Disagreement
         Err(_) => return refused_alike(&bytes, tally),
     };
     tally.logs.note(&paper);
+    tally.flags.note(&paper);
     for question in all_questions(&paper) {
         same_answer(&paper, &bytes, question, tally)?;
     }
@@ -163,6 +166,7 @@ pub fn with_library_sparsely(image: &Image, tally: &mut Tally) -> Result<(), Dis
     writing::with_library(image, tally)?;
     let paper = Reference::new(&bytes).expect("an accepted image");
     tally.logs.note(&paper);
+    tally.flags.note(&paper);
     for question in Question::KINDS.iter().flat_map(|kind| questions(&paper, kind, |count| count / 3, 16)) {
         same_answer(&paper, &bytes, question, tally)?;
     }

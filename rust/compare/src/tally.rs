@@ -25,6 +25,8 @@ pub struct Tally {
     pub merged: u64,
     /// The most rounds of an image.
     pub most_rounds: u32,
+    /// What marked allocations.
+    pub flags: MarkFlags,
     /// Pointers in logs.
     pub logs: Logs,
     /// What was open.
@@ -48,13 +50,44 @@ impl Tally {
             (Question::Allocation(_), Ok(answer)) => {
                 self.allocations[0] += 1;
                 self.allocations[1] += u64::from(answer[6]);
-                self.merged += u64::from(answer[7]);
+                self.merged += u64::from(answer[8]);
             }
             (Question::Rounds, Ok(answer)) => self.most_rounds = self.most_rounds.max(answer[0]),
             (Question::Open(block, operation), said) => self.open.note(paper, block, operation, said),
             (Question::Crossing(one, other), Ok(answer)) => self.crossings.note(paper, [one, other], answer),
             _ => {}
         }
+    }
+}
+
+/// What marked allocations.
+#[derive(Clone, Copy, Debug, Default)]
+pub struct MarkFlags {
+    /// Allocations, by their flags.
+    pub allocations: [u64; 8],
+    /// Images in which some allocation would have other flags if the lowest number that reaches a local were first there.
+    pub by_turns: u64,
+}
+
+impl MarkFlags {
+    /// Those of an image.
+    pub fn note(&mut self, paper: &Reference) {
+        let flags = paper.flags();
+        flags.iter().for_each(|&flags| self.allocations[flags as usize] += 1);
+        self.by_turns += u64::from(flags != paper.flags_by_lowest_number());
+    }
+}
+
+impl Display for MarkFlags {
+    fn fmt(&self, f: &mut Formatter<'_>) -> fmt::Result {
+        let counts = self.allocations.iter().enumerate().map(|(flags, count)| format!("{flags}: {count}"));
+        let counts: Vec<String> = counts.collect();
+        let by_turns = self.by_turns;
+        write!(
+            f,
+            "flags: {}; in {by_turns} images other ones if the lowest number that reaches a local were first there",
+            counts.join(", ")
+        )
     }
 }
 
@@ -289,6 +322,16 @@ mod tests {
         let mut logs = Logs::default();
         logs.note(&Reference::new(&samples::logs().pages()).unwrap());
         assert_eq!([logs.offsets, logs.sizes, logs.topics], [5, 5, 10]);
+    }
+
+    /// Each sum of flags once, by turns and by numbers alike; and an image in which turns matter.
+    #[test]
+    fn flags() {
+        let mut flags = MarkFlags::default();
+        flags.note(&Reference::new(&samples::every_flag().pages()).unwrap());
+        assert_eq!((flags.allocations, flags.by_turns), ([1; 8], 0));
+        flags.note(&Reference::new(&samples::through_a_base().pages()).unwrap());
+        assert_eq!((flags.allocations, flags.by_turns), ([1, 1, 1, 1, 2, 2, 1, 1], 1));
     }
 
     #[test]

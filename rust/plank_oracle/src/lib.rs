@@ -60,9 +60,37 @@ pub fn takes(number: u32) -> bool {
     number == 0 || number == Refusal::SHARED_BASE.number()
 }
 
+/// The place in the record of an allocation at which the flags stand, which Plank's record does not have.
+const FLAGS: usize = 7;
+
+/// What is left of an answer without the words that Plank does not have: what marked an allocation (request R-5).
+pub fn without_flags(question: Question, answer: Vec<u32>) -> Vec<u32> {
+    match question {
+        Question::Allocation(_) => shorter(&answer),
+        Question::AllAllocations => {
+            let mut rest = answer.as_slice();
+            let mut words = Vec::new();
+            while let [length, after @ ..] = rest {
+                let (record, after) = after.split_at(*length as usize);
+                words.push(length - 1);
+                words.extend(shorter(record));
+                rest = after;
+            }
+            words
+        }
+        _ => answer,
+    }
+}
+
+/// The record of an allocation without its flags.
+fn shorter(record: &[u32]) -> Vec<u32> {
+    [&record[..FLAGS], &record[FLAGS + 1..]].concat()
+}
+
 impl Analyses<'_> {
     /// Plank's answer to a question, where it has one: it reports no rounds, neither what is open at an operation nor what
-    /// crosses, and has no image whose records it could give.
+    /// crosses, and has no image whose records it could give. Its record of an allocation has no flags
+    /// ([`without_flags`]).
     pub fn answer(&self, question: Question) -> Option<Vec<u32>> {
         if let Some(single) = question.kind().single() {
             return self.in_turn(single);
@@ -89,5 +117,26 @@ impl Analyses<'_> {
             words.extend(answer);
         }
         Some(words)
+    }
+}
+
+#[cfg(test)]
+mod tests {
+    use super::*;
+    use sir_questions::{AllocId, LocalId};
+
+    /// The flags are left out of each record, and of nothing else.
+    #[test]
+    fn records_without_flags() {
+        let (first, second) = ([0, 1, 2, 0, 32, 0, 1, 5, 0], [0, 2, 3, 0, 32, 1, 0, 0, 1, 7, 8, 9]);
+        let (short, other) = ([0, 1, 2, 0, 32, 0, 1, 0], [0, 2, 3, 0, 32, 1, 0, 1, 7, 8, 9]);
+        assert_eq!(without_flags(Question::Allocation(AllocId(0)), first.to_vec()), short);
+        assert_eq!(without_flags(Question::Allocation(AllocId(1)), second.to_vec()), other);
+        let all = [&[9], first.as_slice(), &[12], &second].concat();
+        assert_eq!(without_flags(Question::AllAllocations, all), [&[8], short.as_slice(), &[11], &other].concat());
+        assert_eq!(without_flags(Question::AllAllocations, Vec::new()), []);
+        for question in [Question::Uses(LocalId(0)), Question::AllUses, Question::Records] {
+            assert_eq!(without_flags(question, second.to_vec()), second);
+        }
     }
 }

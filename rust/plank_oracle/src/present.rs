@@ -185,7 +185,7 @@ impl Analyses<'_> {
         }
     }
 
-    /// The record of an allocation.
+    /// The record of an allocation, without flags.
     pub fn allocation(&self, allocation: u32) -> Vec<u32> {
         self.allocations().record(allocation)
     }

@@ -1,11 +1,11 @@
-//! The files that are stored: the altered Plank's answers; those that Plank does not have, what is written of lent records, and
-//! the refusals are the reference's.
+//! The files that are stored: the altered Plank's answers; those that Plank does not have, the flags of allocations, what is
+//! written of lent records, and the refusals are the reference's.
 
 use compare::recording::{Called, Recorded, Recording};
 use compare::sides::{questions, unknown};
 use image_gen::{Kind, Rng, Size, damaged, generate, known, lent, worst};
 use paper_reference::Reference;
-use plank_oracle::{Analyses, Program, Source};
+use plank_oracle::{Analyses, Program, Source, without_flags};
 use sir_image::pages::{PAGE_BYTES, to_bytes};
 use sir_image::{Code, Image, samples};
 use sir_questions::{IdKind, Question, QuestionKind, Refusal};
@@ -123,13 +123,14 @@ fn of_image(sample: &Sample, asked: Asked) -> Recording {
     Recording { name: asked.file(name), lent: bytes, calls }
 }
 
-/// Plank's answer, or what the reference gives where Plank has none: an answer, or the number of a refusal.
+/// Plank's answer, with the reference's flags in records of allocations, or what the reference gives where Plank has none: an
+/// answer, or the number of a refusal.
 fn agreed(paper: &Reference, plank: &Analyses, question: Question) -> Result<Vec<u8>, u32> {
-    let stated = paper.bytes(question);
+    let stated = paper.answer(question)?;
     if let Some(words) = plank.answer(question) {
-        assert_eq!(Ok(to_bytes(&words)), stated, "{question}");
+        assert_eq!(words, without_flags(question, stated.clone()), "{question}");
     }
-    stated
+    Ok(to_bytes(&stated))
 }
 
 /// Every question about an image that some rule refuses.
@@ -139,8 +140,8 @@ fn refused(name: &str, image: &[u8], number: u32, asked: Asked) -> Recording {
     Recording { name: asked.file(name), lent: image.to_vec(), calls }
 }
 
-/// Images that Plank takes: by kinds, the worst, two that have a case each of crossings, and two with a pointer at every input
-/// position of some codes or of all.
+/// Images that Plank takes: by kinds, the worst, two that have a case each of crossings, two that tell what marks, and two with a
+/// pointer at every input position of some codes or of all.
 fn taken() -> Vec<Sample> {
     let mut all = Vec::new();
     for (group, count, for_all) in [(Kind::SMALL, SMALL, SMALL_FOR_ALL), (Kind::LARGE, LARGE, 1)] {
@@ -160,7 +161,13 @@ fn taken() -> Vec<Sample> {
         small: false,
         for_all: true,
     }));
-    let named = [("touching", samples::touching()), ("bare_ends", samples::bare_ends()), ("logs", samples::logs())];
+    let named = [
+        ("touching", samples::touching()),
+        ("bare_ends", samples::bare_ends()),
+        ("logs", samples::logs()),
+        ("through_a_base", samples::through_a_base()),
+        ("every_flag", samples::every_flag()),
+    ];
     all.extend(named.map(|(name, image)| Sample { name: name.to_string(), image, small: true, for_all: false }));
     let every_code = samples::input_positions(&Code::ALL);
     all.push(Sample { name: "input_positions".to_string(), image: every_code, small: false, for_all: true });
@@ -270,17 +277,18 @@ fn readme(files: usize, size: usize, by_number: &BTreeMap<u32, usize>) -> String
         "Recorded answers, written by `cargo run --release -p compare --bin record` in the folder rust.\n\
          \n\
          Answers are those of Plank's own analyses, its arms for Log1 to Log4 altered so that topics escape (request R-2);\n\
-         the rounds, the open allocations, the crossings and the records, which Plank does not report, what is written of\n\
-         lent records, and the refusals are those of rust/paper_reference. The proved library had no part in writing them.\n\
+         the rounds, the flags of allocations, the open ones, the crossings and the records, which Plank does not report, what\n\
+         is written of lent records, and the refusals are those of rust/paper_reference. The proved library had no part in\n\
+         writing them.\n\
          src/main.rt states the form of a file.\n\
          \n\
          {files} files, {size} bytes. Seeds from {SEED} on: {SMALL} small images of each of {} kinds, all ids; {LARGE} large\n\
          ones of each of {} kinds and the worst of medium size, about {SOME_IDS} ids of each question, no answer above {LONGEST}\n\
-         bytes and no records above {LONGEST_RECORDS}; the images touching, bare_ends, logs and input_positions of\n\
-         rust/sir_image/src/samples.rs; {DAMAGED} damaged images of each number that refuses an image. Of questions about two\n\
-         ids all pairs, or some where these are more than {PAIRS}. Each accepted image also has an unknown id (13) and a slice\n\
-         one byte too short (14) for each question that can be so refused. Where an operation is not of its block (15) the\n\
-         slice is too short for any answer but an empty one.\n\
+         bytes and no records above {LONGEST_RECORDS}; the images touching, bare_ends, logs, through_a_base, every_flag and\n\
+         input_positions of rust/sir_image/src/samples.rs; {DAMAGED} damaged images of each number that refuses an image. Of\n\
+         questions about two ids all pairs, or some where these are more than {PAIRS}. Each accepted image also has an unknown\n\
+         id (13) and a slice one byte too short (14) for each question that can be so refused. Where an operation is not of\n\
+         its block (15) the slice is too short for any answer but an empty one.\n\
          \n\
          Files all_* have the questions for all ids: of {SMALL_FOR_ALL} small images of each kind, of one large one, of the worst, of\n\
          input_positions, and of one damaged image of each number; where an answer is longer, with a slice of {TOO_SHORT} bytes (14).\n\
