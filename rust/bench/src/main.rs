@@ -16,9 +16,9 @@
 //! the seven together" the time of the order, the rounds and the seven for all ids, one call each; questions about two
 //! ids and the records are in neither. The writer is timed with the records of each image. Plank reports no rounds, no open
 //! allocations, no crossings and no records, and writes no image, so these have no ratio; its arms for `Log1` to `Log4` are
-//! altered so that topics escape, and both give the same answers. Result slices are lent once, of 64 MiB, and not cleared between
-//! calls: where the answer is longer, the time is that of the refusal. A side that was missing when this was built is left out,
-//! with a message.
+//! altered so that topics escape, and both give the same answers, Plank without the flags of allocations. Result slices are
+//! lent once, of 64 MiB, and not cleared between calls: where the answer is longer, the time is that of the refusal. A side
+//! that was missing when this was built is left out, with a message.
 //!
 //! With `--old` the other side is the library of an archive, such as a `libsir_capi.a` of an earlier state of the
 //! repository; without further words typical images are taken. The C compiler makes a shared object of each of the two

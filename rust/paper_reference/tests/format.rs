@@ -3,9 +3,9 @@
 use paper_reference::{Reference, call_write, codes, report};
 use sir_image::pages::to_bytes;
 use sir_image::{
-    Code, Control, Count, MAX_BLOCKS, MAX_FUNCTIONS, MAX_LOCALS, MAX_OPERANDS, MAX_OPERATIONS, MAX_TARGETS,
+    Code, Control, Count, Image, MAX_BLOCKS, MAX_FUNCTIONS, MAX_LOCALS, MAX_OPERANDS, MAX_OPERATIONS, MAX_TARGETS,
 };
-use sir_questions::{IdKind, Question, Refusal, WRITE};
+use sir_questions::{IdKind, MarkCause, Question, Refusal, WRITE};
 use std::collections::BTreeSet;
 use std::{fs, path::Path};
 
@@ -181,6 +181,15 @@ fn questions() {
     }
 }
 
+/// Each cause of a mark has its row, by the flags.
+#[test]
+fn causes_of_marks() {
+    let rows = table("| flag | cause | set where |");
+    let given: Vec<(String, String)> = rows.into_iter().map(|row| (row[0].clone(), row[1].clone())).collect();
+    let expected = MarkCause::ALL.iter().map(|cause| (cause.flag().to_string(), cause.text().to_string()));
+    assert_eq!(given, expected.collect::<Vec<_>>());
+}
+
 #[test]
 fn example_payload() {
     let words = fenced("payload").lines().flat_map(|line| numbers(line.split('#').next().unwrap())).collect::<Vec<_>>();
@@ -194,17 +203,28 @@ fn numbers_of(bytes: &[u8]) -> Vec<u32> {
     bytes.as_chunks().0.iter().map(|&word| u32::from_le_bytes(word)).collect()
 }
 
-#[test]
-fn example_answers() {
-    let reference = Reference::new(&sir_image::samples::report().pages()).unwrap();
-    let mut names = BTreeSet::new();
-    for line in fenced("answers").lines() {
+/// Holds the lines of a fence to the answers about an image, and gives the questions.
+fn assert_answers(fence: &str, image: &Image) -> Vec<Question> {
+    let reference = Reference::new(&image.pages()).unwrap();
+    let line = |line: &str| {
         let (question, words) = line.split_once(' ').expect("a question and words");
         let question: Question = question.parse().unwrap();
-        names.insert(question.kind().name);
         assert_eq!(reference.answer(question), Ok(numbers(words)), "{question}");
-    }
+        question
+    };
+    fenced(fence).lines().map(line).collect()
+}
+
+#[test]
+fn example_answers() {
+    let questions = assert_answers("answers", &sir_image::samples::report());
+    let names: BTreeSet<&str> = questions.iter().map(|question| question.kind().name).collect();
     assert!(names.len() > 8);
+}
+
+#[test]
+fn example_flags() {
+    assert_eq!(assert_answers("flags", &sir_image::samples::through_a_base()).len(), 2);
 }
 
 #[test]
