@@ -106,6 +106,10 @@ stop = plainOp 77 [] []
 abbrev pub ends : List ℕ
 ends = 0 ∷ 0 ∷ 0 ∷ 0 ∷ 0 ∷ []
 
+-- `InternalReturn`
+abbrev pub returns : List ℕ
+returns = 1 ∷ 0 ∷ 0 ∷ 0 ∷ 0 ∷ []
+
 -- `ContinuesTo`
 abbrev pub continues : ℕ → List ℕ
 continues b = 2 ∷ b ∷ 0 ∷ 0 ∷ 0 ∷ []

@@ -20,5 +20,6 @@ pub mod inner
 pub mod ExampleImages
 pub mod Examples
 pub mod OpenExamples
+pub mod FlagExamples
 pub mod WriteBackExamples
 pub mod laws

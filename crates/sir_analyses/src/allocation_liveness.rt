@@ -149,12 +149,12 @@ fn own_bases(words: &[u32], sites: &[u32], owners: &mut [u32])
     }
 }
 
-// The flags of an allocation, added up: what marks it.
-pub const ESCAPE_FLAG: u32 = 1;
+// What marks an allocation: its flags are added up.
+const ESCAPE_FLAG: u32 = 1;
 
-pub const RETURN_FLAG: u32 = 2;
+const RETURN_FLAG: u32 = 2;
 
-pub const MEETING_FLAG: u32 = 4;
+const MEETING_FLAG: u32 = 4;
 
 // What linking a local to an allocation tells: nobody had the local, the allocation had it before, or another did.
 pub enum Found {
@@ -163,7 +163,7 @@ pub enum Found {
     Met(AllocId),
 }
 
-// A local comes to allocation a: its new owner replaces the old one. Tells whom the local was found with.
+// A local comes to allocation a, whose number replaces the old owner: tells what was found there.
 fn link_local_to_alloc(pointers: &mut [u32], local: LocalId, a: AllocId) -> Found
     requires { ⌜ PointerRoom (now pointers) ⌝ }
     requires { ⌜ (local .0 < 512) × (a .0 < 512) ⌝ }
