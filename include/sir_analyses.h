@@ -132,9 +132,9 @@ sir_answer sir_owner(const uint8_t *image, size_t image_length, uint32_t local, 
  *
  * The flags tell what marked it, as a sum of enum sir_mark_cause; they are 0 just where the mark is:
  *
- *     4   a pointer of this allocation and one of another may come to the same local; the other one has this flag too
  *     1   a local at which this allocation was first is in an escaping operand
  *     2   a local at which this allocation was first is an output of a block that returns
+ *     4   a pointer of this allocation and one of another may come to the same local; the other one has this flag too
  *
  * Who is first goes by turns. Every allocation is first at its own base. Then, by number, each goes from its base to whatever
  * nobody had yet, is first there and goes on from there, but not from a local that another one had. So where 4 alone is set,

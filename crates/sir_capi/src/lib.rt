@@ -107,7 +107,7 @@ pub extern "C" fn sir_intervals(image: &[u8], local: u32, out: &mut [u8]) -> Ans
     ask(image, Question::OfLiveness(LiveQuestion::Intervals(v)), out)
 }
 
-// An allocation: defining block, operation, base local, kind, size or size local, static id, mark, interval count, intervals.
+// An allocation: defining block, operation, base local, kind, size or size local, static id, mark, flags, interval count, intervals.
 #[no_mangle]
 pub extern "C" fn sir_allocation(image: &[u8], allocation: u32, out: &mut [u8]) -> Answer
     ensures { λ r. ⌜ made (r .number) (r .length) (now (out .exit)) ≡ asked (known (λ w. length (allocs w)) allocation) (inWords (λ w. allocationAnswer w allocation)) (now (image .entry)) (now (out .entry)) ⌝ }

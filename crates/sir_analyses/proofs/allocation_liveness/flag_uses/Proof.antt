@@ -10,7 +10,6 @@ use Rattle.sir_analyses.specs.inner.Discovery.{usedIn}
 use Rattle.sir_analyses.specs.inner.Stages.{PointerStep}
 use Rattle.sir_analyses.proofs.allocation_liveness.PointerTables.{flagIf, flag-long, flag-if-long, uses-flagged}
 use borrow.Author.Needs.{needs}
-use native.Mathlib.Omega.{arith}
 use Rattle.sir_analyses.proofs.allocation_liveness.flag_uses.Statement.{statement}
 use Rattle.sir_analyses.proofs.allocation_liveness.flag_uses.Tie as tie
 

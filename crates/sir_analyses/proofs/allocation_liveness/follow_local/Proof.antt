@@ -1,7 +1,7 @@
 -- `follow_local` meets its contract. The invariant: the first i of what the local carries on are linked.
-use mathlib.Core.Path.{_≡_, sym, ap, _∙_}
+use mathlib.Core.Path.{_≡_, ap, _∙_}
 use mathlib.Core.List.{List}
-use Prim.Native.Nat.{ℕ, _+_, _-_, _≤_, _<_}
+use Prim.Native.Nat.{ℕ, _-_, _≤_, _<_}
 use lib.ListN.{length, getD, take}
 use Rattle.plank_core.specs.inner.DenseIndexSet.{members, rowOf}
 use Rattle.plank_core.specs.laws.DenseIndexSet.{length-row}

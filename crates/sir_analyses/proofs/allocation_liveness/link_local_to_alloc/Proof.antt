@@ -1,12 +1,9 @@
 -- `link_local_to_alloc` meets its contract.
-use mathlib.Core.Path.{refl, sym, ap, _∙_}
-use Prim.Native.Nat.{ℕ}
+use mathlib.Core.Path.{refl, sym, _∙_}
 use native.Mathlib.Numerals.{add-one}
 use borrow.Author.Tests.{eq-eqb, ne-eqb}
-use Rattle.sir_analyses.specs.Flags.{found}
 use Rattle.sir_analyses.proofs.stages.Parts.{part-get}
 use borrow.Author.Needs.{needs}
-use native.Mathlib.Omega.{arith}
 use Rattle.sir_analyses.proofs.allocation_liveness.link_local_to_alloc.Statement.{statement}
 use Rattle.sir_analyses.proofs.allocation_liveness.link_local_to_alloc.Tie as tie
 

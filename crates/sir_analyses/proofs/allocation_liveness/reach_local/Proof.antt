@@ -1,11 +1,11 @@
 -- `reach_local` meets its contract: what is done in each case is what linking does.
-use mathlib.Core.Path.{_≡_, sym, ap, _∙_, subst}
+use mathlib.Core.Path.{sym, ap, _∙_, subst}
 use mathlib.Core.List.{List, [], _∷_}
 use Prim.Native.Nat.{ℕ, _+_}
 use lib.ListN.{set}
 use Rattle.sir_analyses.specs.inner.Following.{linkAll}
 use Rattle.sir_analyses.specs.inner.Stages.{leftIn, PointerStep}
-use Rattle.sir_analyses.proofs.allocation_liveness.PointerTables.{flagSet, flag-long, one-long, left-room, other-less, reached-first, reached-before, reached-met}
+use Rattle.sir_analyses.proofs.allocation_liveness.PointerTables.{flagSet, one-long, left-room, other-less, reached-first, reached-before, reached-met}
 use borrow.Author.Needs.{needs}
 use native.Mathlib.Omega.{arith}
 use Rattle.sir_analyses.proofs.allocation_liveness.reach_local.Statement.{statement}

@@ -3,20 +3,19 @@
 use mathlib.Core.Path.{_≡_, refl, sym, _∙_, ap, subst}
 use mathlib.Core.Logic.{_⊎_, inl, inr}
 use mathlib.Core.Bool.{Bool, true, false, not, _||_}
-use Prim.Native.Nat.{ℕ, zero, suc, _-_, _≤_, _<_}
+use Prim.Native.Nat.{ℕ, zero, suc, _≤_, _<_}
 use native.Mathlib.Omega.{arith}
 use native.Mathlib.Decide.{ℕ-discrete}
-use mathlib.Core.List.{List, [], _∷_}
-use lib.ListN.{length, getD, set}
+use mathlib.Core.List.{List}
+use lib.ListN.{length, getD}
 use lib.Dec.{eqb}
-use borrow.Author.Tests.{eqb-true, eqb-false}
 use Rattle.plank_core.specs.Lists.{foldl, upto, _∈_}
 use Rattle.plank_core.specs.laws.Lists.{or-true-left, or-true-right, or-cases, same-tests, any-mem, any-out, bind-mem, bind-out, split}
 use Rattle.plank_core.specs.laws.Loops.{upto-suc}
 use Rattle.plank_core.specs.laws.Folds.{foldl-snoc}
 use Rattle.sir_data.specs.Records.{locals}
 use Rattle.sir_data.specs.inner.WellFormed.{WellFormed}
-use Rattle.sir_analyses.specs.Liveness.{uses, has, addAll, members}
+use Rattle.sir_analyses.specs.Liveness.{uses, has, members}
 use Rattle.sir_analyses.specs.Allocation.{allocs, rule12, carried, next, escapes, isReturned, marked, link, bases}
 use Rattle.sir_analyses.specs.Claims.{Reached, itself as reached-base, linked as reached-link, Marked, escaped, returned, met}
 use Rattle.sir_analyses.specs.Flags.{ownersBefore, firstReach, firstUsed, escapeFlag, returnFlag, meetingFlag, flagBits, IsBase, FirstWhere, own, linked, HadBefore, First, FirstUsed, FirstOf, FlagRule}
