@@ -92,7 +92,7 @@ fn show(image: &[u8]) -> Result<(), Refusal> {
     for (number, allocation) in sir_analyses::all_allocations(image)?.iter().enumerate() {
         println!("{number}: {allocation:?}");
         if let Some(why) = why(allocation) {
-            println!("   its memory is never free, for {why}");
+            println!("   its memory is never free: {why}");
         }
     }
     println!("may share their memory: {:?}", pairs(image)?);
