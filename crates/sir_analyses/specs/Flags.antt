@@ -40,7 +40,7 @@ linkedBy a s v (Found.Met b) = record { owner = set (s .owner) v (suc a); marks 
 abbrev pub ownersBefore : List ℕ → ℕ → List ℕ
 ownersBefore w a = foldl (link w) (bases w) (upto a)
 
--- the locals that allocation a is first to reach: its base, and all that is linked from there through locals that nobody had
+-- the locals that allocation a is first to reach: its base, and, linked from one of these, each that nobody had before its turn
 abbrev pub firstReach : List ℕ → ℕ → Set
 firstReach w a = spread w (unowned w (ownersBefore w a)) (base w (allocAt w a))
 

@@ -46,7 +46,7 @@ set-most xs v y m h f x = go (ℕ-discrete x v) (decLt v (length xs))
 -- ---- flags
 
 -- a flag is set in a word of flags
-pub escape-bit : (e r m : Bool) → bitOr (flagBits e r m) 1 ≡ flagBits true r m
+escape-bit : (e r m : Bool) → bitOr (flagBits e r m) 1 ≡ flagBits true r m
 escape-bit true true true = refl
 escape-bit true true false = refl
 escape-bit true false true = refl
@@ -56,7 +56,7 @@ escape-bit false true false = refl
 escape-bit false false true = refl
 escape-bit false false false = refl
 
-pub return-bit : (e r m : Bool) → bitOr (flagBits e r m) 2 ≡ flagBits e true m
+return-bit : (e r m : Bool) → bitOr (flagBits e r m) 2 ≡ flagBits e true m
 return-bit true true true = refl
 return-bit true true false = refl
 return-bit true false true = refl
@@ -66,7 +66,7 @@ return-bit false true false = refl
 return-bit false false true = refl
 return-bit false false false = refl
 
-pub meeting-bit : (e r m : Bool) → bitOr (flagBits e r m) 4 ≡ flagBits e r true
+meeting-bit : (e r m : Bool) → bitOr (flagBits e r m) 4 ≡ flagBits e r true
 meeting-bit true true true = refl
 meeting-bit true true false = refl
 meeting-bit true false true = refl
@@ -103,7 +103,7 @@ meeting-elsewhere ms a c q = go (decLt c (length ms))
         ∙ sym (List·getD-eq-default ms false {n = c} (omega arith))
 
 module _ {owner flags work : List ℕ} {n : ℕ} (R : Room owner flags work n) where
-  pub room-flag : (a flag : ℕ) → Room owner (raised flags a flag) work n
+  room-flag : (a flag : ℕ) → Room owner (raised flags a flag) work n
   room-flag a flag = record {
     owner-long = R .owner-long;
     flags-long = length-set flags a (bitOr (getD flags a 0) flag) ∙ R .flags-long;
@@ -114,7 +114,7 @@ module _ {owner flags work : List ℕ} {n : ℕ} (R : Room owner flags work n) w
   }
 
   -- allocation a has met another
-  pub meeting-shown : {m : Machine} (a : ℕ) → a < 512 → a < length (m .state .marks) → ShowsState owner flags work n m
+  meeting-shown : {m : Machine} (a : ℕ) → a < 512 → a < length (m .state .marks) → ShowsState owner flags work n m
       → ShowsState owner (raised flags a 4) work n (record { state = mark a (m .state); flagged = m .flagged })
   meeting-shown {m} a small less S = record {
     owner-is = S .owner-is;

@@ -29,7 +29,9 @@ is-marked-requires c κs =
 flags-of-requires : tie.Need-flags-of-requires
 flags-of-requires c κs =
     let at-site-of = c .before .before in
-    let start = at-site-of .before .before .before .before .before .before .before in
+    let at-alloc-sites = at-site-of .before in
+    let at-shared-slice-known = at-alloc-sites .before .before .before .before .before in
+    let start = at-shared-slice-known .before in
     (start .pre .1 .1 .0 .long, omega (arith, start .pre .1 .1 .1, allocations-few (start .pre .1 .1 .0)))
 
 marked-answer-requires : tie.Need-marked-answer-requires

@@ -36,7 +36,8 @@ set-flag-requires c κs = search needs
 
 set-flag-requires-2 : tie.Need-set-flag-requires-2
 set-flag-requires-2 c κs =
-    let at-other = c .before .before .before .before .before .before in
+    let at-set-flag = c .before .before .before in
+    let at-other = at-set-flag .before .before .before in
     let at-link = at-other .before .before .before .before in
     let start = at-link .before .before .before in
     let e = at-link .link-local-to-alloc .ensures in
