@@ -42,7 +42,7 @@ flagsOf w = map (flagsWord w) (upto (length (allocs w)))
 
 -- ---- rows with names: for each of these .ci/edits has a wrong definition, under which it is proved that the row does not hold
 
--- a path through the base of a later allocation: that one is first behind it
+-- a pointer of allocation 0 passes the base of allocation 1, which is first behind it
 abbrev through-base : Row
 through-base = (flagsOf throughBase, 4 ∷ 5 ∷ [])
 

@@ -102,11 +102,11 @@ module _ (w : List ℕ) where
   HadBefore zero v = IsBase v
   HadBefore (suc a) v = HadBefore a v ⊎ FirstWhere (HadBefore a) a v
 
-  -- allocation a was first to reach local v, allocations taken by number and every base counted first for its own
+  -- allocation a was first to reach local v: turns go by number, and a base is its own allocation's from the start
   abbrev pub First : ℕ → ℕ → Type 0
   First a v = FirstWhere (HadBefore a) a v
 
-  -- some local that allocation a was first to reach is so used
+  -- a local that allocation a was first to reach has that use
   pub record FirstUsed (used : ℕ → Bool) (a : ℕ) : Type 0 where
     pub local : ℕ
     pub is-first : First a local
@@ -145,5 +145,5 @@ module _ (w : List ℕ) where
     pub meeting-exact : (a : ℕ) → a < length (allocs w) → (meetingFlag w a ≡ true) ↔ Overlaps a
     -- and a meeting is what linking tells
     pub meeting-told : (a : ℕ) → a < length (allocs w) → has (meetings w) a ≡ meetingFlag w a
-    -- the mark is set exactly when some flag is
+    -- marked just where a flag is set
     pub mark-flags : (a : ℕ) → a < length (allocs w) → marked w a ≡ not (eqb (flagsWord w a) 0)

@@ -104,7 +104,7 @@ fn causes_are_of_all_sorts() {
     );
 }
 
-/// "The mark is set exactly when some flag is", and by lowest numbers it would be so too; the meeting goes by reaches alone.
+/// An allocation is marked just where a flag is set, and would be if the lowest number were first; a meeting goes by reaches alone.
 #[test]
 fn marks_and_flags_agree() {
     for &kind in Kind::SMALL {

@@ -97,7 +97,7 @@ pub fn exchanged_bases() -> Image {
     image
 }
 
-/// A pointer that goes through the base of a later allocation: local 1, the base of allocation 1, is copied from local 0, the
+/// A pointer that passes the base of another allocation: local 1, the base of allocation 1, is copied from local 0, the
 /// base of allocation 0, and local 2, which is stored, from local 1. Allocation 1 is first at local 2, though allocation 0 comes
 /// there too.
 pub fn through_a_base() -> Image {
