@@ -1,2 +1,3 @@
 -- Forms between our own functions: contracts of functions that are not exported. No exported promise speaks of them.
 pub mod DenseIndexSet
+pub mod Putting

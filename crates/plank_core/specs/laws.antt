@@ -7,3 +7,5 @@ pub mod Members
 pub mod Distinct
 pub mod Prefixes
 pub mod Folds
+pub mod Putting
+pub mod Text

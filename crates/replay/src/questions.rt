@@ -8,6 +8,7 @@ use sir_capi::sir_all_owners;
 use sir_capi::sir_all_predecessors;
 use sir_capi::sir_all_uses;
 use sir_capi::sir_allocation;
+use sir_capi::sir_chart;
 use sir_capi::sir_crossing;
 use sir_capi::sir_entry_set;
 use sir_capi::sir_exit_set;
@@ -44,6 +45,7 @@ fn ask_of_image(question: u32, image: &[u8], out: &mut [u8]) -> Answer {
         15 => sir_all_owners(image, out),
         18 => sir_records(image, out),
         19 => sir_write(image, out),
+        20 => sir_chart(image, out),
         _ => unknown(),
     }
 }

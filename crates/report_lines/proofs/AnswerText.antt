@@ -18,8 +18,9 @@ use Rattle.sir_analyses.specs.Answers.{intervalWords, intervalsAnswer, allocati
 use Rattle.sir_analyses.specs.Kinds.{kindOf, kindWords}
 use Rattle.sir_analyses.specs.declared.allocation_words.AllocKind.{AllocKind}
 use Rattle.sir_analyses.specs.laws.Writing.{length-bytes, interval-count}
-use Rattle.report_lines.specs.Lines.{ascii, named, intervalText, interval, localText, allocationText}
-use Rattle.report_lines.specs.inner.Putting.{Words, intervalAt, intervalsAt, EndsSome, localLine, mark, allocationHead, allocationLine}
+use Rattle.plank_core.specs.Text.{ascii}
+use Rattle.report_lines.specs.Lines.{named, intervalText, interval, localText, allocationText}
+use Rattle.report_lines.specs.inner.AnswerLines.{Words, intervalAt, intervalsAt, EndsSome, localLine, mark, allocationHead, allocationLine}
 use Rattle.report_lines.proofs.Fields.{Good, Goods, intervals-good, merged-good, alloc-small, base-small}
 
 -- word j after some front

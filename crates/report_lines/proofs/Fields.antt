@@ -14,7 +14,7 @@ use Rattle.sir_data.specs.Codes.{isAlloc}
 use Rattle.sir_analyses.specs.Order.{blocksRpo}
 use Rattle.sir_analyses.specs.Liveness.{Set, has, members, Interval, Scan, close, closing, scanOp, blockEnd, blockIntervals, intervals, exitSet, endReads}
 use Rattle.sir_analyses.specs.Allocation.{Alloc, noAlloc, allocs, allocAt, base, before, insert, sort, furthest, join, merge, marked, merged, reach}
-use Rattle.report_lines.specs.inner.Putting.{Words}
+use Rattle.report_lines.specs.inner.AnswerLines.{Words}
 
 pub in-words : {x : ℕ} (xs : List ℕ) → Words xs → x ∈ xs → x < 4294967296
 in-words xs h m = let p = mem-place 0 m in omega (arith, h (p .0), p .2)

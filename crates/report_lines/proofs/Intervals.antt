@@ -7,7 +7,7 @@ use lib.ListN.{length, getD, length-append}
 use Rattle.plank_core.specs.Lists.{bind, upto}
 use Rattle.plank_core.specs.laws.Loops.{bind-snoc, upto-suc}
 use Rattle.sir_data.specs.Pages.{wordAt}
-use Rattle.report_lines.specs.inner.Putting.{intervalAt, intervalsAt}
+use Rattle.report_lines.specs.inner.AnswerLines.{intervalAt, intervalsAt}
 use Rattle.report_lines.proofs.Numbers.{interval-short}
 
 pub word-small : (bytes : List ℕ) (i : ℕ) → ((k : ℕ) → getD bytes k 0 < 256) → wordAt bytes i < 4294967296

@@ -1,4 +1,3 @@
-pub mod Putting
 pub mod Numbers
 pub mod Intervals
 pub mod TooLong

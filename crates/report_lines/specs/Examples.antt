@@ -3,7 +3,8 @@ use mathlib.Core.Path.{_≡_, refl}
 use mathlib.Core.List.{List, _∷_, _++_}
 use Prim.Native.Nat.{ℕ}
 use lib.ListN.{replicate}
-use Rattle.report_lines.specs.Lines.{ascii, number, orderText, roundsText, blockText, localText, allocationText, reportText}
+use Rattle.plank_core.specs.Text.{ascii, number}
+use Rattle.report_lines.specs.Lines.{orderText, roundsText, blockText, localText, allocationText, reportText}
 
 -- its payload words, one page
 abbrev pub paperWords : List ℕ

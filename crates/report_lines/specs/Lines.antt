@@ -1,31 +1,16 @@
 -- The lines of a report as bytes (document 01, "Paths and joins"): items with one space between them.
 use mathlib.Core.Bool.{cond}
-use mathlib.Core.List.{List, [], _∷_, _++_}
-use Prim.Native.Nat.{ℕ, zero, suc, _+_, _-_, _/_, _%_}
-use Prim.Native.Char.{code}
-use Prim.Native.String.{String, [] as []ᵀ, _∷_ as _∷ᵀ_}
+use mathlib.Core.List.{List, [], _++_}
+use Prim.Native.Nat.{ℕ, _-_}
 use lib.ListN.{length}
-use lib.Dec.{eqb, ltb}
+use lib.Dec.{eqb}
 use Rattle.plank_core.specs.Lists.{bind, keep, upto}
+use Rattle.plank_core.specs.Text.{ascii, number}
 use Rattle.sir_data.specs.Records.{blocks, locals}
 use Rattle.sir_analyses.specs.Order.{blocksRpo, isVisited}
 use Rattle.sir_analyses.specs.Liveness.{Interval, intervals, rounds}
 use Rattle.sir_analyses.specs.Allocation.{allocs, allocAt, base, marked, merged}
 use Rattle.sir_analyses.specs.Answers.{entryAnswer, exitAnswer}
-
--- the bytes of a text, one for each character; for ASCII texts only
-abbrev pub ascii : String → List ℕ
-ascii []ᵀ = []
-ascii (c ∷ᵀ s) = code c ∷ ascii s
-
--- decimal digits; one more step than the number suffices
-abbrev pub digits : ℕ → ℕ → List ℕ
-digits zero n = []
-digits (suc k) n = cond (ltb n 10) ((48 + n) ∷ []) (digits k (n / 10) ++ ((48 + n % 10) ∷ []))
-
--- a number
-unfoldable pub number : ℕ → List ℕ
-number n = digits (suc n) n
 
 -- a name and a number
 abbrev pub named : List ℕ → ℕ → List ℕ

@@ -3,13 +3,14 @@ use crate::text::put_blocks;
 use crate::text::put_intervals_at;
 use crate::text::put_members;
 use crate::text::put_named;
-use crate::text::put_number;
-use crate::text::put_text;
+use plank_core::text::put_number;
+use plank_core::text::put_text;
 use sir_data::pages::word_at;
 ghost use Prim.Native.Nat.{_-_, _/_, _≤_};
 ghost use lib.ListN.{length};
 ghost use Rattle.report_lines.specs.Lines.{refusedLine, orderLine, roundsLine, blockLine};
-ghost use Rattle.report_lines.specs.inner.Putting.{Put, localLine, allocationHead, allocationLine, EndsSome};
+ghost use Rattle.plank_core.specs.inner.Putting.{Put};
+ghost use Rattle.report_lines.specs.inner.AnswerLines.{localLine, allocationHead, allocationLine, EndsSome};
 
 // `refused` and the number.
 pub fn refused_line(number: u32, line: &mut [u8]) -> usize

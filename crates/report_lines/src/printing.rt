@@ -44,7 +44,7 @@ ghost use Rattle.sir_analyses.specs.Allocation.{allocs};
 ghost use Rattle.sir_analyses.specs.Answers.{orderAnswer, intervalsAnswer, allocationAnswer};
 ghost use Rattle.sir_analyses.specs.inner.Stages.{VisitStage, AcceptedStage, LivenessStage, PointerStage};
 ghost use Rattle.report_lines.specs.Lines.{orderText, roundsText, blockText, localText, allocationText};
-ghost use Rattle.report_lines.specs.inner.Putting.{Put};
+ghost use Rattle.plank_core.specs.inner.Putting.{Put};
 ghost use Rattle.report_lines.specs.Counting.{tooLong, localTooLong, allocationTooLong, someTooLong, reported};
 
 // Prints some bytes.

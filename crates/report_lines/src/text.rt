@@ -1,34 +1,14 @@
 // Pieces of a line. Each is put after the first `at` bytes of a line; the answer is where it ends.
+use plank_core::text::put_number;
+use plank_core::text::put_text;
 use sir_data::pages::word_at;
 ghost use Prim.Native.Nat.{_+_, _*_, _≤_, _<_};
 ghost use lib.ListN.{length};
 ghost use Rattle.plank_core.specs.Lists.{bind};
 ghost use Rattle.sir_data.specs.Pages.{wordAt};
-ghost use Rattle.report_lines.specs.Lines.{number, named, localsText, blocksText, membersText, startText, endText, interval};
-ghost use Rattle.report_lines.specs.inner.Putting.{Put, intervalAt, intervalsAt, EndsSome};
-
-// Some bytes as they are.
-pub fn put_text(line: &mut [u8], at: usize, text: &[u8]) -> usize
-    requires { ⌜ at + length (now text) ≤ length (now line) ⌝ }
-    ensures { λ r. ⌜ Put (now (text .entry)) at (now (line .entry)) (now (line .exit)) r ⌝ }
-{
-    let mut k: usize = 0;
-    while k < text.len() {
-        line[at + k] = text[k];
-        k += 1;
-    }
-    at + k
-}
-
-// A number's decimal digits.
-pub fn put_number(line: &mut [u8], at: usize, n: u32) -> usize
-    requires { ⌜ at + 10 ≤ length (now line) ⌝ }
-    ensures { λ r. ⌜ Put (number n) at (now (line .entry)) (now (line .exit)) r ⌝ }
-{
-    let mut text = [0u8; 20];
-    let k = io::decimal(n as u64, &mut text);
-    put_text(line, at, &text[..k])
-}
+ghost use Rattle.report_lines.specs.Lines.{named, localsText, blocksText, membersText, startText, endText, interval};
+ghost use Rattle.plank_core.specs.inner.Putting.{Put};
+ghost use Rattle.report_lines.specs.inner.AnswerLines.{intervalAt, intervalsAt, EndsSome};
 
 // A name of at most three bytes and a number.
 pub fn put_named(line: &mut [u8], at: usize, name: &[u8], n: u32) -> usize

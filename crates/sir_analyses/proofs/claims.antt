@@ -5,5 +5,6 @@ pub mod source
 pub mod marks
 pub mod flags
 pub mod lifetimes
+pub mod chart
 pub mod Proved
 pub mod WriteBackProof

@@ -14,12 +14,14 @@ pub mod All
 pub mod Calls
 pub mod Walk
 pub mod Open
+pub mod Chart
 pub mod Promise
 pub mod WriteBack
 pub mod inner
 pub mod ExampleImages
 pub mod Examples
 pub mod OpenExamples
+pub mod ChartExamples
 pub mod FlagExamples
 pub mod WriteBackExamples
 pub mod laws

@@ -5,6 +5,7 @@ use Rattle.sir_analyses.specs.Claims.{OrderRule, LivenessRule, MarkRule,
 use Rattle.sir_analyses.specs.Flags.{FlagRule}
 use Rattle.sir_analyses.specs.Walk.{Lifetimes}
 use Rattle.sir_analyses.specs.Open.{OpenRule, CrossingRule}
+use Rattle.sir_analyses.specs.Chart.{ChartRule}
 
 -- what holds of the answers about the payload words of an accepted image
 pub record Promise (w : List ℕ) : Type 0 where
@@ -23,3 +24,5 @@ pub record Promise (w : List ℕ) : Type 0 where
   -- what is open at an operation, and which two cross where, are told by these intervals
   pub opens : OpenRule w
   pub crossings : CrossingRule w
+  -- every line and every mark of the chart is as these intervals and marks say
+  pub chart : ChartRule w

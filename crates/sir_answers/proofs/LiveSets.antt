@@ -13,6 +13,7 @@ use Rattle.plank_core.specs.laws.Loops.{range-next}
 use Rattle.plank_core.specs.inner.DenseIndexSet.{contains}
 use Rattle.sir_data.specs.Records.{blocks, operations, locals, blockWord, ops, ins, outs, condition, returned}
 use Rattle.sir_data.specs.inner.WellFormed.{WellFormed}
+use Rattle.sir_analyses.specs.Order.{blocksRpo}
 use Rattle.sir_analyses.specs.Liveness.{Set, has, removeAll, endReads, exitSet}
 use Rattle.sir_analyses.specs.inner.Stages.{LivenessStage, readsIn, writesIn, endsIn, exitsIn}
 use Rattle.sir_analyses.proofs.SetLaws.{has-less, has-addAll, has-removeAll, length-removeAll}
@@ -28,6 +29,14 @@ pub record LiveBefore (w : List ℕ) (b : ℕ) (os set : List ℕ) : Type 0 wher
   pub long : length set ≡ 8
   pub known : (v : ℕ) → v < 512 → contains set v ≡ true → v < locals w
   pub lives : (v : ℕ) → v < locals w → contains set v ≡ has (liveIn w b os) v
+
+-- a scan is to start after the operations of block b, which is visited
+pub record ScanStart (w : List ℕ) (first end : ℕ) (set : List ℕ) (b : ℕ) : Type 0 where
+  pub below : b < blocks w
+  pub visited : b ∈ blocksRpo w
+  pub start-is : first ≡ blockWord w b 4
+  pub end-is : end ≡ blockWord w b 5
+  pub live : LiveBefore w b [] set
 
 -- live before or after: what is read is added to what is live after
 either : (x y z : Bool) → (((x && not y) || z) || x) ≡ (x || z)

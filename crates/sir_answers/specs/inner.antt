@@ -5,3 +5,4 @@ pub mod Questions
 pub mod IntervalPieces
 pub mod AllocationPieces
 pub mod LiveAround
+pub mod Columns

@@ -1,5 +1,6 @@
 // The one way in: an image and a question give a number, the answer's length, and the answer in `out`; refused, `out` is left as
 // it was.
+use crate::chart::chart_answer;
 use crate::live_answers::live_answer;
 use crate::order_answers::order_answer;
 use crate::pointer_answers::pointer_answer;
@@ -13,9 +14,9 @@ use sir_analyses::stages::VISIT;
 use sir_analyses::stages::WORDS;
 ghost use mathlib.Core.Path.{_≡_};
 ghost use Rattle.sir_data.specs.Pages.{payload};
-ghost use Rattle.sir_analyses.specs.Calls.{made, call, asked, refusal, inWords};
+ghost use Rattle.sir_analyses.specs.Calls.{made, call, asked, refusal};
 ghost use Rattle.sir_analyses.specs.Promise.{Promise};
-ghost use Rattle.sir_answers.specs.inner.Questions.{ownRules, answerWords};
+ghost use Rattle.sir_answers.specs.inner.Questions.{ownRules, answerBytes};
 ghost use Rattle.sir_analyses.specs.inner.Stages.{OrderStage, VisitStage, AcceptedStage};
 
 // The refusal of a question, or its answer, from the words of an accepted image, the keys of its visit, the visit and the
@@ -29,7 +30,7 @@ fn answer(
     out: &mut [u8],
 ) -> Answer
     requires { ⌜ OrderStage (now words) (now postorder) × VisitStage (now words) (now visit) × AcceptedStage (now words) (now sites) ⌝ }
-    ensures { λ r. ⌜ made (r .number) (r .length) (now (out .exit)) ≡ call (ownRules question (now (words .entry))) (inWords (answerWords question) (now (words .entry))) (now (out .entry)) ⌝ }
+    ensures { λ r. ⌜ made (r .number) (r .length) (now (out .exit)) ≡ call (ownRules question (now (words .entry))) (answerBytes question (now (words .entry))) (now (out .entry)) ⌝ }
 {
     let number = own_refusal(words, sites, question);
     if number != 0 {
@@ -39,12 +40,13 @@ fn answer(
         Question::OfOrder(q) => order_answer(words, postorder, visit, q, out),
         Question::OfLiveness(q) => live_answer(words, visit, q, out),
         Question::OfPointers(q) => pointer_answer(words, visit, sites, q, out),
+        Question::Chart => chart_answer(words, visit, sites, out),
     }
 }
 
 // The refusal of the image, or of the question, or the answer; and what holds of the answers about every accepted image.
 pub fn ask(image: &[u8], question: Question, out: &mut [u8]) -> Answer
-    ensures { λ r. ⌜ made (r .number) (r .length) (now (out .exit)) ≡ asked (ownRules question) (inWords (answerWords question)) (now (image .entry)) (now (out .entry)) ⌝ }
+    ensures { λ r. ⌜ made (r .number) (r .length) (now (out .exit)) ≡ asked (ownRules question) (answerBytes question) (now (image .entry)) (now (out .entry)) ⌝ }
     ensures { λ r. ⌜ (refusal (now (image .entry)) ≡ 0 → Promise (payload (now (image .entry)))) ⌝ }
 {
     let mut words = [0u32; WORDS];

@@ -26,8 +26,8 @@ ghost use Rattle.sir_data.specs.Records.{blocks, locals};
 ghost use Rattle.sir_data.specs.Rules.{first};
 ghost use Rattle.sir_analyses.specs.Liveness.{rounds};
 ghost use Rattle.sir_analyses.specs.Answers.{entryAnswer, intervalsAnswer};
-ghost use Rattle.sir_analyses.specs.Calls.{made, answered, inWords};
-ghost use Rattle.sir_answers.specs.inner.Questions.{ownRules, answerWords};
+ghost use Rattle.sir_analyses.specs.Calls.{made, answered};
+ghost use Rattle.sir_answers.specs.inner.Questions.{ownRules, answerBytes};
 ghost use Rattle.sir_analyses.specs.inner.Stages.{VisitStage, LivenessStage};
 ghost use Rattle.sir_answers.specs.declared.questions.Question.{Question};
 
@@ -85,7 +85,7 @@ fn answer_from_sets(
     requires { ⌜ VisitStage (now words) (now visit) ⌝ }
     requires { ⌜ LivenessStage (now words) (now live) × (done ≡ rounds (now words)) ⌝ }
     requires { ⌜ first (ownRules (Question.OfLiveness question) (now words)) ≡ 0 ⌝ }
-    ensures { λ r. ⌜ made (r .number) (r .length) (now (out .exit)) ≡ answered (inWords (answerWords (Question.OfLiveness question)) (now (words .entry))) (now (out .entry)) ⌝ }
+    ensures { λ r. ⌜ made (r .number) (r .length) (now (out .exit)) ≡ answered (answerBytes (Question.OfLiveness question) (now (words .entry))) (now (out .entry)) ⌝ }
 {
     match question {
         LiveQuestion::EntrySet(b) => entry_answer(words, visit, live, b, out),
@@ -102,7 +102,7 @@ fn answer_from_sets(
 pub fn live_answer(words: &[u32], visit: &[u32], question: LiveQuestion, out: &mut [u8]) -> Answer
     requires { ⌜ VisitStage (now words) (now visit) ⌝ }
     requires { ⌜ first (ownRules (Question.OfLiveness question) (now words)) ≡ 0 ⌝ }
-    ensures { λ r. ⌜ made (r .number) (r .length) (now (out .exit)) ≡ answered (inWords (answerWords (Question.OfLiveness question)) (now (words .entry))) (now (out .entry)) ⌝ }
+    ensures { λ r. ⌜ made (r .number) (r .length) (now (out .exit)) ≡ answered (answerBytes (Question.OfLiveness question) (now (words .entry))) (now (out .entry)) ⌝ }
 {
     let mut live = [0u64; LIVE];
     let done = compute_liveness(words, visit, &mut live);

@@ -17,8 +17,8 @@ ghost use lib.ListN.{length};
 ghost use Rattle.plank_core.specs.Lists.{bind};
 ghost use Rattle.sir_data.specs.Pages.{bytesOf};
 ghost use Rattle.sir_analyses.specs.Answers.{predecessorsAnswer, usesAnswer};
-ghost use Rattle.sir_analyses.specs.Calls.{made, answered, inWords};
-ghost use Rattle.sir_answers.specs.inner.Questions.{answerWords};
+ghost use Rattle.sir_analyses.specs.Calls.{made, answered};
+ghost use Rattle.sir_answers.specs.inner.Questions.{answerBytes};
 ghost use Rattle.sir_analyses.specs.inner.Stages.{OrderStage, VisitStage};
 ghost use Rattle.sir_analyses.specs.inner.Visiting.{orderIn};
 ghost use Rattle.sir_answers.specs.declared.questions.Question.{Question};
@@ -69,7 +69,7 @@ pub fn order_answer(
 ) -> Answer
     requires { ⌜ OrderStage (now words) (now postorder) ⌝ }
     requires { ⌜ VisitStage (now words) (now visit) ⌝ }
-    ensures { λ r. ⌜ made (r .number) (r .length) (now (out .exit)) ≡ answered (inWords (answerWords (Question.OfOrder question)) (now (words .entry))) (now (out .entry)) ⌝ }
+    ensures { λ r. ⌜ made (r .number) (r .length) (now (out .exit)) ≡ answered (answerBytes (Question.OfOrder question) (now (words .entry))) (now (out .entry)) ⌝ }
 {
     match question {
         OrderQuestion::Order => visit_answer(postorder, out),

@@ -28,8 +28,8 @@ ghost use Rattle.sir_data.specs.Rules.{first};
 ghost use Rattle.sir_analyses.specs.All.{all};
 ghost use Rattle.sir_analyses.specs.Allocation.{allocs, marked};
 ghost use Rattle.sir_analyses.specs.Answers.{allocationAnswer};
-ghost use Rattle.sir_analyses.specs.Calls.{made, answered, inWords};
-ghost use Rattle.sir_answers.specs.inner.Questions.{ownRules, answerWords};
+ghost use Rattle.sir_analyses.specs.Calls.{made, answered};
+ghost use Rattle.sir_answers.specs.inner.Questions.{ownRules, answerBytes};
 ghost use Rattle.sir_analyses.specs.inner.Stages.{VisitStage, AcceptedStage, PointerStage};
 ghost use Rattle.sir_answers.specs.declared.questions.Question.{Question};
 
@@ -75,7 +75,7 @@ pub fn pointer_answer(
 ) -> Answer
     requires { ⌜ VisitStage (now words) (now visit) ⌝ }
     requires { ⌜ AcceptedStage (now words) (now sites) × (first (ownRules (Question.OfPointers question) (now words)) ≡ 0) ⌝ }
-    ensures { λ r. ⌜ made (r .number) (r .length) (now (out .exit)) ≡ answered (inWords (answerWords (Question.OfPointers question)) (now (words .entry))) (now (out .entry)) ⌝ }
+    ensures { λ r. ⌜ made (r .number) (r .length) (now (out .exit)) ≡ answered (answerBytes (Question.OfPointers question) (now (words .entry))) (now (out .entry)) ⌝ }
 {
     let mut pointers = [0u32; POINTERS];
     compute_pointers(words, visit, sites, &mut pointers);

@@ -1,4 +1,5 @@
-// The questions that can be put to an image, by what they need: the order alone, liveness, or the pointers of allocations.
+// The questions that can be put to an image, by what they need: the order alone, liveness, or the pointers of allocations; and the chart,
+// which needs all of these once its slice is long enough.
 use plank_core::index::AllocId;
 use plank_core::index::BlockId;
 use plank_core::index::LocalId;
@@ -50,6 +51,7 @@ pub enum Question {
     OfOrder(OrderQuestion),
     OfLiveness(LiveQuestion),
     OfPointers(PointerQuestion),
+    Chart,
 }
 
 // 13 for an id that is not below its count, else 0.
@@ -126,5 +128,6 @@ pub fn own_refusal(words: &[u32], sites: &[u32], question: Question) -> u32
                 crossing_refusal(one, other, sites.len() as u32)
             }
         },
+        Question::Chart => 0,
     }
 }

@@ -31,6 +31,7 @@ ghost use Rattle.sir_analyses.specs.All.{all};
 ghost use Rattle.sir_analyses.specs.Allocation.{allocs};
 ghost use Rattle.sir_analyses.specs.Answers.{orderAnswer, predecessorsAnswer, usesAnswer, entryAnswer, exitAnswer, roundsAnswer, intervalsAnswer, allocationAnswer, ownerAnswer};
 ghost use Rattle.sir_analyses.specs.Calls.{made, refusal, asked, noRules, known, inWords};
+ghost use Rattle.sir_analyses.specs.Chart.{chartText};
 ghost use Rattle.sir_analyses.specs.Open.{openAt, openRules, crossing, crossingRules};
 ghost use Rattle.sir_analyses.specs.Promise.{Promise};
 ghost use Rattle.sir_analyses.specs.WriteBack.{lentRefusal, written, PageRule, WrittenBack, ReadBack, ReadersNumber};
@@ -230,6 +231,15 @@ pub extern "C" fn sir_crossing(image: &[u8], one: u32, other: u32, out: &mut [u8
         Question::OfPointers(PointerQuestion::Crossing(a, c)),
         out,
     )
+}
+
+// The chart for the review sheet, as text: series of 64 allocations, sheets of 60 lines, lines of 72 columns and a line feed.
+#[no_mangle]
+pub extern "C" fn sir_chart(image: &[u8], out: &mut [u8]) -> Answer
+    ensures { λ r. ⌜ made (r .number) (r .length) (now (out .exit)) ≡ asked noRules chartText (now (image .entry)) (now (out .entry)) ⌝ }
+    ensures { λ r. ⌜ (refusal (now (image .entry)) ≡ 0 → Promise (payload (now (image .entry)))) ⌝ }
+{
+    ask(image, Question::Chart, out)
 }
 
 // The records of an image: its payload words without padding. Written, they give the image back.

@@ -15,6 +15,7 @@ use Rattle.sir_analyses.specs.Claims.{OrderRule, LivenessRule, MarkRule,
 use Rattle.sir_analyses.specs.Flags.{FlagRule}
 use Rattle.sir_analyses.specs.Walk.{Lifetimes}
 use Rattle.sir_analyses.specs.Open.{OpenRule, CrossingRule}
+use Rattle.sir_analyses.specs.Chart.{ChartRule}
 use Rattle.sir_analyses.specs.Promise.{Promise}
 use Rattle.sir_analyses.proofs.claims.order.OrderProof.{order-rule}
 use Rattle.sir_analyses.proofs.claims.liveness.LivenessProof.{liveness-rule}
@@ -22,6 +23,7 @@ use Rattle.sir_analyses.proofs.claims.marks.Marks.{mark-rule}
 use Rattle.sir_analyses.proofs.claims.flags.Flags.{flag-rule}
 use Rattle.sir_analyses.proofs.claims.lifetimes.Lifetime.{lifetimes}
 use Rattle.sir_analyses.proofs.claims.lifetimes.OpenProof.{open-rule, crossing-rule}
+use Rattle.sir_analyses.proofs.claims.chart.ChartProof.{chart-rule}
 use Rattle.sir_analyses.proofs.claims.source.SourceProof.{source-rule}
 
 alone : (k : ℕ) (t : Bool) → 0 < k → first ((k, t) ∷ []) ≡ 0 → t ≡ false
@@ -62,5 +64,8 @@ module _ (image : List ℕ) (accepted : refusal image ≡ 0) where
   pub crossings : CrossingRule (payload image)
   crossings = crossing-rule (payload image)
 
+  pub chart : ChartRule (payload image)
+  chart = chart-rule (payload image) good bases-distinct
+
   pub promise : Promise (payload image)
-  promise = record { order = order; liveness = liveness; marks = marks; flags = flags; source = source; lifetimes = walks; opens = opens; crossings = crossings }
+  promise = record { order = order; liveness = liveness; marks = marks; flags = flags; source = source; lifetimes = walks; opens = opens; crossings = crossings; chart = chart }

@@ -21,7 +21,7 @@ use Rattle.sir_answers.specs.inner.LiveAround.{LiveAround, ReachOf, firs
 use Rattle.sir_analyses.proofs.claims.order.OrderProof.{blocks-seen}
 use Rattle.sir_analyses.proofs.claims.lifetimes.OpenProof.{covered-lies, local-out, merged-out}
 use Rattle.sir_analyses.proofs.allocation_answers.AllocationWords.{owned-unmarked}
-use Rattle.sir_answers.proofs.LiveSets.{LiveBefore, around-here, live-passed}
+use Rattle.sir_answers.proofs.LiveSets.{LiveBefore, ScanStart, around-here, live-passed}
 use Rattle.sir_answers.proofs.open_allocations.OpenOwners.{meets-lies}
 
 -- ---- the first operation of a block
@@ -65,14 +65,6 @@ pub common-told : {w : List ℕ} → WellFormed w → {b o : ℕ} → b ∈ bloc
 common-told good mb mo {one = one} {other} k {a} {c} x y = ap₂ (λ (s t : Bool). s && t) (meets-lies good mb mo k one a (x .unmarked) (x .same)) (meets-lies good mb mo k other c (y .unmarked) (y .same))
 
 -- ---- the scan of a block
-
--- a scan is to start after the operations of block b, which is visited
-pub record ScanStart (w : List ℕ) (first end : ℕ) (set : List ℕ) (b : ℕ) : Type 0 where
-  pub below : b < blocks w
-  pub visited : b ∈ blocksRpo w
-  pub start-is : first ≡ blockWord w b 4
-  pub end-is : end ≡ blockWord w b 5
-  pub live : LiveBefore w b [] set
 
 -- the operations os, the last of block b, are passed: what is live before them, and the first of them that is common
 pub record CommonScan (w one other : List ℕ) (b : ℕ) (os set : List ℕ) (found : ℕ) : Type 0 where

@@ -101,17 +101,24 @@ module _ {w : List ℕ} (good : WellFormed w) {b o : ℕ} (mb : b ∈ blocksRpo 
     none-lives : (a : ℕ) → ownReach w a ≡ replicate (locals w) false → any (λ v. has (ownReach w a) v && contains set v) (upto 512) ≡ false
     none-lives a e = any-none (λ v. has (ownReach w a) v && contains set v) 0 512 (λ v l h. ap (λ (t : Bool). t && contains set v) (ap (λ (s : Set). has s v) e ∙ none-in (locals w) v))
 
+    -- an allocation owns a local of the set, unmarked, exactly where it is open
+    pub owner-open : (a : ℕ) → a < length (allocs w) → mem (a + 1) (map (unmarkedOwner pointers) (members set)) ≡ isOpen w b o a
+    owner-open a l = go (marked w a) refl
+      where
+        go : (m : Bool) → marked w a ≡ m → mem (a + 1) (map (unmarkedOwner pointers) (members set)) ≡ (not m && lies b o (merged w a))
+        go true e = owner-lives a ∙ none-lives a (own-marked w a e)
+        go false e = owner-lives a ∙ some-lies (has (ownReach w a)) a e (λ v h. ap (λ (s : Set). has s v) (own-unmarked w a l e))
+
+    pub owner-unknown : (a : ℕ) → length (allocs w) ≤ a → mem (a + 1) (map (unmarkedOwner pointers) (members set)) ≡ false
+    owner-unknown a l = owner-lives a ∙ none-lives a (own-unknown w a l)
+
     -- the unmarked owners of the locals of the set are the allocations that are open
     pub open-listed : {ids : List ℕ} → UnmarkedOwners pointers set ids → ids ≡ openAt w b o
     unfolding members
-    open-listed x = x .listed ∙ keep-below (contains (x .owners)) (isOpen w b o) (length (allocs w)) 512 (allocations-few stage) (λ a l. known a l (marked w a) refl) unknown
-      where
-        known : (a : ℕ) → a < length (allocs w) → (m : Bool) → marked w a ≡ m → contains (x .owners) a ≡ (not m && lies b o (merged w a))
-        known a l true e = x .owner-is a (omega (arith, allocations-few stage)) ∙ owner-lives a ∙ none-lives a (own-marked w a e)
-        known a l false e = x .owner-is a (omega (arith, allocations-few stage)) ∙ owner-lives a ∙ some-lies (has (ownReach w a)) a e (λ v h. ap (λ (s : Set). has s v) (own-unmarked w a l e))
-
-        unknown : (a : ℕ) → length (allocs w) ≤ a → a < 512 → contains (x .owners) a ≡ false
-        unknown a l h = x .owner-is a h ∙ owner-lives a ∙ none-lives a (own-unknown w a l)
+    open-listed x =
+        x .listed
+        ∙ keep-below (contains (x .owners)) (isOpen w b o) (length (allocs w)) 512 (allocations-few stage) (λ a l. x .owner-is a (omega (arith, allocations-few stage)) ∙ owner-open a l)
+        (λ a l h. x .owner-is a h ∙ owner-unknown a l)
 
 -- owners that were added to an empty set
 pub owners-added : (own : ℕ → ℕ) (ids : List ℕ) {t₀ owners : List ℕ} → t₀ ≡ replicate 8 0 → Adds t₀ (λ r a. mem (a + 1) (map own ids) && eqb r 0) owners → (a : ℕ) → a < 512 → contains owners a ≡ mem (a + 1) (map own ids)

@@ -1,4 +1,4 @@
--- What the code's enum of questions stands for: the own rules of each, and the words that answer it.
+-- What the code's enum of questions stands for: the own rules of each, and the bytes that answer it.
 use mathlib.Core.List.{List}
 use Prim.Native.Nat.{ℕ}
 use lib.ListN.{length}
@@ -6,7 +6,8 @@ use Rattle.sir_data.specs.Records.{blocks, locals}
 use Rattle.sir_analyses.specs.All.{all}
 use Rattle.sir_analyses.specs.Allocation.{allocs}
 use Rattle.sir_analyses.specs.Answers.{orderAnswer, predecessorsAnswer, usesAnswer, entryAnswer, exitAnswer, roundsAnswer, intervalsAnswer, allocationAnswer, ownerAnswer}
-use Rattle.sir_analyses.specs.Calls.{Rules, noRules, known}
+use Rattle.sir_analyses.specs.Calls.{Rules, noRules, known, inWords}
+use Rattle.sir_analyses.specs.Chart.{chartText}
 use Rattle.sir_analyses.specs.Open.{openAt, openRules, crossing, crossingRules}
 use Rattle.sir_answers.specs.declared.questions.LiveQuestion.{LiveQuestion}
 use Rattle.sir_answers.specs.declared.questions.OrderQuestion.{OrderQuestion}
@@ -33,24 +34,26 @@ ownRules (Question.OfPointers PointerQuestion.AllAllocations) = noRules
 ownRules (Question.OfPointers PointerQuestion.AllOwners) = noRules
 ownRules (Question.OfPointers (PointerQuestion.Open b o)) = openRules (b .0) (o .0)
 ownRules (Question.OfPointers (PointerQuestion.Crossing a c)) = crossingRules (a .0) (c .0)
+ownRules Question.Chart = noRules
 
--- the words that answer a question
-abbrev pub answerWords : Question → List ℕ → List ℕ
-answerWords (Question.OfOrder OrderQuestion.Order) w = orderAnswer w
-answerWords (Question.OfOrder (OrderQuestion.Predecessors b)) w = predecessorsAnswer w (b .0)
-answerWords (Question.OfOrder (OrderQuestion.Uses v)) w = usesAnswer w (v .0)
-answerWords (Question.OfOrder OrderQuestion.AllPredecessors) w = all blocks predecessorsAnswer w
-answerWords (Question.OfOrder OrderQuestion.AllUses) w = all locals usesAnswer w
-answerWords (Question.OfLiveness (LiveQuestion.EntrySet b)) w = entryAnswer w (b .0)
-answerWords (Question.OfLiveness (LiveQuestion.ExitSet b)) w = exitAnswer w (b .0)
-answerWords (Question.OfLiveness (LiveQuestion.Intervals v)) w = intervalsAnswer w (v .0)
-answerWords (Question.OfLiveness LiveQuestion.Rounds) w = roundsAnswer w
-answerWords (Question.OfLiveness LiveQuestion.AllEntrySets) w = all blocks entryAnswer w
-answerWords (Question.OfLiveness LiveQuestion.AllExitSets) w = all blocks exitAnswer w
-answerWords (Question.OfLiveness LiveQuestion.AllIntervals) w = all locals intervalsAnswer w
-answerWords (Question.OfPointers (PointerQuestion.Allocation a)) w = allocationAnswer w (a .0)
-answerWords (Question.OfPointers (PointerQuestion.Owner v)) w = ownerAnswer w (v .0)
-answerWords (Question.OfPointers PointerQuestion.AllAllocations) w = all (λ x. length (allocs x)) allocationAnswer w
-answerWords (Question.OfPointers PointerQuestion.AllOwners) w = all locals ownerAnswer w
-answerWords (Question.OfPointers (PointerQuestion.Open b o)) w = openAt w (b .0) (o .0)
-answerWords (Question.OfPointers (PointerQuestion.Crossing a c)) w = crossing w (a .0) (c .0)
+-- the bytes that answer a question
+abbrev pub answerBytes : Question → List ℕ → List ℕ
+answerBytes (Question.OfOrder OrderQuestion.Order) = inWords orderAnswer
+answerBytes (Question.OfOrder (OrderQuestion.Predecessors b)) = inWords (λ w. predecessorsAnswer w (b .0))
+answerBytes (Question.OfOrder (OrderQuestion.Uses v)) = inWords (λ w. usesAnswer w (v .0))
+answerBytes (Question.OfOrder OrderQuestion.AllPredecessors) = inWords (all blocks predecessorsAnswer)
+answerBytes (Question.OfOrder OrderQuestion.AllUses) = inWords (all locals usesAnswer)
+answerBytes (Question.OfLiveness (LiveQuestion.EntrySet b)) = inWords (λ w. entryAnswer w (b .0))
+answerBytes (Question.OfLiveness (LiveQuestion.ExitSet b)) = inWords (λ w. exitAnswer w (b .0))
+answerBytes (Question.OfLiveness (LiveQuestion.Intervals v)) = inWords (λ w. intervalsAnswer w (v .0))
+answerBytes (Question.OfLiveness LiveQuestion.Rounds) = inWords roundsAnswer
+answerBytes (Question.OfLiveness LiveQuestion.AllEntrySets) = inWords (all blocks entryAnswer)
+answerBytes (Question.OfLiveness LiveQuestion.AllExitSets) = inWords (all blocks exitAnswer)
+answerBytes (Question.OfLiveness LiveQuestion.AllIntervals) = inWords (all locals intervalsAnswer)
+answerBytes (Question.OfPointers (PointerQuestion.Allocation a)) = inWords (λ w. allocationAnswer w (a .0))
+answerBytes (Question.OfPointers (PointerQuestion.Owner v)) = inWords (λ w. ownerAnswer w (v .0))
+answerBytes (Question.OfPointers PointerQuestion.AllAllocations) = inWords (all (λ x. length (allocs x)) allocationAnswer)
+answerBytes (Question.OfPointers PointerQuestion.AllOwners) = inWords (all locals ownerAnswer)
+answerBytes (Question.OfPointers (PointerQuestion.Open b o)) = inWords (λ w. openAt w (b .0) (o .0))
+answerBytes (Question.OfPointers (PointerQuestion.Crossing a c)) = inWords (λ w. crossing w (a .0) (c .0))
+answerBytes Question.Chart = chartText

@@ -1,8 +1,9 @@
 -- `block_line` meets its contract.
 use Prim.Native.Nat.{_≤_}
 use native.Mathlib.Omega.{arith}
-use Rattle.report_lines.proofs.Putting.{put-then}
-use Rattle.report_lines.proofs.Numbers.{number-short, members-short}
+use Rattle.plank_core.specs.laws.Putting.{put-then}
+use Rattle.plank_core.specs.laws.Text.{number-short}
+use Rattle.report_lines.proofs.Numbers.{members-short}
 use borrow.Author.Needs.{needs}
 use Rattle.report_lines.proofs.lines.block_line.Statement.{statement}
 use Rattle.report_lines.proofs.lines.block_line.Tie as tie

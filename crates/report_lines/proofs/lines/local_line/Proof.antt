@@ -2,8 +2,8 @@
 use Prim.Native.Nat.{_/_}
 use native.Mathlib.Omega.{arith}
 use lib.ListN.{length}
-use Rattle.report_lines.proofs.Putting.{put-then}
-use Rattle.report_lines.proofs.Numbers.{number-short}
+use Rattle.plank_core.specs.laws.Putting.{put-then}
+use Rattle.plank_core.specs.laws.Text.{number-short}
 use Rattle.report_lines.proofs.Intervals.{intervals-short}
 use borrow.Author.Needs.{needs}
 use Rattle.report_lines.proofs.lines.local_line.Statement.{statement}

@@ -1,6 +1,6 @@
 -- `order_line` meets its contract.
 use native.Mathlib.Omega.{arith}
-use Rattle.report_lines.proofs.Putting.{put-then}
+use Rattle.plank_core.specs.laws.Putting.{put-then}
 use Rattle.report_lines.proofs.Numbers.{blocks-short}
 use borrow.Author.Needs.{needs}
 use Rattle.report_lines.proofs.lines.order_line.Statement.{statement}

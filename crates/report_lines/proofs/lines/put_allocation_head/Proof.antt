@@ -3,9 +3,9 @@ use mathlib.Core.Path.{_≡_, refl, sym, _∙_}
 use native.Mathlib.Omega.{arith}
 use borrow.Author.Tests.{eq-eqb, ne-eqb}
 use Rattle.sir_data.specs.Pages.{wordAt}
-use Rattle.report_lines.specs.inner.Putting.{allocationHead}
-use Rattle.report_lines.proofs.Putting.{put-as, put-then}
-use Rattle.report_lines.proofs.Numbers.{number-short}
+use Rattle.report_lines.specs.inner.AnswerLines.{allocationHead}
+use Rattle.plank_core.specs.laws.Putting.{put-as, put-then}
+use Rattle.plank_core.specs.laws.Text.{number-short}
 use Rattle.report_lines.proofs.Intervals.{word-small}
 use borrow.Author.Needs.{needs}
 use Rattle.report_lines.proofs.lines.put_allocation_head.Statement.{statement}

@@ -1,7 +1,7 @@
 -- `rounds_line` meets its contract.
 use native.Mathlib.Omega.{arith}
-use Rattle.report_lines.proofs.Putting.{put-then}
-use Rattle.report_lines.proofs.Numbers.{number-short}
+use Rattle.plank_core.specs.laws.Putting.{put-then}
+use Rattle.plank_core.specs.laws.Text.{number-short}
 use borrow.Author.Needs.{needs}
 use Rattle.report_lines.proofs.lines.rounds_line.Statement.{statement}
 use Rattle.report_lines.proofs.lines.rounds_line.Tie as tie

@@ -1,10 +1,10 @@
 -- `allocation_text` meets its contract.
 use mathlib.Core.Path.{ap, _∙_}
 use lib.ListN.{length}
-use Rattle.report_lines.specs.inner.Putting.{allocationLine}
+use Rattle.report_lines.specs.inner.AnswerLines.{allocationLine}
 use Rattle.sir_analyses.specs.Answers.{allocationAnswer}
 use Rattle.sir_analyses.specs.laws.Writing.{length-bytes}
-use Rattle.report_lines.proofs.Putting.{put-as}
+use Rattle.plank_core.specs.laws.Putting.{put-as}
 use Rattle.report_lines.proofs.TooLong.{rpo-small}
 use Rattle.report_lines.proofs.AnswerText.{allocation-least, allocation-ends, allocation-as, allocation-ends-as}
 use borrow.Author.Needs.{needs}

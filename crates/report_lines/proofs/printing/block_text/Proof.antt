@@ -4,7 +4,7 @@ use native.Mathlib.Omega.{arith}
 use lib.ListN.{length}
 use lib.Seq.{length-take-le}
 use Rattle.report_lines.specs.Lines.{blockText}
-use Rattle.report_lines.proofs.Putting.{put-as}
+use Rattle.plank_core.specs.laws.Putting.{put-as}
 use Rattle.report_lines.proofs.TooLong.{front}
 use mathlib.Core.List.{List}
 use Prim.Native.Nat.{ℕ}

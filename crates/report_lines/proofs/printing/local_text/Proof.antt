@@ -8,8 +8,8 @@ use borrow.Author.Tests.{eq-eqb}
 use Rattle.sir_analyses.specs.Liveness.{intervals}
 use Rattle.sir_analyses.specs.Answers.{intervalsAnswer}
 use Rattle.report_lines.specs.Lines.{localText}
-use Rattle.report_lines.specs.inner.Putting.{localLine}
-use Rattle.report_lines.proofs.Putting.{put-as, put-nothing}
+use Rattle.report_lines.specs.inner.AnswerLines.{localLine}
+use Rattle.plank_core.specs.laws.Putting.{put-as, put-nothing}
 use Rattle.report_lines.proofs.TooLong.{short, stands, take-most, rpo-small}
 use Rattle.sir_analyses.specs.laws.Writing.{interval-count}
 use Rattle.report_lines.proofs.AnswerText.{local-ends, local-as, local-ends-as}

@@ -2,7 +2,7 @@
 use mathlib.Core.Path.{ap, _∙_}
 use lib.ListN.{length}
 use Rattle.report_lines.specs.Lines.{orderLine, orderText}
-use Rattle.report_lines.proofs.Putting.{put-as}
+use Rattle.plank_core.specs.laws.Putting.{put-as}
 use Rattle.report_lines.proofs.TooLong.{rpo-most}
 use borrow.Author.Needs.{needs}
 use native.Mathlib.Omega.{arith}

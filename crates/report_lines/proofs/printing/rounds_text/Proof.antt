@@ -1,7 +1,7 @@
 -- `rounds_text` meets its contract.
 use mathlib.Core.Path.{ap}
 use Rattle.report_lines.specs.Lines.{roundsLine, roundsText}
-use Rattle.report_lines.proofs.Putting.{put-as}
+use Rattle.plank_core.specs.laws.Putting.{put-as}
 use borrow.Author.Needs.{needs}
 use Rattle.report_lines.proofs.printing.rounds_text.Statement.{statement}
 use Rattle.report_lines.proofs.printing.rounds_text.Tie as tie

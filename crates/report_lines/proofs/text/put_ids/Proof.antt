@@ -6,10 +6,11 @@ use native.Mathlib.Omega.{arith}
 use lib.ListN.{length, getD, take, length-append}
 use lib.Seq.{take-all}
 use Rattle.plank_core.specs.Lists.{bind}
-use Rattle.report_lines.specs.Lines.{named, number}
-use Rattle.report_lines.specs.inner.Putting.{Put}
-use Rattle.report_lines.proofs.Putting.{put-as, put-nothing, put-id}
-use Rattle.report_lines.proofs.Numbers.{number-short}
+use Rattle.plank_core.specs.Text.{number}
+use Rattle.report_lines.specs.Lines.{named}
+use Rattle.plank_core.specs.inner.Putting.{Put}
+use Rattle.plank_core.specs.laws.Putting.{put-as, put-nothing, put-id}
+use Rattle.plank_core.specs.laws.Text.{number-short}
 use Rattle.report_lines.proofs.text.put_ids.Statement.{statement}
 use Rattle.report_lines.proofs.text.put_ids.Tie as tie
 

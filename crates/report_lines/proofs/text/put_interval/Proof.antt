@@ -1,7 +1,8 @@
 -- `put_interval` meets its contract.
 use native.Mathlib.Omega.{arith}
-use Rattle.report_lines.proofs.Putting.{put-then}
-use Rattle.report_lines.proofs.Numbers.{number-short, start-short}
+use Rattle.plank_core.specs.laws.Putting.{put-then}
+use Rattle.plank_core.specs.laws.Text.{number-short}
+use Rattle.report_lines.proofs.Numbers.{start-short}
 use borrow.Author.Needs.{needs}
 use Rattle.report_lines.proofs.text.put_interval.Statement.{statement}
 use Rattle.report_lines.proofs.text.put_interval.Tie as tie

@@ -1,8 +1,8 @@
 -- `put_interval_at` meets its contract.
 use mathlib.Core.Path.{refl}
 use native.Mathlib.Omega.{arith}
-use Rattle.report_lines.specs.inner.Putting.{intervalAt}
-use Rattle.report_lines.proofs.Putting.{put-as}
+use Rattle.report_lines.specs.inner.AnswerLines.{intervalAt}
+use Rattle.plank_core.specs.laws.Putting.{put-as}
 use borrow.Author.Needs.{needs}
 use Rattle.report_lines.proofs.text.put_interval_at.Statement.{statement}
 use Rattle.report_lines.proofs.text.put_interval_at.Tie as tie

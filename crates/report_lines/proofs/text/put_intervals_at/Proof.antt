@@ -2,8 +2,9 @@
 use mathlib.Core.Path.{_≡_, ap}
 use Prim.Native.Nat.{ℕ, _+_, _-_, _*_, _≤_}
 use native.Mathlib.Omega.{arith}
-use Rattle.report_lines.specs.inner.Putting.{Put, intervalAt}
-use Rattle.report_lines.proofs.Putting.{put-as, put-nothing, put-item}
+use Rattle.plank_core.specs.inner.Putting.{Put}
+use Rattle.report_lines.specs.inner.AnswerLines.{intervalAt}
+use Rattle.plank_core.specs.laws.Putting.{put-as, put-nothing, put-item}
 use Rattle.plank_core.specs.Lists.{bind, upto}
 use Rattle.report_lines.proofs.Intervals.{interval-at-short}
 use Rattle.report_lines.proofs.text.put_intervals_at.Statement.{statement}

@@ -1,6 +1,6 @@
 -- `put_named` meets its contract.
 use native.Mathlib.Omega.{arith}
-use Rattle.report_lines.proofs.Putting.{put-then}
+use Rattle.plank_core.specs.laws.Putting.{put-then}
 use borrow.Author.Needs.{needs}
 use Rattle.report_lines.proofs.text.put_named.Statement.{statement}
 use Rattle.report_lines.proofs.text.put_named.Tie as tie

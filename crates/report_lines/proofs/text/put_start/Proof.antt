@@ -1,7 +1,7 @@
 -- `put_start` meets its contract.
 use mathlib.Core.Path.{refl}
 use native.Mathlib.Omega.{arith}
-use Rattle.report_lines.proofs.Putting.{put-as}
+use Rattle.plank_core.specs.laws.Putting.{put-as}
 use borrow.Author.Tests.{eq-eqb, ne-eqb}
 use borrow.Author.Needs.{needs}
 use Rattle.report_lines.proofs.text.put_start.Statement.{statement}

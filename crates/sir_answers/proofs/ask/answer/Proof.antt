@@ -1,7 +1,6 @@
 -- `answer` meets its contract.
 use mathlib.Core.Path.{sym, _∙_}
-use Rattle.sir_analyses.specs.Calls.{inWords}
-use Rattle.sir_answers.specs.inner.Questions.{ownRules, answerWords}
+use Rattle.sir_answers.specs.inner.Questions.{ownRules, answerBytes}
 use Rattle.sir_analyses.proofs.answers.Calls.{call-refused, call-answered}
 use Rattle.sir_answers.proofs.questions.Asked.{own-as, answered-as}
 use borrow.Author.Needs.{needs}
@@ -23,7 +22,7 @@ returns c =
     let at-shared-slice-known = at-own-refusal .before .before .before .before .before in
     let start = at-shared-slice-known .before in
     let a = start .args in
-    call-refused (ownRules (a .question) (a .words .now)) (inWords (answerWords (a .question)) (a .words .now)) (a .out .now) (λ z. at-if1 .if1 .taken (at-own-refusal .own-refusal .ensures ∙ z)) (c .refuse .ensures .0 ∙ at-own-refusal .own-refusal .ensures) (c .refuse .ensures .1)
+    call-refused (ownRules (a .question) (a .words .now)) (answerBytes (a .question) (a .words .now)) (a .out .now) (λ z. at-if1 .if1 .taken (at-own-refusal .own-refusal .ensures ∙ z)) (c .refuse .ensures .0 ∙ at-own-refusal .own-refusal .ensures) (c .refuse .ensures .1)
 
 enum-known-question : tie.Need-enum-known-question
 enum-known-question c = search needs
@@ -59,6 +58,12 @@ pointer-answer-requires c κs =
     let start = at-shared-slice-known .before in
     (start .pre .1, (start .pre .2, own-as (λ q. q) (start .args .words .now) (at-question3 .question3 .given .1) (sym (at-own-refusal .own-refusal .ensures) ∙ (at-if1 .if1 .left))))
 
+enum-told : tie.Need-enum-told
+enum-told c = search needs
+
+chart-answer-requires : tie.Need-chart-answer-requires
+chart-answer-requires c κs = search needs
+
 same-length : tie.Need-same-length
 same-length c = search needs
 
@@ -71,7 +76,7 @@ returns-2 c =
     let at-shared-slice-known = at-own-refusal .before .before .before .before .before in
     let start = at-shared-slice-known .before in
     let a = start .args in
-    at-order-answer .order-answer .ensures ∙ answered-as (λ q. q) (a .words .now) (at-question .question .given .1) (a .out .now) ∙ call-answered (ownRules (a .question) (a .words .now)) (inWords (answerWords (a .question)) (a .words .now)) (a .out .now) (sym (at-own-refusal .own-refusal .ensures) ∙ at-if1 .if1 .left)
+    at-order-answer .order-answer .ensures ∙ answered-as (λ q. q) (a .words .now) (at-question .question .given .1) (a .out .now) ∙ call-answered (ownRules (a .question) (a .words .now)) (answerBytes (a .question) (a .words .now)) (a .out .now) (sym (at-own-refusal .own-refusal .ensures) ∙ at-if1 .if1 .left)
 
 same-length-2 : tie.Need-same-length-2
 same-length-2 c = search needs
@@ -85,7 +90,7 @@ returns-3 c =
     let at-shared-slice-known = at-own-refusal .before .before .before .before .before in
     let start = at-shared-slice-known .before in
     let a = start .args in
-    at-live-answer .live-answer .ensures ∙ answered-as (λ q. q) (a .words .now) (at-question2 .question2 .given .1) (a .out .now) ∙ call-answered (ownRules (a .question) (a .words .now)) (inWords (answerWords (a .question)) (a .words .now)) (a .out .now) (sym (at-own-refusal .own-refusal .ensures) ∙ at-if1 .if1 .left)
+    at-live-answer .live-answer .ensures ∙ answered-as (λ q. q) (a .words .now) (at-question2 .question2 .given .1) (a .out .now) ∙ call-answered (ownRules (a .question) (a .words .now)) (answerBytes (a .question) (a .words .now)) (a .out .now) (sym (at-own-refusal .own-refusal .ensures) ∙ at-if1 .if1 .left)
 
 same-length-3 : tie.Need-same-length-3
 same-length-3 c = search needs
@@ -99,7 +104,21 @@ returns-4 c =
     let at-shared-slice-known = at-own-refusal .before .before .before .before .before in
     let start = at-shared-slice-known .before in
     let a = start .args in
-    at-pointer-answer .pointer-answer .ensures ∙ answered-as (λ q. q) (a .words .now) (at-question3 .question3 .given .1) (a .out .now) ∙ call-answered (ownRules (a .question) (a .words .now)) (inWords (answerWords (a .question)) (a .words .now)) (a .out .now) (sym (at-own-refusal .own-refusal .ensures) ∙ at-if1 .if1 .left)
+    at-pointer-answer .pointer-answer .ensures ∙ answered-as (λ q. q) (a .words .now) (at-question3 .question3 .given .1) (a .out .now) ∙ call-answered (ownRules (a .question) (a .words .now)) (answerBytes (a .question) (a .words .now)) (a .out .now) (sym (at-own-refusal .own-refusal .ensures) ∙ at-if1 .if1 .left)
+
+same-length-4 : tie.Need-same-length-4
+same-length-4 c = search needs
+
+returns-5 : tie.Need-returns-5
+returns-5 c =
+    let at-chart-answer = c .before .before in
+    let at-enum-told = at-chart-answer .before .before in
+    let at-if1 = at-enum-told .before .before in
+    let at-own-refusal = at-if1 .before in
+    let at-shared-slice-known = at-own-refusal .before .before .before .before .before in
+    let start = at-shared-slice-known .before in
+    let a = start .args in
+    at-chart-answer .chart-answer .ensures ∙ answered-as (λ q. q) (a .words .now) (at-enum-told .enum-told .given .1) (a .out .now) ∙ call-answered (ownRules (a .question) (a .words .now)) (answerBytes (a .question) (a .words .now)) (a .out .now) (sym (at-own-refusal .own-refusal .ensures) ∙ at-if1 .if1 .left)
 
 pub answer-spec : {M : Type 1} → statement M
 answer-spec =
@@ -114,9 +133,13 @@ answer-spec =
     live-answer-requires
     enum-known-question-3
     pointer-answer-requires
+    enum-told
+    chart-answer-requires
     same-length
     returns-2
     same-length-2
     returns-3
     same-length-3
-    returns-4)
+    returns-4
+    same-length-4
+    returns-5)

@@ -7,8 +7,8 @@ use Rattle.plank_core.specs.Lists.{range}
 use Rattle.plank_core.specs.laws.Loops.{range-before, range-none}
 use Rattle.sir_data.specs.Records.{blockWord, ops}
 use Rattle.sir_analyses.proofs.claims.order.OrderProof.{blocks-seen}
-use Rattle.sir_answers.proofs.LiveSets.{live-none}
-use Rattle.sir_answers.proofs.crossing.FirstCommon.{ScanStart, CommonScan, scan-none, scan-more}
+use Rattle.sir_answers.proofs.LiveSets.{ScanStart, live-none}
+use Rattle.sir_answers.proofs.crossing.FirstCommon.{CommonScan, scan-none, scan-more}
 use Rattle.sir_answers.proofs.crossing.first_common.Statement.{statement}
 use Rattle.sir_answers.proofs.crossing.first_common.Tie as tie
 

@@ -126,6 +126,9 @@ cast-crossing-refusal c = search needs
 crossing-refusal-requires : tie.Need-crossing-refusal-requires
 crossing-refusal-requires c κs = search needs
 
+enum-told-10 : tie.Need-enum-told-10
+enum-told-10 c = search needs
+
 returns : tie.Need-returns
 returns c = search needs
 
@@ -231,6 +234,9 @@ returns-18 c =
     let w = start .args .words .now in
     (rw (ap length (start .pre .1 .0) ∙ sites-long w) at (c .crossing-refusal .ensures)) ∙ ap (λ (q : PointerQuestion). first (ownRules (Question.OfPointers q) w)) (sym (at-q9 .q9 .given .1)) ∙ ap (λ (q : Question). first (ownRules q w)) (sym (at-question3 .question3 .given .1))
 
+returns-19 : tie.Need-returns-19
+returns-19 c = search needs
+
 pub own-refusal-spec : {M : Type 1} → statement M
 own-refusal-spec =
     tie.close
@@ -273,6 +279,7 @@ own-refusal-spec =
     enum-known-q-9
     cast-crossing-refusal
     crossing-refusal-requires
+    enum-told-10
     returns
     returns-2
     returns-3
@@ -290,4 +297,5 @@ own-refusal-spec =
     returns-15
     returns-16
     returns-17
-    returns-18)
+    returns-18
+    returns-19)

@@ -2,9 +2,9 @@
 use Prim.Native.Nat.{_-_}
 use native.Mathlib.Omega.{arith}
 use lib.ListN.{length}
-use Rattle.report_lines.proofs.Putting.{Copied, copied-none, copied-more, copied-all}
-use Rattle.report_lines.proofs.text.put_text.Statement.{statement}
-use Rattle.report_lines.proofs.text.put_text.Tie as tie
+use Rattle.plank_core.specs.laws.Putting.{Copied, copied-none, copied-more, copied-all}
+use Rattle.plank_core.proofs.text.put_text.Statement.{statement}
+use Rattle.plank_core.proofs.text.put_text.Tie as tie
 
 abbrev Inv-loop : tie.InvT-loop
 Inv-loop line₀ at text k₀ line k = Copied text at k line₀ line

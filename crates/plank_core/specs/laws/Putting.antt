@@ -6,9 +6,9 @@ use native.Mathlib.Omega.{arith}
 use native.Mathlib.Numerals.{add-one}
 use lib.ListN.{length, getD, take, set, length-append, length-set}
 use lib.Seq.{take-suc, take-suc-set, take-all}
 use Rattle.plank_core.specs.Lists.{bind, upto}
 use Rattle.plank_core.specs.laws.Loops.{bind-snoc, upto-more}
-use Rattle.report_lines.specs.inner.Putting.{Put}
+use Rattle.plank_core.specs.inner.Putting.{Put}
 
 pub put-as : {xs ys : List ℕ} {at r : ℕ} {old new : List ℕ} → xs ≡ ys → Put xs at old new r → Put ys at old new r
 put-as e k = rw e at k
@@ -54,6 +54,20 @@ module _ (text : List ℕ) (at : ℕ) (old : List ℕ) where
         long = c .long;
         fits = omega (arith, c .some);
       }
+
+-- one byte
+pub put-one : (x at : ℕ) (old : List ℕ) → at < length old → Put (x ∷ []) at old (set old at x) (at + 1)
+put-one x at old h =
+    record {
+      next = refl;
+      list = ap (λ (i : ℕ). take i (set old at x)) (add-one at) ∙ take-suc-set old at x h;
+      long = length-set old at x;
+      fits = omega arith;
+    }
+
+-- a line that is put whole
+pub put-whole : {text old new : List ℕ} {r : ℕ} → Put text 0 old new r → length text ≡ length old → new ≡ text
+put-whole {text} {old} {new} {r} k e = sym (take-all r new (omega (arith, k .next, k .long))) ∙ k .list
 
 -- ---- item by item
 

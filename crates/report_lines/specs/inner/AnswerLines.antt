@@ -1,21 +1,13 @@
--- How texts stand in a line, and the lines of locals and allocations by the bytes of their answers. Used by inner contracts; no
--- promise of `report` speaks of it.
-use mathlib.Core.Path.{_≡_}
+-- The lines of locals and allocations by the bytes of their answers. Used by inner contracts; no promise of `report` speaks of it.
 use mathlib.Core.Bool.{cond}
 use mathlib.Core.List.{List, _++_}
-use Prim.Native.Nat.{ℕ, _+_, _-_, _*_, _/_, _≤_, _<_}
-use lib.ListN.{length, getD, take}
+use Prim.Native.Nat.{ℕ, _+_, _-_, _*_, _/_, _<_}
+use lib.ListN.{length, getD}
 use lib.Dec.{eqb}
 use Rattle.plank_core.specs.Lists.{bind, upto}
 use Rattle.sir_data.specs.Pages.{wordAt}
-use Rattle.report_lines.specs.Lines.{ascii, named, interval}
-
--- a text stands in a line after its first `at` bytes, up to r
-pub record Put (text : List ℕ) (at : ℕ) (old new : List ℕ) (r : ℕ) : Type 0 where
-  pub next : r ≡ at + length text
-  pub list : take r new ≡ take at old ++ text
-  pub long : length new ≡ length old
-  pub fits : r ≤ length old
+use Rattle.plank_core.specs.Text.{ascii}
+use Rattle.report_lines.specs.Lines.{named, interval}
 
 -- numbers that fit 32 bits
 abbrev pub Words : List ℕ → Type 0

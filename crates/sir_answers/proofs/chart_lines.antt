@@ -1,0 +1,3 @@
+-- What the proofs of the functions of `chart_lines` share.
+pub mod IndexDigits
+pub mod LineTexts
