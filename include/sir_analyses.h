@@ -1,14 +1,15 @@
-/* Questions about an image of the intermediate form: order, predecessors, uses, liveness, allocations, records; and the
- * pages of an image from its records.
+/* Questions about an image of the intermediate form: order, predecessors, uses, liveness, allocations, records, a chart of
+ * the lifetimes; and the pages of an image from its records.
  *
  * Each function but sir_write takes the image as a pointer and a length in bytes, the ids asked about where the question has
  * any, and a result slice as a pointer and a length in bytes. sir_write takes records where the others take an image, and no
  * ids. No function keeps a pointer.
  *
  * On success the number is 0, `length` counts the bytes of the answer, and the answer stands at the front of the result
- * slice as little-endian 32-bit words, that of sir_write as pages of such words; bytes past it stay as they were. A refusal
- * gives its number and length 0, and the result slice keeps its bytes. Of several refusals that apply the first in the
- * sequence of `enum sir_refusal` is given; sir_write alone has a sequence of its own, which stands where it is declared.
+ * slice as little-endian 32-bit words, that of sir_write as pages of such words, that of sir_chart as text; bytes past it stay
+ * as they were. A refusal gives its number and length 0, and the result slice keeps its bytes. Of several refusals that apply
+ * the first in the sequence of `enum sir_refusal` is given; sir_write alone has a sequence of its own, which stands where it is
+ * declared.
  *
  * The caller owes: memory of the stated length at each pointer, readable for the image or the records and writable for the
  * result, both for the time of the call; a result slice that does not overlap the image or the records; a null pointer only
@@ -39,7 +40,7 @@ extern "C" {
 #endif
 
 /* Goes up by one where a function, or what one of them takes or gives, is added or changed. */
-#define SIR_ANALYSES_VERSION 6
+#define SIR_ANALYSES_VERSION 7
 
 /* Why a call is refused, in the sequence in which the rules are asked of an image. */
 enum sir_refusal {
@@ -171,6 +172,29 @@ sir_answer sir_crossing(const uint8_t *image, size_t image_length, uint32_t one,
 /* The records of the image: its payload words, as many as its counts call for, without page numbers, checks and the zeros that
  * fill the last page. The answer is never longer than the image. */
 sir_answer sir_records(const uint8_t *image, size_t image_length, uint8_t *result, size_t result_length);
+
+/* The chart for the review sheet (from version 7 on): text in ASCII, lines of 72 characters and a line feed each, with nothing
+ * before, between or behind them.
+ *
+ * Allocations stand in series, 64 to each: 0 to 63, 64 to 127, and so on up to the last allocation. There is one series at
+ * least, also where there is no allocation, and at most eight. A series shows every visited block, in the sequence of the order:
+ *
+ *     a heading        "block", a space, the id of the block in decimal, and spaces up to column 72
+ *     operations       a line for each operation of the block's own range, by index:
+ *       columns 1-5      the index of the operation in decimal, to the right, with spaces before it
+ *       column 6         "|"
+ *       columns 7-70     for each allocation of the series "*" where it is marked; "#" where it is not, and the operation lies
+ *                        in one of its intervals of this block, as in sir_open; "." otherwise, and where there is no such
+ *                        allocation
+ *       column 71        "|"
+ *       column 72        "c" for codes 25 and 26, a space for all others
+ *
+ * Sheets have 60 lines. Lines of 72 spaces fill the last sheet of each series, where it is not full. So the length is 73 times
+ * the lines of a series, filling included, times the number of series: 4380 bytes at the least, and 86,408,640 are enough for
+ * any image. An operation in the ranges of several visited blocks has a line in each.
+ *
+ * There is no id, so 13 is not given. A slice that is too short is refused before liveness is run, so a try costs little. */
+sir_answer sir_chart(const uint8_t *image, size_t image_length, uint8_t *result, size_t result_length);
 
 /* The pages of lent records: an image that every other function accepts and whose sir_records are these records. Of the
  * records of an accepted image these are the pages that were read, byte for byte.

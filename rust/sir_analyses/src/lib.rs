@@ -8,7 +8,7 @@
 //! A question about one id has a form for all ids, as [`all_uses`] for [`uses`]: one call, which reads the image once and gives
 //! the answers for ids 0, 1, .. in turn. Questions about two ids, [`open`] and [`crossing`], have none.
 //!
-//! [`records`] takes an image apart, and [`write`](write()) puts one together.
+//! [`records`] takes an image apart, and [`write`](write()) puts one together. [`chart`] draws the lifetimes, as text.
 //!
 //! ```no_run
 //! use sir_analyses::BlockId;
@@ -174,6 +174,36 @@ pub fn records(image: &[u8]) -> Result<Vec<u32>, Refusal> {
     words(image, Question::Records)
 }
 
+/// The chart for the review sheet: lines of 72 characters, each ended by a line feed, on sheets of 60 lines.
+///
+/// Allocations stand in series of 64, as many as there are needed and at least one. A series shows all visited blocks, in the
+/// sequence of the order: a heading, `block` and the id, and a line for each operation of the block's own range, with the
+/// operation in columns 1 to 5, to the right, a column for each allocation of the series from column 7 on, bars in columns 6 and
+/// 71, and `c` in column 72 where it is a call. Blank lines fill its last sheet.
+///
+/// | mark | at an operation |
+/// |---|---|
+/// | `*` | the allocation is marked |
+/// | `#` | the operation lies in one of its intervals: the allocation is open there ([`open`]) |
+/// | `.` | neither; or there is no such allocation |
+///
+/// ```no_run
+/// # fn main() -> Result<(), Box<dyn std::error::Error>> {
+/// let chart = sir_analyses::chart(&std::fs::read("typical.img")?)?;
+/// for (number, sheet) in chart.as_bytes().chunks(60 * 73).enumerate() {
+///     std::fs::write(format!("sheet {number}"), sheet)?;
+/// }
+/// # Ok(())
+/// # }
+/// ```
+///
+/// A chart may have 86,408,640 bytes, and never has more.
+pub fn chart(image: &[u8]) -> Result<String, Refusal> {
+    // Three times four times as much is room for any chart.
+    let bytes = bytes(MOST_OF_A_CHART / 64, |result| calls::chart(image, result))?;
+    Ok(String::from_utf8(bytes).expect("a chart is text"))
+}
+
 /// The pages of records, which are payload words without padding: an image that is accepted and that has these records.
 ///
 /// Refused as an image with these records is, by the first that applies of [`Refusal::EDITION`] and the refusals after it up
@@ -226,6 +256,10 @@ fn all<T>(image: &[u8], question: Question, answer: impl Fn(&[u32]) -> T) -> Res
 
 /// The most bytes of an image, and so of its records.
 const MOST_BYTES: usize = 59_904;
+
+/// The most bytes of a chart: eight series of 256 blocks, one of which has 449 allocations and 575 other operations, and all
+/// others these 575. An allocation is in the range of one visited block alone.
+const MOST_OF_A_CHART: usize = 86_408_640;
 
 /// The words of an answer.
 fn words(image: &[u8], question: Question) -> Result<Vec<u32>, Refusal> {

@@ -5,8 +5,8 @@ use std::fmt::{self, Display, Formatter};
 use std::str::FromStr;
 
 /// Hands the table of the questions to a macro. A line is: number, name with ids and their types, name of the function that
-/// answers (in C after `sir_`). `of` names the question about one id whose answers for all ids are given. Numbers are those
-/// of recorded files, so that none changes.
+/// answers (in C after `sir_`). `of` names the question about one id whose answers for all ids are given; `as text` stands
+/// where the answer is text, and not words. Numbers are those of recorded files, so that none changes.
 #[macro_export]
 macro_rules! questions {
     ($then:ident) => {
@@ -51,6 +51,9 @@ macro_rules! questions {
             17 Crossing(one: AllocId, other: AllocId) = crossing;
             /// The records of the image: its payload words without padding.
             18 Records = records;
+            /// The chart for the review sheet: lines of 72 characters and a line feed, on sheets of 60 lines, with a column for
+            /// each allocation, 64 of them a series.
+            20 Chart = chart as text;
         }
     };
 }
@@ -58,7 +61,7 @@ macro_rules! questions {
 macro_rules! define {
     ($(
         $(#[$doc:meta])*
-        $number:literal $question:ident $(($($id:ident: $type:ident),+))? $(of $one:ident)? = $name:ident;
+        $number:literal $question:ident $(($($id:ident: $type:ident),+))? $(of $one:ident)? = $name:ident $(as $form:ident)?;
     )*) => {
         /// A question about an image, with the ids that it is about.
         #[derive(Clone, Copy, Debug, PartialEq, Eq, Hash)]
@@ -73,6 +76,7 @@ macro_rules! define {
                 name: stringify!($name),
                 ids: &[$($($type::KIND),+)?],
                 of: &[$(stringify!($one))?],
+                form: &[$(stringify!($form))?],
             }),*];
 
             /// The question of a number and ids, where there is such a question and it takes so many.
@@ -120,12 +124,19 @@ pub struct QuestionKind {
     pub ids: &'static [IdKind],
     /// The name of the question about one id that it puts for all ids, if it does.
     of: &'static [&'static str],
+    /// What its answer is, where that is not words.
+    form: &'static [&'static str],
 }
 
 impl QuestionKind {
     /// The question about one id whose answers for all ids this one gives, where it is such a question.
     pub fn single(&self) -> Option<&'static QuestionKind> {
         Question::KINDS.iter().find(|kind| self.of.contains(&kind.name))
+    }
+
+    /// Whether its answer is text: bytes that are no words.
+    pub fn is_text(&self) -> bool {
+        self.form == ["text"]
     }
 
     /// The question of this kind about these ids.
@@ -256,6 +267,13 @@ mod tests {
             assert!(all.iter().all(|all| all.ids.is_empty()));
             assert_eq!(kind.single().is_some(), kind.name.starts_with("all_"), "{}", kind.name);
         }
+    }
+
+    /// The chart alone is text.
+    #[test]
+    fn text() {
+        let text: Vec<&str> = Question::KINDS.iter().filter(|kind| kind.is_text()).map(|kind| kind.name).collect();
+        assert_eq!(text, ["chart"]);
     }
 
     /// The writer is told from every question, and is none.
