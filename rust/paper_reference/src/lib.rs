@@ -6,6 +6,7 @@
 //! a local; they are written out here from what the source does.
 
 mod allocations;
+mod chart;
 pub mod codes;
 mod flags;
 mod flow;
@@ -15,6 +16,7 @@ mod records;
 mod report;
 mod writing;
 
+pub use chart::{chart, chart_text};
 pub use flow::{BLOCK_END, Interval};
 pub use report::report;
 pub use writing::{call_write, write};
@@ -75,6 +77,10 @@ impl Reference {
     }
 
     /// The answer to a question, as words; or 13, or 15.
+    ///
+    /// # Panics
+    ///
+    /// Where the answer is text.
     pub fn answer(&self, question: Question) -> Result<Vec<u32>, u32> {
         self.answer_within(question, usize::MAX)
     }
@@ -86,6 +92,9 @@ impl Reference {
 
     /// The answer to a question as it stands in a result slice of this length; or 13, 15 or 14.
     pub fn bytes_within(&self, question: Question, room: usize) -> Result<Vec<u8>, u32> {
+        if question == Question::Chart {
+            return self.chart(room).map(String::into_bytes);
+        }
         Ok(self.answer_within(question, room / 4)?.into_iter().flat_map(u32::to_le_bytes).collect())
     }
 
@@ -119,6 +128,7 @@ impl Reference {
             Question::Open(block, operation) => self.open(block.0 as usize, operation.0 as usize),
             Question::Crossing(one, other) => open::crossing(&self.records, self.lifetime(one), self.lifetime(other)),
             Question::Records => self.records.words.clone(),
+            Question::Chart => panic!("{question} is text"),
         };
         if answer.len() > most { Err(14) } else { Ok(answer) }
     }

@@ -1,6 +1,6 @@
 //! `docs/FORMAT.md` says what the tables say: codes, limits, control kinds, refusals, questions and its examples.
 
-use paper_reference::{Reference, call_write, codes, report};
+use paper_reference::{Reference, call_write, chart, codes, report};
 use sir_image::pages::to_bytes;
 use sir_image::{
     Code, Control, Count, Image, MAX_BLOCKS, MAX_FUNCTIONS, MAX_LOCALS, MAX_OPERANDS, MAX_OPERATIONS, MAX_TARGETS,
@@ -175,6 +175,7 @@ fn questions() {
         assert_eq!(row[0], format!("sir_{}", kind.name));
         let about = row[1].split(", ").filter(|about| !about.is_empty()).map(sort);
         assert_eq!(about.collect::<Vec<_>>(), kind.ids, "{}", kind.name);
+        assert_eq!(row[2].contains("text"), kind.is_text(), "{}", kind.name);
         if let Some(single) = kind.single() {
             assert!(row[2].ends_with(&format!("of `sir_{}", single.name)), "{}", kind.name);
         }
@@ -230,4 +231,30 @@ fn example_flags() {
 #[test]
 fn example_report() {
     assert_eq!(fenced("report"), report(&sir_image::samples::report().pages()));
+}
+
+/// The front of each line, and how many lines fill the sheet.
+#[test]
+fn example_chart() {
+    let chart = chart(&sir_image::samples::report().pages()).unwrap();
+    let (shown, filling): (Vec<&str>, Vec<&str>) = chart.lines().partition(|line| !line.trim_end().is_empty());
+    let cut: String = shown.iter().map(|line| line[..12].trim_end().to_string() + "\n").collect();
+    assert_eq!(fenced("chart"), cut);
+    assert!(page().contains(&format!("{} lines of spaces fill the sheet", filling.len())));
+}
+
+/// The columns of the lines of a chart, in turn and without a gap, and the marks.
+#[test]
+fn chart_lines() {
+    let rows = table("| line | columns | what stands there |");
+    let columns = |line: &str| -> Vec<u32> {
+        let rows = rows.iter().filter(|row| row[0] == line);
+        rows.flat_map(|row| numbers(&row[1].replace(" to ", " "))).collect()
+    };
+    assert_eq!((columns("heading"), columns("operation")), (vec![1, 72], vec![1, 5, 6, 7, 70, 71, 72]));
+    let marks: BTreeSet<String> = table("| mark | where |").iter().map(|row| row[0].clone()).collect();
+    let chart = chart(&sir_image::samples::logs().pages()).unwrap();
+    let operations = chart.lines().filter(|line| line.contains('|'));
+    let used: BTreeSet<String> = operations.flat_map(|line| line[6..70].chars()).map(String::from).collect();
+    assert_eq!(marks, used);
 }
