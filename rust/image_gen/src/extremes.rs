@@ -149,3 +149,33 @@ pub fn renaming(size: Size, rng: &mut Rng) -> Image {
     image.function(0);
     image
 }
+
+/// The longest chart of a size: one allocation more than fills all series but the last, all made by block 0, and every block with
+/// all other operations. Of the allocations one third is read in every block, one third is marked, one third is never read. Each
+/// local is given once.
+pub fn charted(size: Size) -> Image {
+    const SERIES: u32 = 64;
+    let bases = 1 + SERIES * ((size.locals - 1) / SERIES);
+    let mut image = Image::new(size.locals);
+    for base in 0..bases {
+        image.operation_with(Code::StaticAllocZeroed, &[], &[base], [32, base]);
+    }
+    for index in bases..size.operations {
+        let base = index * 7 % bases;
+        match (index % 16, base % 3) {
+            (0, _) => _ = image.operation_with(Code::InternalCall, &[], &[], [0, 0]),
+            (8, _) => _ = image.operation_with(Code::InternalCallNever, &[], &[], [0, 0]),
+            (_, 0) => _ = image.operation(Code::SelfDestruct, &[base], &[]),
+            (_, 1) => _ = image.operation(Code::MemoryStore, &[0, base], &[]),
+            _ => _ = image.operation(Code::Noop, &[], &[]),
+        }
+    }
+    for block in 0..size.blocks {
+        let first = if block == 0 { 0 } else { bases };
+        let next = block + 1;
+        let control = if next < size.blocks { Control::ContinuesTo(next) } else { Control::LastOpTerminates };
+        image.block(&[], &[], Span::new(first, size.operations), control);
+    }
+    image.function(0);
+    image
+}

@@ -8,6 +8,7 @@
 //! ```
 
 mod causes;
+mod charts;
 mod crossings;
 mod damaged;
 pub mod extremes;
@@ -89,6 +90,10 @@ kinds! {
     FullPages
     /// Allocations that are marked for one cause or for several, with pointers that go through bases of others.
     Causes
+    /// Charts whose lines just fill their sheets, or are one more or one fewer, and whose allocations do so with a series.
+    Charts
+    /// The same with up to 512 allocations.
+    FullCharts
 }
 
 impl Kind {
@@ -110,6 +115,7 @@ impl Kind {
         Kind::Topics,
         Kind::FullPages,
         Kind::Causes,
+        Kind::Charts,
     ];
 
     /// Kinds of large images, on which plain code still ends.
@@ -122,6 +128,7 @@ impl Kind {
         Kind::SmallRings,
         Kind::SmallAllocating,
         Kind::SmallRenaming,
+        Kind::FullCharts,
     ];
 }
 
@@ -153,6 +160,8 @@ pub fn generate(kind: Kind, seed: u64) -> Image {
         Kind::Topics => lifetimes::image(&small::TOPICS, rng),
         Kind::FullPages => full_pages::image(rng),
         Kind::Causes => causes::image(rng),
+        Kind::Charts => charts::image(&charts::SMALL, rng),
+        Kind::FullCharts => charts::image(&charts::LARGE, rng),
     }
 }
 
@@ -169,5 +178,6 @@ pub fn worst(size: Size) -> Vec<(&'static str, Image)> {
         ("rings", rings::image(Rings::most(size))),
         ("rings, many edges from each", rings::image(Rings::wide(size))),
         ("rings, many edges to each", rings::image(Rings::fed(size))),
+        ("the longest chart", extremes::charted(size)),
     ]
 }

@@ -1,6 +1,6 @@
 //! Every generated image is accepted, but for shared bases.
 
-use image_gen::{Kind, Rng, Size, generate, known, lent, worst};
+use image_gen::{Kind, Rng, Size, extremes, generate, known, lent, worst};
 use paper_reference::{Interval, Reference};
 use sir_questions::{AllocId, BlockId, IdKind, Question, Refusal};
 
@@ -116,6 +116,82 @@ fn marks_and_flags_agree() {
             }
         }
     }
+}
+
+/// Which of these numbers came up, and how often.
+fn counts(found: &[usize], wanted: &[usize]) -> Vec<(usize, usize)> {
+    wanted.iter().map(|&number| (number, found.iter().filter(|&&other| other == number).count())).collect()
+}
+
+/// Sheets are just full, or have one line too many or too few; allocations are none, and on both sides of a series.
+#[test]
+fn charts_on_both_sides_of_sheets_and_series() {
+    for (kind, seeds, least, numbers) in [
+        (Kind::Charts, 2000, 10, [0, 1, 63, 64, 65].as_slice()),
+        (Kind::FullCharts, 150, 3, &[64, 65, 128, 129, 448, 449, 511, 512]),
+    ] {
+        let (mut lines, mut allocations) = (Vec::new(), Vec::new());
+        let mut marks = [0; 4];
+        let (mut shared, mut digits, mut functions) = (0, [0; 5], 0);
+        for seed in 0..seeds {
+            let image = generate(kind, seed);
+            let reference = Reference::new(&image.pages()).expect("an accepted image");
+            let chart = reference.chart(usize::MAX).unwrap();
+            lines.push(reference.chart_lines() % 60);
+            allocations.push(reference.count(IdKind::Allocation) as usize);
+            let mut indices = Vec::new();
+            for line in chart[..73 * reference.chart_lines()].lines().filter(|line| &line[5..6] == "|") {
+                indices.push(line[..5].trim().to_string());
+                let has = |mark: char| usize::from(line[6..].contains(mark));
+                [has('*'), has('#'), has('.'), has('c')].iter().zip(&mut marks).for_each(|(&has, count)| *count += has);
+            }
+            indices.iter().for_each(|index| digits[index.len()] += 1);
+            indices.sort_unstable();
+            shared += usize::from(indices.windows(2).any(|pair| pair[0] == pair[1]));
+            functions += usize::from(reference.count(IdKind::Function) > 1);
+        }
+        let lines = counts(&lines, &[59, 0, 1]);
+        let allocations = counts(&allocations, numbers);
+        assert!(lines.iter().chain(&allocations).all(|&(_, count)| count > least), "{lines:?} {allocations:?}");
+        assert!(marks.iter().all(|&count| count > 1000), "*, #, . and c: {marks:?}");
+        assert!(
+            shared > seeds as usize / 10 && functions > seeds as usize / 4,
+            "{shared} share, {functions} of several"
+        );
+        assert!(digits[1..].iter().all(|&count| count > 50), "{kind:?}: {digits:?}");
+    }
+}
+
+/// What is made for charts gives every local once: one operation output, or one block input.
+#[test]
+fn charts_give_each_local_once() {
+    let generated =
+        [Kind::Charts, Kind::FullCharts].into_iter().flat_map(|kind| (0..100).map(move |seed| generate(kind, seed)));
+    for image in generated.chain([extremes::charted(Size::FULL), extremes::charted(Size::MEDIUM)]) {
+        let outputs = image.operations.iter().map(|operation| operation.outputs);
+        let runs = outputs.chain(image.blocks.iter().map(|block| block.inputs));
+        let mut given: Vec<u32> =
+            runs.flat_map(|run| image.operands[run.start as usize..run.end as usize].to_vec()).collect();
+        let count = given.len();
+        given.sort_unstable();
+        given.dedup();
+        assert_eq!(given.len(), count);
+    }
+}
+
+/// The longest chart of a legal image: eight series of 2,466 sheets.
+#[test]
+fn the_longest_chart() {
+    let reference = Reference::new(&extremes::charted(Size::FULL).pages()).unwrap();
+    assert_eq!(reference.chart(usize::MAX).map(|chart| chart.len()), Ok(86_408_640));
+    assert_eq!(reference.chart(86_408_639), Err(Refusal::SHORT_RESULT.number()));
+    // Allocations are in one range each, so all other operations are at most in every block.
+    let length = |series: usize| {
+        let allocations = if series == 1 { 0 } else { 64 * (series - 1) + 1 };
+        let lines: usize = 256 + allocations + 256 * (1024 - allocations);
+        73 * series * lines.next_multiple_of(60)
+    };
+    assert_eq!((1..=8).map(length).max(), Some(86_408_640));
 }
 
 /// Words fill their pages, or are one more than that, on one page and on several.

@@ -2,8 +2,9 @@
 //! a result slice.
 //!
 //! Success gives number 0 and the answer's length in bytes; the answer stands at the front of the slice as little-endian
-//! 32-bit words, that of [`chart`] as text, and bytes past it stay. A refusal gives its number and length 0, and the result slice keeps its bytes. Of
-//! several refusals that apply the first in the sequence of [`Refusal::ALL`] is given; the writer has a sequence of its own.
+//! 32-bit words, that of [`chart`] as text, and bytes past it stay. A refusal gives its number and length 0, and the result
+//! slice keeps its bytes. Of several refusals that apply the first in the sequence of [`Refusal::ALL`] is given; the writer
+//! has a sequence of its own.
 //!
 //! The C functions are declared as in `include/sir_analyses.h`, each as the function here after `sir_`.
 #![cfg_attr(sir_linked, allow(unsafe_code))]
