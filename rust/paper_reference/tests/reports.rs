@@ -1,6 +1,6 @@
-//! The stored texts of the crates `report` and `reports` are those of a second reading of the paper.
+//! The stored texts of the crates `report`, `reports` and `chart` are those of a second reading of the papers.
 
-use paper_reference::report;
+use paper_reference::{chart_text, report};
 use std::fs;
 use std::path::{Path, PathBuf};
 
@@ -27,14 +27,24 @@ fn the_papers_text() {
     assert_eq!(fs::read_to_string(folder.join("stdout")).unwrap(), PAPER);
 }
 
-#[test]
-fn every_stored_report() {
-    let folder = crates().join("reports");
+/// What a crate has stored is the name of each of its images and then this text of it.
+fn assert_stored(name: &str, text: impl Fn(&[u8]) -> String) {
+    let folder = crates().join(name);
     let args = fs::read_to_string(folder.join("args")).unwrap();
     let mut expected = String::new();
     for name in args.lines() {
-        expected += &format!("{name}\n{}", report(&fs::read(folder.join("data").join(name)).unwrap()));
+        expected += &format!("{name}\n{}", text(&fs::read(folder.join("data").join(name)).unwrap()));
     }
     assert_eq!(fs::read_dir(folder.join("data")).unwrap().count(), args.lines().count());
-    assert!(fs::read_to_string(folder.join("stdout")).unwrap() == expected);
+    assert!(fs::read_to_string(folder.join("stdout")).unwrap() == expected, "{name}");
+}
+
+#[test]
+fn every_stored_report() {
+    assert_stored("reports", report);
+}
+
+#[test]
+fn every_stored_chart() {
+    assert_stored("chart", chart_text);
 }

@@ -215,6 +215,63 @@ pub fn bare_ends() -> Image {
     image
 }
 
+/// Function 0 calls 1; each has a loop. One pointer stays in the loop of function 0, one is stored, one is returned.
+pub fn several_functions() -> Image {
+    let mut image = Image::new(16);
+    image.operation_with(Code::StaticAllocZeroed, &[], &[0], [32, 0]);
+    image.operation_with(Code::StaticAllocAnyBytes, &[], &[1], [64, 1]);
+    image.operation(Code::SetSmallConst, &[], &[2]);
+    image.operation_with(Code::InternalCall, &[2], &[3], [1, 0]);
+    image.block(&[], &[0, 2], Span::new(0, 4), Control::ContinuesTo(1));
+    image.operation(Code::Add, &[4, 5], &[6]);
+    image.operation(Code::MemoryStore, &[6, 3], &[]);
+    image.operation(Code::MemoryStore, &[6, 1], &[]);
+    image.operation(Code::MemoryLoad, &[4], &[7]);
+    image.block(&[4, 5], &[6, 7], Span::new(4, 8), Control::Branches { condition: 7, non_zero: 1, zero: 2 });
+    image.operation(Code::Stop, &[], &[]);
+    image.block(&[8, 9], &[], Span::new(8, 9), Control::LastOpTerminates);
+    image.operation(Code::SetSmallConst, &[], &[10]);
+    image.operation(Code::DynamicAllocZeroed, &[10], &[11]);
+    image.block(&[], &[11], Span::new(9, 11), Control::ContinuesTo(4));
+    image.operation(Code::SetCopy, &[12], &[13]);
+    let branch = Control::Branches { condition: 10, non_zero: 4, zero: 5 };
+    image.block(&[12], &[13], Span::new(11, 12), branch);
+    image.block(&[14], &[14], Span::new(12, 12), Control::InternalReturn);
+    image.function(0);
+    image.function(3);
+    image.main = Some(1);
+    image
+}
+
+/// 65 allocations, one more than a series of the chart has. Block 0 makes them, with their numbers as bases, and reads through one
+/// third; block 1 reads through another third, lets some of the rest escape, and calls function 1 by both codes; block 2, all of
+/// function 1, has these two calls too.
+pub fn two_series() -> Image {
+    const COUNT: LocalId = 65;
+    let mut image = Image::new(COUNT);
+    for base in 0..COUNT {
+        image.operation_with(Code::StaticAllocZeroed, &[], &[base], [32, base]);
+    }
+    for base in (0..COUNT).step_by(3) {
+        image.operation(Code::SelfDestruct, &[base], &[]);
+    }
+    image.block(&[], &[], image.operations_from(0), Control::ContinuesTo(1));
+    let second = image.operations.len() as u32;
+    for base in (1..COUNT).step_by(3) {
+        image.operation(Code::SelfDestruct, &[base], &[]);
+    }
+    for base in (2..COUNT).step_by(6) {
+        image.operation(Code::MemoryStore, &[base, base], &[]);
+    }
+    let calls = image.operation_with(Code::InternalCall, &[], &[], [1, 0]);
+    image.operation_with(Code::InternalCallNever, &[], &[], [1, 0]);
+    image.block(&[], &[], image.operations_from(second), Control::LastOpTerminates);
+    image.block(&[], &[], image.operations_from(calls), Control::InternalReturn);
+    image.function(0);
+    image.function(2);
+    image
+}
+
 #[cfg(test)]
 mod tests {
     use super::*;
