@@ -161,7 +161,19 @@ fn compare_all(name: &str, images: impl Iterator<Item = (String, Image)>, compar
         compare(&image, &mut tally).map_err(|_| (1, explain(&name, &image, compare)))?;
     }
     let Tally {
-        images, refused, left_out, answers, words, merged, most_rounds, logs, open, crossings, writing, ..
+        images,
+        refused,
+        left_out,
+        answers,
+        words,
+        merged,
+        most_rounds,
+        logs,
+        open,
+        crossings,
+        charts,
+        writing,
+        ..
     } = tally;
     let [all, marked] = tally.allocations;
     if images + left_out > 0 {
@@ -169,9 +181,12 @@ fn compare_all(name: &str, images: impl Iterator<Item = (String, Image)>, compar
         if left_out > 0 {
             println!("  {left_out} left out: a topic is a pointer");
         }
-        println!("  {answers} answers of {words} words are equal");
+        println!("  {answers} answers are equal, those in words of {words} words");
         println!("  {all} allocations, {marked} marked, {merged} merged intervals; at most {most_rounds} rounds");
         println!("  {}\n  {logs}\n  {open}\n  {crossings}", tally.flags);
+        if charts.charts > 0 {
+            println!("  {charts}");
+        }
         if writing.accepted > 0 {
             println!("  {writing}");
         }

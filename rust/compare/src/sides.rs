@@ -79,13 +79,13 @@ fn with_source(
     tally.logs.note(&paper);
     tally.flags.note(&paper);
     agree("number of allocations", paper.count(IdKind::Allocation), name, plank.count(IdKind::Allocation))?;
-    for question in all_questions(&paper) {
-        let said = paper.answer(question);
+    for question in all_questions(&paper).filter(|question| !question.kind().is_text()) {
+        let said = paper.bytes(question);
         tally.note(&paper, question, said.as_deref().map_err(|&number| number));
         if let Some(other) = plank.answer(question) {
-            let answer = without_flags(question, said.expect("the ids are below their counts"));
-            tally.compared(&answer);
-            agree(question, answer, name, other)?;
+            let answer = said.expect("the ids are below their counts");
+            tally.compared(question, &answer);
+            agree(question, without_flags(question, words_of(&answer)), name, other)?;
         }
     }
     Ok(())
@@ -173,8 +173,9 @@ pub fn with_library_sparsely(image: &Image, tally: &mut Tally) -> Result<(), Dis
     Ok(())
 }
 
-/// The longest result slice, in bytes. On the slowest images an answer can be longer than any memory.
-const LONGEST: usize = 1 << 26;
+/// The longest result slice, in bytes: as much as the longest chart takes. On the slowest images other answers can be longer than
+/// any memory.
+const LONGEST: usize = 86_408_640;
 
 fn same_answer(paper: &Reference, image: &[u8], question: Question, tally: &mut Tally) -> Result<(), Disagreement> {
     let answer = match paper.bytes_within(question, LONGEST) {
@@ -187,9 +188,8 @@ fn same_answer(paper: &Reference, image: &[u8], question: Question, tally: &mut 
             return same_refusal(tally.open.not_held as usize, image, question, number);
         }
     };
-    let words = words_of(&answer);
-    tally.note(paper, question, Ok(&words));
-    tally.compared(&words);
+    tally.note(paper, question, Ok(&answer));
+    tally.compared(question, &answer);
     // Some bytes more than the answer needs, or none.
     let spare = [0, 1, 7, 64][tally.answers as usize % 4];
     let mut result = filled(answer.len() + spare);
@@ -198,7 +198,11 @@ fn same_answer(paper: &Reference, image: &[u8], question: Question, tally: &mut 
     let given = calls::ask(question, image, &mut result);
     agree(question, Answer { number: 0, length: answer.len() as u64 }, LIBRARY, given)?;
     if result != expected {
-        agree(question, words_of(&expected), LIBRARY, words_of(&result))?;
+        if question.kind().is_text() {
+            agree(question, Text(&expected), LIBRARY, Text(&result))?;
+        } else {
+            agree(question, words_of(&expected), LIBRARY, words_of(&result))?;
+        }
         agree(format_args!("{question}, bytes"), expected, LIBRARY, result)?;
     }
     if let Some(most) = answer.len().checked_sub(1) {
@@ -208,7 +212,19 @@ fn same_answer(paper: &Reference, image: &[u8], question: Question, tally: &mut 
     Ok(())
 }
 
-pub(crate) fn words_of(bytes: &[u8]) -> Vec<u32> {
+/// Text, of which the lines are shown that are no filling; what is no text stands as it can.
+#[derive(PartialEq)]
+struct Text<'a>(&'a [u8]);
+
+impl Debug for Text<'_> {
+    fn fmt(&self, f: &mut Formatter<'_>) -> fmt::Result {
+        let text = String::from_utf8_lossy(self.0);
+        text.lines().filter(|line| !line.trim().is_empty()).try_for_each(|line| write!(f, "\n{line:?}"))
+    }
+}
+
+/// The words of an answer.
+pub fn words_of(bytes: &[u8]) -> Vec<u32> {
     bytes.as_chunks().0.iter().map(|&word| u32::from_le_bytes(word)).collect()
 }
 

@@ -1,12 +1,12 @@
-//! The files that are stored: the altered Plank's answers; those that Plank does not have, the flags of allocations, what is
-//! written of lent records, and the refusals are the reference's.
+//! The files that are stored: the altered Plank's answers; those that Plank does not have, the flags of allocations, charts, what
+//! is written of lent records, and the refusals are the reference's.
 
 use compare::recording::{Called, Recorded, Recording};
-use compare::sides::{questions, unknown};
+use compare::sides::{questions, unknown, words_of};
 use image_gen::{Kind, Rng, Size, damaged, generate, known, lent, worst};
 use paper_reference::Reference;
 use plank_oracle::{Analyses, Program, Source, without_flags};
-use sir_image::pages::{PAGE_BYTES, to_bytes};
+use sir_image::pages::PAGE_BYTES;
 use sir_image::{Code, Image, samples};
 use sir_questions::{IdKind, Question, QuestionKind, Refusal};
 use std::collections::BTreeMap;
@@ -31,25 +31,40 @@ const PAIRS: u32 = 48;
 const LONGEST: usize = 12_000;
 /// The same for records, which would double the size of every image's file.
 const LONGEST_RECORDS: usize = 4_000;
+/// The same for charts.
+const LONGEST_CHART: usize = 30_000;
 /// Of how many small images of each kind the questions for all ids are recorded; of large ones the first of each kind.
 const SMALL_FOR_ALL: u64 = 4;
-/// The result slice for an answer to such a question that is longer.
+/// Of how many small images of each kind the chart is recorded; of all that are made for charts, and of large ones the first.
+const SMALL_CHARTS: u64 = 1;
+/// The result slice for an answer for all ids, or a chart, that is longer.
 const TOO_SHORT: usize = 16;
 /// Lent records that are longer than [`LONGEST`] and are recorded: the most that are accepted, and more than any pages hold.
 const LONG_RECORDS: [&str; 3] = ["most_words", "118_pages", "118_pages_edition_2"];
 
-/// Which questions a file has: those about ids or none, or those for all ids.
+/// Which questions a file has.
 #[derive(Clone, Copy, PartialEq)]
 enum Asked {
     /// About all ids, or some of them, about pairs of ids, and about none.
     Ids,
     /// For all ids in one answer.
     All,
+    /// For the chart.
+    Chart,
 }
 
 impl Asked {
+    /// Whether files of this sort have a question.
+    fn has(self, kind: &QuestionKind) -> bool {
+        self == match kind.single() {
+            Some(_) => Asked::All,
+            None if kind.is_text() => Asked::Chart,
+            None => Asked::Ids,
+        }
+    }
+
     fn kinds(self) -> impl Iterator<Item = &'static QuestionKind> {
-        Question::KINDS.iter().filter(move |kind| kind.single().is_some() == (self == Asked::All))
+        Question::KINDS.iter().filter(move |kind| self.has(kind))
     }
 
     /// The name of the file about an image.
@@ -57,7 +72,17 @@ impl Asked {
         match self {
             Asked::Ids => image.to_string(),
             Asked::All => format!("all_{image}"),
+            Asked::Chart => format!("chart_{image}"),
         }
+    }
+}
+
+/// The most bytes of an answer that is recorded.
+fn most_bytes(question: Question) -> usize {
+    match question {
+        Question::Records => LONGEST_RECORDS,
+        Question::Chart => LONGEST_CHART,
+        _ => LONGEST,
     }
 }
 
@@ -67,8 +92,8 @@ struct Sample {
     image: Image,
     /// Whether it is asked about all ids, or about some.
     small: bool,
-    /// Whether the questions for all ids are recorded.
-    for_all: bool,
+    /// What is recorded.
+    asked: Vec<Asked>,
 }
 
 /// A damaged image, and the number that refuses it.
@@ -76,8 +101,13 @@ struct Damaged {
     name: String,
     image: Vec<u8>,
     number: u32,
-    /// Whether the questions for all ids are recorded.
-    for_all: bool,
+    /// What is recorded.
+    asked: Vec<Asked>,
+}
+
+/// What is recorded: some sorts of files, where it is so.
+fn asked(sorts: [(Asked, bool); 3]) -> Vec<Asked> {
+    sorts.into_iter().filter(|&(_, is_recorded)| is_recorded).map(|(asked, _)| asked).collect()
 }
 
 /// Every question about an image that Plank takes: all ids or some, one id too many, and one slice that is one byte too
@@ -105,9 +135,9 @@ fn of_image(sample: &Sample, asked: Asked) -> Recording {
                 }
             };
             let length = answer.len();
-            if length > if question == Question::Records { LONGEST_RECORDS } else { LONGEST } {
+            if length > most_bytes(question) {
                 let short = Recorded::refusal(question, Refusal::SHORT_RESULT.number(), TOO_SHORT);
-                calls.extend((asked == Asked::All).then_some(short));
+                calls.extend((asked != Asked::Ids).then_some(short));
                 continue;
             }
             calls.push(Recorded::answer(question, answer, [0, 1, 7][calls.len() % 3]));
@@ -126,11 +156,11 @@ fn of_image(sample: &Sample, asked: Asked) -> Recording {
 /// Plank's answer, with the reference's flags in records of allocations, or what the reference gives where Plank has none: an
 /// answer, or the number of a refusal.
 fn agreed(paper: &Reference, plank: &Analyses, question: Question) -> Result<Vec<u8>, u32> {
-    let stated = paper.answer(question)?;
+    let stated = paper.bytes(question)?;
     if let Some(words) = plank.answer(question) {
-        assert_eq!(words, without_flags(question, stated.clone()), "{question}");
+        assert_eq!(words, without_flags(question, words_of(&stated)), "{question}");
     }
-    Ok(to_bytes(&stated))
+    Ok(stated)
 }
 
 /// Every question about an image that some rule refuses.
@@ -140,17 +170,20 @@ fn refused(name: &str, image: &[u8], number: u32, asked: Asked) -> Recording {
     Recording { name: asked.file(name), lent: image.to_vec(), calls }
 }
 
-/// Images that Plank takes: by kinds, the worst, two that have a case each of crossings, two that tell what marks, and two with a
-/// pointer at every input position of some codes or of all.
+/// Images that Plank takes: by kinds, the worst, two that have a case each of crossings, two that tell what marks, two with a
+/// pointer at every input position of some codes or of all, and two for the chart alone.
 fn taken() -> Vec<Sample> {
     let mut all = Vec::new();
-    for (group, count, for_all) in [(Kind::SMALL, SMALL, SMALL_FOR_ALL), (Kind::LARGE, LARGE, 1)] {
+    for (group, count, for_all, charts) in
+        [(Kind::SMALL, SMALL, SMALL_FOR_ALL, SMALL_CHARTS), (Kind::LARGE, LARGE, 1, 1)]
+    {
         for &kind in group {
+            let chart = |index| index < charts || kind == Kind::Charts;
             all.extend((0..count).map(|index| Sample {
                 name: format!("{kind:?}_{index}").to_lowercase(),
                 image: generate(kind, SEED + index),
                 small: group == Kind::SMALL,
-                for_all: index < for_all,
+                asked: asked([(Asked::Ids, true), (Asked::All, index < for_all), (Asked::Chart, chart(index))]),
             }));
         }
     }
@@ -159,7 +192,7 @@ fn taken() -> Vec<Sample> {
         name: format!("worst_{index}"),
         image,
         small: false,
-        for_all: true,
+        asked: vec![Asked::Ids, Asked::All, Asked::Chart],
     }));
     let named = [
         ("touching", samples::touching()),
@@ -168,9 +201,22 @@ fn taken() -> Vec<Sample> {
         ("through_a_base", samples::through_a_base()),
         ("every_flag", samples::every_flag()),
     ];
-    all.extend(named.map(|(name, image)| Sample { name: name.to_string(), image, small: true, for_all: false }));
+    all.extend(named.map(|(name, image)| Sample {
+        name: name.to_string(),
+        image,
+        small: true,
+        asked: vec![Asked::Ids, Asked::Chart],
+    }));
     let every_code = samples::input_positions(&Code::ALL);
-    all.push(Sample { name: "input_positions".to_string(), image: every_code, small: false, for_all: true });
+    let asked = vec![Asked::Ids, Asked::All];
+    all.push(Sample { name: "input_positions".to_string(), image: every_code, small: false, asked });
+    let charted = [("several_functions", samples::several_functions()), ("two_series", samples::two_series())];
+    all.extend(charted.map(|(name, image)| Sample {
+        name: name.to_string(),
+        image,
+        small: false,
+        asked: vec![Asked::Chart],
+    }));
     all
 }
 
@@ -186,7 +232,9 @@ fn damaged_images() -> Vec<Damaged> {
         let all = found.entry(number).or_default();
         let index = all.len();
         if number > 0 && index < DAMAGED {
-            all.push(Damaged { name: format!("damaged_{number:02}_{index}"), image, number, for_all: index == 0 });
+            let first = index == 0;
+            let asked = asked([(Asked::Ids, true), (Asked::All, first), (Asked::Chart, first)]);
+            all.push(Damaged { name: format!("damaged_{number:02}_{index}"), image, number, asked });
         }
     }
     found.into_values().flatten().collect()
@@ -224,12 +272,12 @@ fn writing(name: String, lent: Vec<u8>) -> Recording {
 fn recordings() -> Vec<Recording> {
     let (samples, damaged) = (taken(), damaged_images());
     let of = |asked: Asked| {
-        let samples = samples.iter().filter(move |sample| asked == Asked::Ids || sample.for_all);
-        let damaged = damaged.iter().filter(move |image| asked == Asked::Ids || image.for_all);
+        let samples = samples.iter().filter(move |sample| sample.asked.contains(&asked));
+        let damaged = damaged.iter().filter(move |image| image.asked.contains(&asked));
         let samples = samples.map(move |sample| of_image(sample, asked));
         samples.chain(damaged.map(move |image| refused(&image.name, &image.image, image.number, asked)))
     };
-    of(Asked::Ids).chain(of(Asked::All)).chain(lent_records()).collect()
+    of(Asked::Ids).chain(of(Asked::All)).chain(of(Asked::Chart)).chain(lent_records()).collect()
 }
 
 /// The files of `crates/replay` that are written, by their names there.
@@ -277,9 +325,9 @@ fn readme(files: usize, size: usize, by_number: &BTreeMap<u32, usize>) -> String
         "Recorded answers, written by `cargo run --release -p compare --bin record` in the folder rust.\n\
          \n\
          Answers are those of Plank's own analyses, its arms for Log1 to Log4 altered so that topics escape (request R-2);\n\
-         the rounds, the flags of allocations, the open ones, the crossings and the records, which Plank does not report, what\n\
-         is written of lent records, and the refusals are those of rust/paper_reference. The proved library had no part in\n\
-         writing them.\n\
+         the rounds, the flags of allocations, the open ones, the crossings, the records and the charts, which Plank does not\n\
+         report, what is written of lent records, and the refusals are those of rust/paper_reference. The proved library had\n\
+         no part in writing them.\n\
          src/main.rt states the form of a file.\n\
          \n\
          {files} files, {size} bytes. Seeds from {SEED} on: {SMALL} small images of each of {} kinds, all ids; {LARGE} large\n\
@@ -292,6 +340,10 @@ fn readme(files: usize, size: usize, by_number: &BTreeMap<u32, usize>) -> String
          \n\
          Files all_* have the questions for all ids: of {SMALL_FOR_ALL} small images of each kind, of one large one, of the worst, of\n\
          input_positions, and of one damaged image of each number; where an answer is longer, with a slice of {TOO_SHORT} bytes (14).\n\
+         \n\
+         Files chart_* have the chart: of {SMALL_CHARTS} small image of each kind, of all that are made for charts, of one large\n\
+         one, of the worst, of touching, bare_ends, logs, through_a_base, every_flag, several_functions and two_series, and of one\n\
+         damaged image of each number; a chart above {LONGEST_CHART} bytes with a slice of {TOO_SHORT} bytes (14).\n\
          \n\
          Files write_* hold lent records in the place of an image, and calls of the writer: records that are known by name in\n\
          rust/image_gen/src/lent.rs, and write_refused_* some that were made from generated images, one of each number.\n\
