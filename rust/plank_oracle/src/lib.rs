@@ -89,7 +89,7 @@ fn shorter(record: &[u32]) -> Vec<u32> {
 
 impl Analyses<'_> {
     /// Plank's answer to a question, where it has one: it reports no rounds, neither what is open at an operation nor what
-    /// crosses, and has no image whose records it could give. Its record of an allocation has no flags
+    /// crosses, draws no chart, and has no image whose records it could give. Its record of an allocation has no flags
     /// ([`without_flags`]).
     pub fn answer(&self, question: Question) -> Option<Vec<u32>> {
         if let Some(single) = question.kind().single() {

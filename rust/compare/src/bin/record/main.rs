@@ -6,9 +6,9 @@
 //! ```
 //!
 //! The first replaces what is in `crates/replay/data`, with `args` and `stdout`; `data/README` says how the files are made.
-//! The answers are Plank's, its arms for `Log1` to `Log4` altered so that topics escape; the rounds, the flags of allocations, the
-//! open ones, the crossings, the records and the charts, which Plank does not report, what is written of lent records, and all
-//! refusals are the paper's reference's. The library has no part in this.
+//! The answers are Plank's, its arms for `Log1` to `Log4` altered so that topics escape; the rounds, the flags of allocations,
+//! the open ones, the crossings, the records and the charts, which Plank does not report, what is written of lent records, and
+//! all refusals are the paper's reference's. The library has no part in this.
 //!
 //! The second writes one file, with the reference's answers to the questions about one image, and prints them. A question
 //! is its name, after a colon its ids separated by commas, and after a slash the length of the result slice where it is not

@@ -341,9 +341,10 @@ fn readme(files: usize, size: usize, by_number: &BTreeMap<u32, usize>) -> String
          Files all_* have the questions for all ids: of {SMALL_FOR_ALL} small images of each kind, of one large one, of the worst, of\n\
          input_positions, and of one damaged image of each number; where an answer is longer, with a slice of {TOO_SHORT} bytes (14).\n\
          \n\
-         Files chart_* have the chart: of {SMALL_CHARTS} small image of each kind, of all that are made for charts, of one large\n\
-         one, of the worst, of touching, bare_ends, logs, through_a_base, every_flag, several_functions and two_series, and of one\n\
-         damaged image of each number; a chart above {LONGEST_CHART} bytes with a slice of {TOO_SHORT} bytes (14).\n\
+         Files chart_* have the chart: of {SMALL_CHARTS} small image of each kind, of all that are made for charts, of one\n\
+         large one, of the worst, of touching, bare_ends, logs, through_a_base, every_flag, several_functions and\n\
+         two_series, and of one damaged image of each number; a chart above {LONGEST_CHART} bytes with a slice of\n\
+         {TOO_SHORT} bytes (14).\n\
          \n\
          Files write_* hold lent records in the place of an image, and calls of the writer: records that are known by name in\n\
          rust/image_gen/src/lent.rs, and write_refused_* some that were made from generated images, one of each number.\n\
