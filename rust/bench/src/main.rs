@@ -1,24 +1,26 @@
 //! Times the linked library against Plank's own analyses, or against an older library, in one run. From the folder `rust`:
 //!
 //! ```text
-//! cargo run --release -p bench -- [typical] [full] [medium] [worst] [stack] [growth] [slowest]
+//! cargo run --release -p bench -- [typical] [full] [medium] [worst] [stack] [growth] [charts] [slowest]
 //! cargo run --release -p bench -- --old ARCHIVE [typical] [full] [medium] [worst]
 //! ```
 //!
 //! Without words all groups but `slowest` are taken: typical images of 20 to 60 blocks, full-size images, the worst images
-//! of a medium size that Plank can take too, and the worst legal images; then the stack that a call takes, and how some
-//! questions grow with the image. `slowest` are legal images on which one run of Plank takes from seconds to a minute.
+//! of a medium size that Plank can take too, and the worst legal images; then the stack that a call takes, how some questions
+//! grow with the image, and charts beside a plain fill of as many bytes. `slowest` are legal images on which one run of Plank
+//! takes from seconds to a minute.
 //!
 //! The library reads and checks the image anew for every question; Plank begins with a program that is in memory. A
 //! question is timed by itself, as the mean over some ids of each image, or some pairs of them; for Plank this is the time of
 //! the analyses that it needs and of its answer. Two lines are about all answers, for Plank both one run of all analyses and
 //! all answers from it: "every question about every id" is for the library the sum of the single times, "order, rounds and
 //! the seven together" the time of the order, the rounds and the seven for all ids, one call each; questions about two
-//! ids and the records are in neither. The writer is timed with the records of each image. Plank reports no rounds, no open
-//! allocations, no crossings and no records, and writes no image, so these have no ratio; its arms for `Log1` to `Log4` are
-//! altered so that topics escape, and both give the same answers, Plank without the flags of allocations. Result slices are
-//! lent once, of 64 MiB, and not cleared between calls: where the answer is longer, the time is that of the refusal. A side
-//! that was missing when this was built is left out, with a message.
+//! ids, the records and the chart are in neither. The writer is timed with the records of each image. Plank reports no rounds,
+//! no open allocations, no crossings and no records, draws no chart and writes no image, so these have no ratio; its arms for
+//! `Log1` to `Log4` are altered so that topics escape, and both give the same answers, Plank without the flags of allocations.
+//! Result slices are lent once, of 64 MiB, and not cleared between calls: where the answer is longer, the time is that of the
+//! refusal; `charts` alone lends as much as the longest chart takes. A side that was missing when this was built is left out,
+//! with a message.
 //!
 //! With `--old` the other side is the library of an archive, such as a `libsir_capi.a` of an earlier state of the
 //! repository; without further words typical images are taken. The C compiler makes a shared object of each of the two
@@ -26,6 +28,7 @@
 //! that one of them does not have are named and left out. A question that takes other ids than in the old library must not
 //! be compared so.
 
+mod charts;
 mod old;
 mod stack;
 mod timing;
@@ -41,7 +44,7 @@ use std::process::ExitCode;
 use std::time::Duration;
 use timing::{EVERY, Group, RESULT_BYTES, TOGETHER, Timed, best, head, is_in_every, mean, once, row, together};
 
-const GROUPS: [&str; 7] = ["typical", "full", "medium", "worst", "stack", "growth", "slowest"];
+const GROUPS: [&str; 8] = ["typical", "full", "medium", "worst", "stack", "growth", "charts", "slowest"];
 
 fn main() -> ExitCode {
     let words: Vec<String> = std::env::args().skip(1).collect();
@@ -85,11 +88,12 @@ fn against_plank(words: &[String]) -> Result<(), String> {
     if !plank_oracle::PRESENT {
         println!("Plank's files were missing when this was built (set PLANK_SRC): it is left out");
     }
-    let names = if asked.is_empty() { GROUPS[..6].to_vec() } else { asked };
+    let names = if asked.is_empty() { GROUPS[..7].to_vec() } else { asked };
     for name in names {
         match name {
             "stack" if sir_analyses::LINKED => stack::table(),
             "growth" if sir_analyses::LINKED => growth(),
+            "charts" if sir_analyses::LINKED => charts::table(),
             "slowest" => slowest(),
             _ => groups(name).iter().for_each(table),
         }
@@ -278,7 +282,7 @@ mod tests {
                 for kind in Question::KINDS.iter().filter(|kind| kind.single().is_none()) {
                     let sample = timed.sample(kind);
                     assert_eq!(sample.is_empty(), timed.count(kind) == 0, "{}", kind.name);
-                    assert!(sample.iter().all(|&question| reference.answer(question).is_ok()), "{}", kind.name);
+                    assert!(sample.iter().all(|&question| reference.bytes(question).is_ok()), "{}", kind.name);
                 }
             }
         }

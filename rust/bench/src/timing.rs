@@ -102,9 +102,9 @@ pub fn together() -> impl Iterator<Item = &'static QuestionKind> {
     Question::KINDS.iter().filter(|kind| kind.ids.is_empty() && is_of_analyses(kind))
 }
 
-/// Whether some analysis answers: not so the records, which are the image itself.
+/// Whether some analysis answers: not so the records, which are the image itself; and the chart shows what other answers say.
 fn is_of_analyses(kind: &QuestionKind) -> bool {
-    kind.number != Question::Records.number()
+    kind.number != Question::Records.number() && !kind.is_text()
 }
 
 /// The line of every question about every id, each by a call of its own.
@@ -123,11 +123,7 @@ pub fn row(name: &str, images: u32, one: Option<Duration>, other: Option<Duratio
     if images == 0 {
         return;
     }
-    let show = |time: Option<Duration>| match time.map(|time| (time / images).as_secs_f64() * 1e6) {
-        Some(micros) if micros < 10_000.0 => format!("{micros:.1} µs"),
-        Some(micros) => format!("{:.1} ms", micros / 1e3),
-        None => "-".to_string(),
-    };
+    let show = |time: Option<Duration>| time.map_or("-".to_string(), |time| shown(time / images));
     let ratio = match (one, other) {
         (Some(one), Some(other)) => match one.as_secs_f64() / other.as_secs_f64() {
             ratio if ratio < 0.1 => format!("{ratio:.4}"),
@@ -136,6 +132,14 @@ pub fn row(name: &str, images: u32, one: Option<Duration>, other: Option<Duratio
         _ => "-".to_string(),
     };
     println!("{name:36} {:>14} {:>14} {ratio:>16}", show(one), show(other));
+}
+
+/// A time as a row shows it.
+pub fn shown(time: Duration) -> String {
+    match time.as_secs_f64() * 1e6 {
+        micros if micros < 10_000.0 => format!("{micros:.1} µs"),
+        micros => format!("{:.1} ms", micros / 1e3),
+    }
 }
 
 /// The mean of some times, where all were taken.
