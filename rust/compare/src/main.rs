@@ -16,9 +16,9 @@
 //! Images of every kind are taken in turn, each with a seed of its own. Where files are named, these images are taken and
 //! none are generated. With Plank every answer is compared that it has, without the flags of allocations: on all images with
 //! its arms for `Log1` to `Log4` altered so that topics escape, and then with Plank unaltered on those in which no topic is
-//! a pointer. With the library every answer is compared, its number, its length, each byte of the result slice, unknown ids
-//! and slices that are too short. Each question about one id is put for every id, and then once for all ids; one about two
-//! ids for every pair of them, or for a choice where these are many. The library also writes every image back from its
+//! a pointer. With the library every answer is compared, the chart too: its number, its length, each byte of the result slice,
+//! unknown ids and slices that are too short. Each question about one id is put for every id, and then once for all ids; one
+//! about two ids for every pair of them, or for a choice where these are many. The library also writes every image back from its
 //! records, and is lent records that are made from them and ones that are known by name. Where two sides disagree, the image
 //! is made as small as it goes and shown, with the records that were lent if it is about these, and the program stops with
 //! status 1. A side that was missing when this was built is left out, with a message.
@@ -181,7 +181,7 @@ fn compare_all(name: &str, images: impl Iterator<Item = (String, Image)>, compar
         if left_out > 0 {
             println!("  {left_out} left out: a topic is a pointer");
         }
-        println!("  {answers} answers are equal, those in words of {words} words");
+        println!("  {answers} answers of {words} words are equal");
         println!("  {all} allocations, {marked} marked, {merged} merged intervals; at most {most_rounds} rounds");
         println!("  {}\n  {logs}\n  {open}\n  {crossings}", tally.flags);
         if charts.charts > 0 {

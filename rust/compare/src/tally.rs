@@ -16,9 +16,9 @@ pub struct Tally {
     pub refused: u64,
     /// Images that were not compared: a topic of theirs is a pointer, and Plank was asked unaltered.
     pub left_out: u64,
-    /// Answers.
+    /// Answers in words.
     pub answers: u64,
-    /// Words of these answers; text has none.
+    /// Words of these answers.
     pub words: u64,
     /// Allocations, and those of them that are marked.
     pub allocations: [u64; 2],
@@ -41,10 +41,12 @@ pub struct Tally {
 }
 
 impl Tally {
-    /// The bytes of an answer that is compared.
+    /// The bytes of an answer that is compared; text is counted apart.
     pub fn compared(&mut self, question: Question, answer: &[u8]) {
-        self.answers += 1;
-        self.words += if question.kind().is_text() { 0 } else { answer.len() as u64 / 4 };
+        if !question.kind().is_text() {
+            self.answers += 1;
+            self.words += answer.len() as u64 / 4;
+        }
     }
 
     /// What the paper says to a question: the bytes of an answer, or the number of a refusal.

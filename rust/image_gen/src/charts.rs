@@ -17,11 +17,19 @@ pub struct Charts {
     pub blocks: (u32, u32),
     /// Number of operations of a block that make no allocation.
     pub operations: (u32, u32),
+    /// The most sheets of a series that hold nothing but operations of the last block that do nothing.
+    pub sheets: u32,
 }
 
-/// Small ones: one series mostly, and two or three sheets.
-pub const SMALL: Charts =
-    Charts { allocations: &[63, 64, 65, 66], many: 5, functions: (1, 3), blocks: (1, 4), operations: (0, 5) };
+/// Small ones: one series mostly, and few sheets.
+pub const SMALL: Charts = Charts {
+    allocations: &[63, 64, 65, 66],
+    many: 5,
+    functions: (1, 3),
+    blocks: (1, 4),
+    operations: (0, 5),
+    sheets: 2,
+};
 
 /// Large ones: up to eight series.
 pub const LARGE: Charts = Charts {
@@ -30,6 +38,7 @@ pub const LARGE: Charts = Charts {
     functions: (2, 4),
     blocks: (2, 10),
     operations: (2, 10),
+    sheets: 16,
 };
 
 /// Chances in a hundred.
@@ -141,8 +150,8 @@ impl Builder<'_> {
         self.image.entries.contains(&id)
     }
 
-    /// Adds the operations of a block: its share of the allocations, then others; in the last block, as many as make a sheet full,
-    /// or one more, or one fewer.
+    /// Adds the operations of a block: its share of the allocations, then others; in the last block, as many as make a sheet
+    /// full, or one more, or one fewer.
     fn operations(&mut self, function: FunctionId, id: BlockId) -> Span {
         let first = self.image.operations.len() as u32;
         let left = self.allocations - self.made;
@@ -211,7 +220,7 @@ impl Builder<'_> {
         let lines = self.lines + lines;
         let room = MAX_OPERATIONS as u32 - self.image.operations.len() as u32;
         let least = (lines + 1).next_multiple_of(SHEET);
-        let sheets = (lines + room).saturating_sub(least) / SHEET;
+        let sheets = self.shape.sheets.min((lines + room).saturating_sub(least) / SHEET);
         let more = match self.rng.below(8) {
             0 => self.rng.below(sheets + 1),
             1 => sheets,

@@ -158,7 +158,8 @@ fn charts_on_both_sides_of_sheets_and_series() {
             shared > seeds as usize / 10 && functions > seeds as usize / 4,
             "{shared} share, {functions} of several"
         );
-        assert!(digits[1..].iter().all(|&count| count > 50), "{kind:?}: {digits:?}");
+        let most = if kind == Kind::Charts { 3 } else { 4 };
+        assert!(digits[1..=most].iter().all(|&count| count > 50), "{kind:?}: {digits:?}");
     }
 }
 

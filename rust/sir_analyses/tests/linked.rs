@@ -145,6 +145,7 @@ fn stack() {
                 calls::ask(kind.about(&vec![1; kind.ids.len()]), image, &mut result);
             }
             assert_eq!(calls::ask(open, image, &mut result).number, 0);
+            assert!(sir_analyses::chart(image).is_ok());
             let records = sir_analyses::records(image).unwrap();
             assert_eq!(sir_analyses::write(&records).as_ref(), Ok(image));
         }

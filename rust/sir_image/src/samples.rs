@@ -243,9 +243,9 @@ pub fn several_functions() -> Image {
     image
 }
 
-/// 65 allocations, one more than a series of the chart has. Block 0 makes them, with their numbers as bases, and reads through one
-/// third; block 1 reads through another third, lets some of the rest escape, and calls function 1 by both codes; block 2, all of
-/// function 1, has these two calls too.
+/// 65 allocations, one more than a series of the chart has. Block 0 makes them, with their numbers as bases, and reads through
+/// one third; block 1 reads through another third, lets some of the rest escape, and calls function 1 by both codes; block 2,
+/// all of function 1, has these two calls too.
 pub fn two_series() -> Image {
     const COUNT: LocalId = 65;
     let mut image = Image::new(COUNT);
