@@ -45,7 +45,7 @@ fn without_an_answer() {
         let asked = Question::KINDS.iter().map(|kind| kind.about_zeros());
         let without: Vec<String> =
             asked.filter(|&question| plank.answer(question).is_none()).map(|q| q.to_string()).collect();
-        assert_eq!(without, ["rounds", "open:0,0", "crossing:0,0", "records"]);
+        assert_eq!(without, ["rounds", "open:0,0", "crossing:0,0", "records", "chart"]);
     });
 }
 

@@ -12,7 +12,8 @@
 //!
 //! The second writes one file, with the reference's answers to the questions about one image, and prints them. A question
 //! is its name, after a colon its ids separated by commas, and after a slash the length of the result slice where it is not
-//! to be that of the answer: `order`, `exit_set:3`, `uses:4/0`, `open:0,2`, `all_uses`. For `write` the file IMAGE holds records.
+//! to be that of the answer: `order`, `exit_set:3`, `uses:4/0`, `open:0,2`, `all_uses`, `chart`. For `write` the file IMAGE
+//! holds records.
 
 mod one;
 mod stored;

@@ -11,7 +11,7 @@ pub fn write(file: &str, image: &str, questions: &[String]) -> Result<(), String
     let bytes = fs::read(image).map_err(|error| format!("{image}: {error}"))?;
     let calls = questions.iter().map(|text| call(text, &bytes)).collect::<Result<Vec<_>, _>>()?;
     for (text, call) in questions.iter().zip(&calls) {
-        println!("{text} gives {} and {} bytes{}", call.number, call.length, shown(&call.result[..call.length]));
+        println!("{text} gives {} and {} bytes{}", call.number, call.length, shown(call));
     }
     let name = Path::new(file).file_name().unwrap_or_default().to_string_lossy().into_owned();
     let recording = Recording { name, lent: bytes, calls };
@@ -34,10 +34,16 @@ fn call(text: &str, lent: &[u8]) -> Result<Recorded, String> {
     Ok(Recorded::by_reference(called, lent, room))
 }
 
-/// Bytes after a colon, in hexadecimal.
-fn shown(bytes: &[u8]) -> String {
-    let digits: String = bytes.iter().map(|byte| format!(" {byte:02x}")).collect();
-    if digits.is_empty() { digits } else { format!(":{digits}") }
+/// The answer after a colon: text as it is, on lines of its own, and all others in hexadecimal.
+fn shown(call: &Recorded) -> String {
+    let bytes = &call.result[..call.length];
+    let answer: String = match call.called {
+        Called::Question(question) if question.kind().is_text() => {
+            format!("\n{}", String::from_utf8_lossy(bytes).trim_end())
+        }
+        _ => bytes.iter().map(|byte| format!(" {byte:02x}")).collect(),
+    };
+    if bytes.is_empty() { String::new() } else { format!(":{answer}") }
 }
 
 #[cfg(test)]
@@ -54,6 +60,16 @@ mod tests {
         assert_eq!(given("uses:4/7"), Ok((13, 0, 7)));
         assert_eq!(call("exit_set:0", &image).map(|call| call.result), Ok(vec![1, 0, 0, 0]));
         assert!(given("exit_set").is_err() && given("order/x").is_err());
+        assert_eq!((given("chart"), given("chart/4379")), (Ok((0, 4380, 4380)), Ok((14, 0, 4379))));
+    }
+
+    #[test]
+    fn answers_shown() {
+        let image = sir_image::samples::report().pages();
+        let shown = |text: &str| shown(&call(text, &image).unwrap());
+        assert_eq!([shown("exit_set:0"), shown("exit_set:1"), shown("order/0")], [": 01 00 00 00", "", ""]);
+        let chart = shown("chart");
+        assert!(chart.starts_with(":\nblock 0 ") && chart.ends_with(".|") && chart.lines().count() == 8, "{chart}");
     }
 
     #[test]
