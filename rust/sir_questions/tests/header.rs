@@ -50,6 +50,16 @@ fn questions() {
     }
 }
 
+/// The header says which answers are text.
+#[test]
+fn text() {
+    let text =
+        Question::KINDS.iter().filter(|kind| kind.is_text()).map(|kind| format!("that of sir_{} as text", kind.name));
+    let header = header();
+    assert!(text.into_iter().all(|text| header.contains(&text)));
+    assert_eq!(header.matches(" as text").count(), 1);
+}
+
 /// The writer takes lent records, and there is no other function.
 #[test]
 fn writer() {
