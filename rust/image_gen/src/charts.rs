@@ -119,7 +119,7 @@ impl Builder<'_> {
         let hands_on = blocks > 1 && self.pointer().is_some() && self.rng.percent(50);
         let hands_on = hands_on && self.image.locals + blocks <= MAX_LOCALS;
         let last = entry + blocks - 1;
-        // No operation takes these before all blocks have their inputs.
+        // Before operations take what locals are left.
         let inputs: Vec<LocalId> = (entry..last).filter(|_| hands_on).filter_map(|_| self.fresh()).collect();
         for id in entry..=last {
             let input = (id - entry).checked_sub(1).and_then(|place| inputs.get(place as usize).copied());
