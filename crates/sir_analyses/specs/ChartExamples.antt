@@ -2,16 +2,16 @@
 use mathlib.Core.Path.{_≡_, refl}
 use mathlib.Core.Bool.{true}
 use mathlib.Core.List.{List, [], _∷_, _++_, map}
-use Prim.Native.Nat.{ℕ, _*_}
+use Prim.Native.Nat.{ℕ}
 use lib.ListN.{length, getD, take, drop, replicate}
-use Rattle.plank_core.specs.Lists.{all}
+use Rattle.plank_core.specs.Lists.{all, bind}
 use Rattle.plank_core.specs.Text.{ascii, number}
 use Rattle.sir_data.specs.Pages.{checkOf, payload}
 use Rattle.sir_data.specs.Rules.{first, rule4, rule5, rule6, rule7, rule8, rule9, rule10, rule11}
 use Rattle.sir_data.specs.Paging.{unchecked, pageOf, pagesOf}
 use Rattle.sir_analyses.specs.Calls.{wordRules, asked, noRules}
 use Rattle.sir_analyses.specs.Chart.{heading, blankLine, index, columns, callColumn, opLine, sheets, seriesFor, chartLines, chartText}
-use Rattle.sir_analyses.specs.ExampleImages.{Op, wordsOfBlocks, setConst, alloc, load, store, callOp, stop, ends, continues, returns, block, straight, outcomeWords, Row, same}
+use Rattle.sir_analyses.specs.ExampleImages.{Op, wordsOfBlocks, setConst, alloc, load, store, callOp, stop, ends, continues, returns, block, outcomeWords, Row, same}
 
 -- ---- the images
 
@@ -32,8 +32,14 @@ calling =
     wordsOfBlocks 1 (0 ∷ 1 ∷ [])
     (block [] (callOp 1 ∷ setConst 0 ∷ neverOp 1 ∷ stop ∷ []) [] ends ∷ block [] [] [] returns ∷ [])
 
+-- the function starts with block 1 and goes on to block 0; block 2 is not visited
+abbrev backwards : List ℕ
+backwards =
+    wordsOfBlocks 1 (1 ∷ [])
+    (block [] (stop ∷ []) [] ends ∷ block [] (setConst 0 ∷ []) [] (continues 0) ∷ block [] (stop ∷ []) [] ends ∷ [])
+
 abbrev images : List (List ℕ)
-images = twoBlocks ∷ calling ∷ []
+images = twoBlocks ∷ calling ∷ backwards ∷ []
 
 -- the front of line n of an image's chart
 abbrev front : List ℕ → ℕ → ℕ → List ℕ
@@ -57,6 +63,10 @@ all-lines-wide = (map length (chartLines twoBlocks), replicate 60 72)
 abbrev one-sheet : Row
 one-sheet = (length (chartLines twoBlocks) ∷ [], 60 ∷ [])
 
+-- block 1 comes first, with operation 1, then block 0, with operation 0; then the filling
+abbrev blocks-in-order : Row
+blocks-in-order = (bind (0 ∷ 1 ∷ 2 ∷ 3 ∷ 4 ∷ []) (λ n. front backwards n 7), ascii "block 1    1|.block 0    0|.       ")
+
 -- either call has its `c`, and no other operation
 abbrev calls-told : Row
 calls-told = (map (callColumn calling) (0 ∷ 1 ∷ 2 ∷ 3 ∷ []), ascii "c c ")
@@ -75,7 +85,7 @@ full-sheet = (map (λ n. length (sheets (replicate n []))) (1 ∷ 59 ∷ 60 ∷ 
 abbrev table : List Row
 table =
     -- rules 4 to 12 refuse none of the images
-    (map (λ w. first (wordRules (rule6 w) w)) images, replicate 2 0)
+    (map (λ w. first (wordRules (rule6 w) w)) images, replicate 3 0)
     -- headings and numbers
     ∷ (heading 7, ascii "block 7" ++ replicate 65 32)
     ∷ (heading 255, ascii "block 255" ++ replicate 63 32)
@@ -95,6 +105,7 @@ table =
     ∷ (front twoBlocks 7 10, ascii "    5|*...")
     ∷ (drop 10 (getD (chartLines twoBlocks) 7 []), replicate 60 46 ++ ascii "| ")
     ∷ (getD (chartLines twoBlocks) 9 [], replicate 72 32)
+    ∷ blocks-in-order
     -- without an allocation: dots
     ∷ (getD (chartLines calling) 1 [], ascii "    0|" ++ replicate 64 46 ++ ascii "|c")
     ∷ calls-told

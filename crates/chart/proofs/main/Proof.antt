@@ -1,6 +1,6 @@
 -- `main` is safe and ends. The measure is the number of arguments that are left.
-use native.Mathlib.Omega.{arith}
 use Prim.Native.Nat.{_-_}
+use native.Mathlib.Omega.{arith}
 use Rattle.chart.proofs.main.Statement.{statement}
 use Rattle.chart.proofs.main.Tie as tie
 

@@ -7,7 +7,6 @@ use native.Mathlib.Nat.{mul-assoc}
 use native.Mathlib.Numerals.{add-one}
 use lib.ListN.{length, getD, take, drop, replicate, length-append, take-append-drop}
 use lib.Seq.{take-suc}
-use lib.Dec.{ltb}
 use borrow.Author.Tests.{lt-ltb, le-ltb}
 use Rattle.plank_core.specs.Lists.{bind, upto, _∈_}
 use Rattle.plank_core.specs.laws.Loops.{length-count, bind-append, bind-snoc, upto-more}

@@ -1,6 +1,6 @@
 -- `chart` meets its contract.
-use lib.Seq.{length-take-le}
 use mathlib.Core.Path.{sym, _∙_}
+use lib.Seq.{length-take-le}
 use borrow.Author.Needs.{needs}
 use Rattle.chart.proofs.printing.chart.Statement.{statement}
 use Rattle.chart.proofs.printing.chart.Tie as tie

@@ -1,15 +1,15 @@
 -- `say_blocks` meets its contract: each block has room in the slice.
-use Rattle.sir_answers.proofs.chart.ChartTexts.{order-most}
-use Rattle.sir_analyses.proofs.claims.order.OrderProof.{blocks-below}
-use Rattle.sir_analyses.specs.Order.{blocksRpo}
-use Rattle.plank_core.specs.laws.Lists.{getD-mem}
-use Rattle.plank_core.specs.Lists.{_∈_}
+use mathlib.Core.List.{List}
+use mathlib.Core.Path.{_≡_, refl, sym, _∙_, subst}
+use Prim.Native.Nat.{ℕ, _-_, _*_, _≤_}
+use native.Mathlib.Omega.{arith}
 use lib.Seq.{length-take-le, length-front}
 use lib.ListN.{length, getD}
-use Prim.Native.Nat.{ℕ, _-_, _*_, _≤_}
-use mathlib.Core.List.{List}
-use native.Mathlib.Omega.{arith}
-use mathlib.Core.Path.{_≡_, refl, sym, ap, _∙_, subst}
+use Rattle.plank_core.specs.laws.Lists.{getD-mem}
+use Rattle.plank_core.specs.Lists.{_∈_}
+use Rattle.sir_analyses.proofs.claims.order.OrderProof.{blocks-below}
+use Rattle.sir_analyses.specs.Order.{blocksRpo}
+use Rattle.sir_answers.proofs.chart.ChartTexts.{order-most}
 use Rattle.chart.proofs.printing.say_blocks.Statement.{statement}
 use Rattle.chart.proofs.printing.say_blocks.Tie as tie
 

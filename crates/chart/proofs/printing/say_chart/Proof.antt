@@ -1,13 +1,10 @@
 -- `say_chart` meets its contract. The invariant: the slice keeps its length.
-use Rattle.sir_answers.proofs.chart_columns.ColumnLaws.{sites-few}
-use Rattle.sir_analyses.proofs.claims.chart.ChartProof.{series-most}
-use lib.ListN.{length, length-replicate}
-use Prim.Native.Nat.{ℕ, _-_, _≤_}
 use mathlib.Core.Path.{_≡_, sym, ap}
-use lib.ListN.{length}
-use mathlib.Core.Path.{_≡_}
-use Prim.Native.Nat.{_-_, _≤_}
+use Prim.Native.Nat.{ℕ, _-_, _≤_}
 use native.Mathlib.Omega.{arith}
+use lib.ListN.{length, length-replicate}
+use Rattle.sir_analyses.proofs.claims.chart.ChartProof.{series-most}
+use Rattle.sir_answers.proofs.chart_columns.ColumnLaws.{sites-few}
 use Rattle.chart.proofs.printing.say_chart.Statement.{statement}
 use Rattle.chart.proofs.printing.say_chart.Tie as tie
 

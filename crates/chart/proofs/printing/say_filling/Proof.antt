@@ -1,9 +1,8 @@
 -- `say_filling` meets its contract.
-use lib.Seq.{length-take-le, length-front}
-use lib.Seq.{length-take-le}
+use mathlib.Core.Path.{sym}
 use Prim.Native.Nat.{_-_, _*_}
 use native.Mathlib.Omega.{arith}
-use mathlib.Core.Path.{sym}
+use lib.Seq.{length-take-le, length-front}
 use borrow.Author.Needs.{needs}
 use Rattle.chart.proofs.printing.say_filling.Statement.{statement}
 use Rattle.chart.proofs.printing.say_filling.Tie as tie

@@ -1,7 +1,7 @@
 -- `say_refused` meets its contract.
-use lib.Seq.{length-take-le}
-use native.Mathlib.Omega.{arith}
 use mathlib.Core.Path.{sym}
+use native.Mathlib.Omega.{arith}
+use lib.Seq.{length-take-le}
 use borrow.Author.Needs.{needs}
 use Rattle.chart.proofs.printing.say_refused.Statement.{statement}
 use Rattle.chart.proofs.printing.say_refused.Tie as tie

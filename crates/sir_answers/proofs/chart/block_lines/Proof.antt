@@ -1,9 +1,9 @@
 -- `block_lines` meets its contract.
-use Rattle.sir_data.specs.Records.{blockWord}
 use Prim.Native.Nat.{_-_}
-use Rattle.plank_core.specs.laws.Loops.{length-count}
 use native.Mathlib.Omega.{arith}
 use borrow.Author.Needs.{needs}
+use Rattle.plank_core.specs.laws.Loops.{length-count}
+use Rattle.sir_data.specs.Records.{blockWord}
 use Rattle.sir_answers.proofs.chart.block_lines.Statement.{statement}
 use Rattle.sir_answers.proofs.chart.block_lines.Tie as tie
 

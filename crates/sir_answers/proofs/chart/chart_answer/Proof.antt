@@ -1,15 +1,15 @@
 -- `chart_answer` meets its contract.
-use Rattle.sir_answers.proofs.chart.ChartTexts.{series-is, chart-length, chart-refused, chart-answered}
-use Rattle.sir_analyses.proofs.claims.chart.ChartProof.{series-most}
-use Rattle.sir_analyses.specs.Chart.{onSheets, seriesFor, seriesCount, chartText, linesOf}
-use Rattle.sir_analyses.specs.Order.{blocksRpo}
+use mathlib.Core.Path.{_≡_, sym, ap, ap₂, _∙_}
+use Prim.Native.Nat.{ℕ, _*_, _≤_}
+use native.Mathlib.Nat.{mul-le-mul-left}
+use native.Mathlib.Omega.{arith}
 use lib.Seq.{length-take-le}
 use lib.ListN.{length}
-use native.Mathlib.Nat.{mul-le-mul-left}
-use Prim.Native.Nat.{ℕ, _*_, _≤_}
-use native.Mathlib.Omega.{arith}
-use mathlib.Core.Path.{_≡_, refl, sym, ap, ap₂, _∙_}
 use borrow.Author.Needs.{needs}
+use Rattle.sir_analyses.proofs.claims.chart.ChartProof.{series-most}
+use Rattle.sir_analyses.specs.Chart.{onSheets, seriesCount, chartText, linesOf}
+use Rattle.sir_analyses.specs.Order.{blocksRpo}
+use Rattle.sir_answers.proofs.chart.ChartTexts.{series-is, chart-length, chart-refused, chart-answered}
 use Rattle.sir_answers.proofs.chart.chart_answer.Statement.{statement}
 use Rattle.sir_answers.proofs.chart.chart_answer.Tie as tie
 

@@ -1,24 +1,20 @@
 -- `put_block` meets its contract. The invariant: whatever block the scan started in, the lines of the operations from o on stand from `end` on.
-use mathlib.Core.Path.{ap₂}
-use Rattle.sir_analyses.specs.Chart.{heading, opLine, textOf}
+use mathlib.Core.Path.{ap₂, subst, _≡_, refl, sym, _∙_}
+use mathlib.Core.List.{List, [], _∷_, _++_}
+use Prim.Native.Nat.{ℕ, _+_, _-_, _*_, _≤_}
+use native.Mathlib.Omega.{arith}
+use lib.ListN.{drop, length, take}
+use lib.Seq.{length-front, take-at, length-take-le}
 use borrow.Rule.Slice.PartMut.{same-len-mid}
-use lib.ListN.{drop}
-use lib.Seq.{length-front, take-at}
-use mathlib.Core.Path.{subst}
-use Rattle.sir_answers.proofs.chart_columns.ColumnLaws.{met-owned}
-use Rattle.sir_data.specs.Records.{blockWord, ops}
 use Rattle.plank_core.specs.laws.Loops.{length-count, range-none, range-before}
+use Rattle.plank_core.specs.Lists.{range}
+use Rattle.sir_data.specs.Records.{blockWord, ops}
+use Rattle.sir_analyses.specs.Chart.{heading}
 use Rattle.sir_analyses.proofs.claims.order.OrderProof.{blocks-below}
-use lib.Seq.{length-take-le}
+use Rattle.sir_answers.proofs.chart_columns.ColumnLaws.{met-owned}
 use Rattle.sir_answers.proofs.chart.BlockLines.{LinesScan, lines-none, lines-more}
 use Rattle.sir_answers.proofs.LiveSets.{ScanStart, live-none}
 use Rattle.sir_answers.specs.inner.Columns.{Columns}
-use Rattle.plank_core.specs.Lists.{range}
-use lib.ListN.{length, take}
-use Prim.Native.Nat.{ℕ, _+_, _-_, _*_, _≤_, _<_}
-use mathlib.Core.List.{List, [], _∷_, _++_, map}
-use native.Mathlib.Omega.{arith}
-use mathlib.Core.Path.{_≡_, refl, sym, ap, _∙_}
 use Rattle.sir_answers.proofs.chart.put_block.Statement.{statement}
 use Rattle.sir_answers.proofs.chart.put_block.Tie as tie
 
@@ -37,12 +33,14 @@ slice-relend-prefix-put-heading c =
 
 slice-aggregate-put-heading : tie.Need-slice-aggregate-put-heading Inv-loop μ-loop
 slice-aggregate-put-heading c =
-    let start = c .before .before .before .before .before .before in
+    let at-known = c .before in
+    let start = at-known .before .before .before .before .before in
     sym (length-take-le 73 (start .args .out .now) (omega (arith, start .pre .1 .1 .1 .1)))
 
 put-heading-requires : tie.Need-put-heading-requires Inv-loop μ-loop
 put-heading-requires c κs =
-    let start = c .before .before .before .before .before .before in
+    let at-known = c .before in
+    let start = at-known .before .before .before .before .before in
     let stage = start .pre .0 in
     (omega (arith, blocks-below (start .args .words .now) (stage .well-formed) (start .args .b .0) (start .pre .1 .1 .1 .0), stage .well-formed .sized .blocks-most), length-take-le 73 (start .args .out .now) (omega (arith, start .pre .1 .1 .1 .1)))
 

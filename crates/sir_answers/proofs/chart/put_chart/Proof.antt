@@ -1,22 +1,20 @@
 -- `put_chart` meets its contract. The invariant: the series before this one stand before `at`, and the rest is as it was.
-use Rattle.sir_answers.proofs.chart.ChartTexts.{lines-most, seriesTo, series-next}
-use mathlib.Core.List.{append-nil}
+use mathlib.Core.List.{append-nil, List, _++_}
+use mathlib.Core.Path.{_≡_, refl, sym, ap, _∙_}
+use Prim.Native.Nat.{ℕ, suc, _+_, _-_, _*_, _≤_, _<_}
+use native.Mathlib.Numerals.{add-one}
+use native.Mathlib.Nat.{mul-suc, mul-le-mul-left}
+use native.Mathlib.Omega.{arith}
 use lib.Seq.{drop-length}
+use lib.ListN.{length, drop}
+use borrow.Rule.Slice.PartMut.{same-len-mid}
 use Rattle.sir_analyses.specs.Allocation.{allocs}
-use Rattle.sir_answers.proofs.chart.ChartTexts.{seriesTo, series-next}
-use Rattle.sir_answers.proofs.chart_lines.LineTexts.{fill-next}
-use Rattle.sir_answers.proofs.chart_columns.ColumnLaws.{sites-count, sites-few}
 use Rattle.sir_analyses.proofs.allocation_liveness.PointerTables.{allocations-few}
 use Rattle.sir_analyses.proofs.claims.chart.ChartProof.{series-most}
 use Rattle.sir_analyses.specs.Chart.{seriesLines, sheets, seriesFor, seriesCount, textOf, chartLines, chartText}
-use borrow.Rule.Slice.PartMut.{same-len-mid}
-use lib.ListN.{length, drop}
-use native.Mathlib.Numerals.{add-one}
-use native.Mathlib.Nat.{mul-suc, mul-le-mul-left}
-use Prim.Native.Nat.{ℕ, suc, _+_, _-_, _*_, _≤_, _<_}
-use mathlib.Core.List.{List, _++_}
-use native.Mathlib.Omega.{arith}
-use mathlib.Core.Path.{_≡_, refl, sym, ap, _∙_, subst}
+use Rattle.sir_answers.proofs.chart.ChartTexts.{lines-most, seriesTo, series-next}
+use Rattle.sir_answers.proofs.chart_lines.LineTexts.{fill-next}
+use Rattle.sir_answers.proofs.chart_columns.ColumnLaws.{sites-count, sites-few}
 use Rattle.sir_answers.proofs.chart.put_chart.Statement.{statement}
 use Rattle.sir_answers.proofs.chart.put_chart.Tie as tie
 

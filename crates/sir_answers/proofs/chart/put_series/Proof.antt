@@ -1,21 +1,19 @@
 -- `put_series` meets its contract. The invariant: the blocks before i stand before `at`, and the rest is as it was.
-use Rattle.sir_answers.proofs.chart.ChartTexts.{order-most, lines-most, lines-next, blocks-next, lines-within, sheets-text}
-use Rattle.sir_answers.proofs.chart_lines.LineTexts.{fill-next, fill-end}
-use Rattle.sir_answers.proofs.chart.ChartTexts.{order-most, lines-next, blocks-next, lines-within, sheets-text}
-use Rattle.sir_answers.proofs.chart_lines.LineTexts.{fill-next}
-use Rattle.sir_analyses.proofs.claims.chart.Places.{sheets-hold}
-use Rattle.sir_analyses.proofs.claims.order.OrderProof.{blocks-below}
-use Rattle.sir_analyses.specs.Chart.{blankLine, blockLines, seriesLines, onSheets, textOf, linesOf}
-use Rattle.sir_analyses.specs.Order.{blocksRpo}
-use Rattle.plank_core.specs.laws.Lists.{getD-mem}
-use Rattle.plank_core.specs.Lists.{bind, _∈_}
-use borrow.Rule.Slice.PartMut.{same-len-mid}
+use mathlib.Core.List.{List, _++_}
+use mathlib.Core.Path.{_≡_, refl, sym, ap, _∙_, subst}
+use Prim.Native.Nat.{ℕ, _+_, _-_, _*_, _/_, _≤_}
+use native.Mathlib.Omega.{arith}
 use lib.Seq.{take-all}
 use lib.ListN.{length, getD, take, drop, replicate}
-use Prim.Native.Nat.{ℕ, _+_, _-_, _*_, _/_, _≤_, _<_}
-use mathlib.Core.List.{List, [], _∷_, _++_, append-nil}
-use native.Mathlib.Omega.{arith}
-use mathlib.Core.Path.{_≡_, refl, sym, ap, _∙_, subst}
+use borrow.Rule.Slice.PartMut.{same-len-mid}
+use Rattle.plank_core.specs.laws.Lists.{getD-mem}
+use Rattle.plank_core.specs.Lists.{bind, _∈_}
+use Rattle.sir_analyses.proofs.claims.chart.Places.{sheets-hold}
+use Rattle.sir_analyses.proofs.claims.order.OrderProof.{blocks-below}
+use Rattle.sir_analyses.specs.Chart.{blankLine, blockLines, onSheets, textOf, linesOf}
+use Rattle.sir_analyses.specs.Order.{blocksRpo}
+use Rattle.sir_answers.proofs.chart.ChartTexts.{order-most, lines-most, lines-next, blocks-next, lines-within, sheets-text}
+use Rattle.sir_answers.proofs.chart_lines.LineTexts.{fill-next, fill-end}
 use Rattle.sir_answers.proofs.chart.put_series.Statement.{statement}
 use Rattle.sir_answers.proofs.chart.put_series.Tie as tie
 

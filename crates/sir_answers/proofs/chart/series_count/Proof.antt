@@ -1,7 +1,6 @@
 -- `series_count` meets its contract.
-use borrow.Author.Tests.{eq-eqb, ne-eqb}
-use native.Mathlib.Omega.{arith}
 use mathlib.Core.Path.{refl}
+use borrow.Author.Tests.{eq-eqb, ne-eqb}
 use borrow.Author.Needs.{needs}
 use Rattle.sir_answers.proofs.chart.series_count.Statement.{statement}
 use Rattle.sir_answers.proofs.chart.series_count.Tie as tie

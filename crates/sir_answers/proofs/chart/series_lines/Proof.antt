@@ -1,19 +1,16 @@
 -- `series_lines` meets its contract. The invariant: the lines of the blocks before i are counted.
-use Rattle.sir_answers.proofs.chart.ChartTexts.{order-most}
-use Rattle.sir_analyses.specs.Order.{blocksRpo}
-use Rattle.plank_core.specs.Lists.{_∈_}
 use mathlib.Core.List.{List}
-use mathlib.Core.Path.{subst}
-use lib.ListN.{getD}
+use mathlib.Core.Path.{subst, _≡_, refl, ap, _∙_}
+use Prim.Native.Nat.{ℕ, _-_, _*_, _≤_}
+use native.Mathlib.Omega.{arith}
+use lib.ListN.{getD, length, take}
 use lib.Seq.{take-all}
-use Rattle.sir_answers.proofs.chart.ChartTexts.{lines-next}
+use Rattle.plank_core.specs.Lists.{_∈_}
 use Rattle.plank_core.specs.laws.Lists.{getD-mem}
+use Rattle.sir_analyses.specs.Order.{blocksRpo}
 use Rattle.sir_analyses.proofs.claims.order.OrderProof.{blocks-below}
 use Rattle.sir_analyses.specs.Chart.{linesOf}
-use lib.ListN.{length, take}
-use Prim.Native.Nat.{ℕ, _+_, _-_, _*_, _≤_, _<_}
-use native.Mathlib.Omega.{arith}
-use mathlib.Core.Path.{_≡_, refl, sym, ap, _∙_}
+use Rattle.sir_answers.proofs.chart.ChartTexts.{order-most, lines-next}
 use Rattle.sir_answers.proofs.chart.series_lines.Statement.{statement}
 use Rattle.sir_answers.proofs.chart.series_lines.Tie as tie
 

@@ -1,11 +1,11 @@
 -- `closed_column` meets its contract.
-use Rattle.sir_answers.proofs.chart_columns.ColumnLaws.{sites-few}
-use Rattle.sir_analyses.specs.inner.Stages.{sitesIn}
+use mathlib.Core.Path.{refl, sym, ap, _∙_}
+use native.Mathlib.Omega.{arith}
 use lib.ListN.{length}
 use borrow.Author.Tests.{lt-ltb, le-ltb}
-use mathlib.Core.Path.{_≡_, refl, sym, ap, _∙_}
-use native.Mathlib.Omega.{arith}
 use borrow.Author.Needs.{needs}
+use Rattle.sir_analyses.specs.inner.Stages.{sitesIn}
+use Rattle.sir_answers.proofs.chart_columns.ColumnLaws.{sites-few}
 use Rattle.sir_answers.proofs.chart_columns.closed_column.Statement.{statement}
 use Rattle.sir_answers.proofs.chart_columns.closed_column.Tie as tie
 

@@ -1,14 +1,11 @@
 -- `closed_columns` meets its contract. The invariant: the columns before k are filled.
-use Rattle.sir_answers.proofs.chart_columns.ColumnLaws.{closed-next, columns-closed}
-use lib.ListN.{length-set}
-use Rattle.sir_answers.proofs.chart_columns.ColumnLaws.{columns-closed}
-use lib.Seq.{getD-set-same, getD-set-other}
-use Rattle.sir_answers.specs.inner.Columns.{markedIn}
-use lib.ListN.{length, getD}
-use mathlib.Core.Bool.{Bool, true, false, not, _&&_, cond}
+use mathlib.Core.Bool.{cond}
+use mathlib.Core.Path.{_≡_, sym, _∙_}
 use Prim.Native.Nat.{ℕ, _+_, _-_, _*_, _≤_, _<_}
 use native.Mathlib.Omega.{arith}
-use mathlib.Core.Path.{_≡_, refl, sym, ap, _∙_}
+use lib.ListN.{length-set, length, getD}
+use Rattle.sir_answers.proofs.chart_columns.ColumnLaws.{closed-next, columns-closed}
+use Rattle.sir_answers.specs.inner.Columns.{markedIn}
 use Rattle.sir_answers.proofs.chart_columns.closed_columns.Statement.{statement}
 use Rattle.sir_answers.proofs.chart_columns.closed_columns.Tie as tie
 

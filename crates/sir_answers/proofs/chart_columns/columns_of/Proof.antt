@@ -1,13 +1,11 @@
 -- `columns_of` meets its contract.
-use lib.ListN.{take, replicate}
-use Rattle.sir_answers.proofs.chart_columns.ColumnLaws.{columns-opened}
+use native.Mathlib.Omega.{arith}
+use lib.ListN.{replicate}
+use borrow.Author.Needs.{needs}
+use Rattle.plank_core.specs.laws.Members.{members-most, member-is}
 use Rattle.sir_analyses.proofs.local_liveness.SetAnswers.{front-members}
 use Rattle.sir_analyses.proofs.loading.Loads.{front-length}
-use Rattle.plank_core.specs.laws.Members.{members-most, member-is}
-use lib.ListN.{take}
-use native.Mathlib.Omega.{arith}
-use mathlib.Core.Path.{_≡_, refl, sym, ap, _∙_}
-use borrow.Author.Needs.{needs}
+use Rattle.sir_answers.proofs.chart_columns.ColumnLaws.{columns-opened}
 use Rattle.sir_answers.proofs.chart_columns.columns_of.Statement.{statement}
 use Rattle.sir_answers.proofs.chart_columns.columns_of.Tie as tie
 

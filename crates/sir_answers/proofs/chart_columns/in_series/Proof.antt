@@ -1,5 +1,4 @@
 -- `in_series` meets its contract.
-use native.Mathlib.Omega.{arith}
 use borrow.Author.Tests.{lt-ltb, le-ltb}
 use borrow.Author.Needs.{needs}
 use Rattle.sir_answers.proofs.chart_columns.in_series.Statement.{statement}

@@ -1,14 +1,12 @@
 -- `is_same` meets its contract. The invariant: the words before k are the same.
-use lib.ListN.{getD}
-use mathlib.Core.Bool.{true, false}
-use Rattle.plank_core.specs.laws.Lists.{none}
-use mathlib.Core.List.{List, _∷_, [], _++_}
+use mathlib.Core.Bool.{false}
+use mathlib.Core.Path.{_≡_, refl, sym, _∙_}
+use Prim.Native.Nat.{_-_, _≤_}
 use native.Mathlib.Numerals.{add-one}
-use lib.Seq.{take-suc, take-all}
-use lib.ListN.{length, take}
-use Prim.Native.Nat.{ℕ, _+_, _-_, _*_, _≤_, _<_}
 use native.Mathlib.Omega.{arith}
-use mathlib.Core.Path.{_≡_, refl, sym, ap, _∙_}
+use lib.ListN.{getD, take}
+use lib.Seq.{take-suc, take-all}
+use Rattle.plank_core.specs.laws.Lists.{none}
 use Rattle.sir_answers.proofs.chart_columns.is_same.Statement.{statement}
 use Rattle.sir_answers.proofs.chart_columns.is_same.Tie as tie
 

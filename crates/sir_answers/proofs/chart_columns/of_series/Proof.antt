@@ -1,10 +1,6 @@
 -- `of_series` meets its contract.
-use Rattle.sir_answers.proofs.chart_columns.ColumnLaws.{difference-is}
-use Rattle.plank_core.specs.inner.DenseIndexSet.{contains}
-use mathlib.Core.Bool.{Bool, not, _&&_}
-use native.Mathlib.Omega.{arith}
-use mathlib.Core.Path.{_≡_, refl, sym, ap, _∙_}
 use borrow.Author.Needs.{needs}
+use Rattle.sir_answers.proofs.chart_columns.ColumnLaws.{difference-is}
 use Rattle.sir_answers.proofs.chart_columns.of_series.Statement.{statement}
 use Rattle.sir_answers.proofs.chart_columns.of_series.Tie as tie
 

@@ -1,20 +1,15 @@
 -- `open_columns` meets its contract. The invariant: the owners of the locals before i are open.
-use Rattle.sir_answers.specs.inner.Columns.{inSeries, ownsSome}
 use mathlib.Core.List.{List}
-use Rattle.sir_answers.proofs.chart_columns.ColumnLaws.{opened-next, series-bounds}
-use Rattle.sir_analyses.proofs.allocation_liveness.PointerTables.{allocations-few}
-use Rattle.sir_answers.specs.inner.AllocationPieces.{unmarkedOwner}
-use Rattle.plank_core.specs.laws.Lists.{getD-mem, and-true-left, and-true-right}
-use borrow.Author.Tests.{ltb-true, leb-true}
-use lib.Dec.{ltb, leb}
-use lib.Seq.{take-all}
-use lib.ListN.{length-set}
-use Rattle.sir_answers.specs.inner.Columns.{ownsSome}
-use lib.ListN.{length, getD, take}
-use mathlib.Core.Bool.{Bool, true, false, not, _&&_, cond}
+use mathlib.Core.Bool.{true, cond}
+use mathlib.Core.Path.{_≡_, refl, sym, ap, _∙_}
 use Prim.Native.Nat.{ℕ, _+_, _-_, _*_, _≤_, _<_}
 use native.Mathlib.Omega.{arith}
-use mathlib.Core.Path.{_≡_, refl, sym, ap, _∙_}
+use lib.Seq.{take-all}
+use lib.ListN.{length-set, length, getD, take}
+use Rattle.plank_core.specs.laws.Lists.{getD-mem}
+use Rattle.sir_analyses.proofs.allocation_liveness.PointerTables.{allocations-few}
+use Rattle.sir_answers.specs.inner.Columns.{inSeries, ownsSome}
+use Rattle.sir_answers.proofs.chart_columns.ColumnLaws.{opened-next, series-bounds}
 use Rattle.sir_answers.proofs.chart_columns.open_columns.Statement.{statement}
 use Rattle.sir_answers.proofs.chart_columns.open_columns.Tie as tie
 

@@ -1,16 +1,14 @@
 -- `other_locals` meets its contract. The invariant: the set has those of the locals before v that are not of the series.
 use mathlib.Core.Bool.{Bool, true, false, not, _&&_}
+use mathlib.Core.Path.{_≡_, sym, ap, _∙_}
+use Prim.Native.Nat.{ℕ, _+_, _-_, _*_, _≤_}
+use native.Mathlib.Omega.{arith}
+use lib.ListN.{length}
 use borrow.Author.Tests.{lt-ltb}
-use lib.Dec.{ltb}
-use Rattle.sir_answers.specs.inner.Columns.{inSeries, OtherLocals}
-use Rattle.sir_answers.specs.inner.Columns.{inSeries}
-use Rattle.sir_answers.specs.inner.AllocationPieces.{unmarkedOwner}
 use Rattle.sir_analyses.proofs.allocation_liveness.PointerTables.{allocations-few}
 use Rattle.sir_analyses.proofs.allocation_answers.AllocationWords.{Below, below-none, below-more, below-on}
-use lib.ListN.{length}
-use Prim.Native.Nat.{ℕ, _+_, _-_, _*_, _≤_, _<_}
-use native.Mathlib.Omega.{arith}
-use mathlib.Core.Path.{_≡_, refl, sym, ap, _∙_}
+use Rattle.sir_answers.specs.inner.Columns.{inSeries}
+use Rattle.sir_answers.specs.inner.AllocationPieces.{unmarkedOwner}
 use Rattle.sir_answers.proofs.chart_columns.other_locals.Statement.{statement}
 use Rattle.sir_answers.proofs.chart_columns.other_locals.Tie as tie
 

@@ -1,9 +1,9 @@
 -- `update_columns` meets its contract.
-use Rattle.sir_answers.specs.inner.Columns.{Columns}
-use Prim.Native.Nat.{ℕ}
 use mathlib.Core.List.{List}
-use mathlib.Core.Path.{_≡_, refl, sym, subst}
+use mathlib.Core.Path.{refl, sym, subst}
+use Prim.Native.Nat.{ℕ}
 use borrow.Author.Needs.{needs}
+use Rattle.sir_answers.specs.inner.Columns.{Columns}
 use Rattle.sir_answers.proofs.chart_columns.update_columns.Statement.{statement}
 use Rattle.sir_answers.proofs.chart_columns.update_columns.Tie as tie
 
@@ -13,7 +13,9 @@ is-same-requires c κs = search needs
 returns : tie.Need-returns
 returns c =
     let at-is-same = c .before in
-    let start = at-is-same .before .before .before .before .before .before .before .before .before in
+    let at-kept = at-is-same .before .before .before in
+    let at-set = at-kept .before .before .before in
+    let start = at-set .before .before .before in
     let a = start .args in
     (refl, subst (λ (ws : List ℕ). Columns (a .pointers .now) (a .series) ws (a .columns .now)) (sym (at-is-same .is-same .ensures (c .if1 .taken))) (start .pre .1 .0 .1))
 

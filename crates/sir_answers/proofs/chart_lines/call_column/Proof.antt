@@ -1,5 +1,5 @@
 -- `call_column` meets its contract.
-use mathlib.Core.Path.{_≡_, refl, sym, ap, _∙_}
+use mathlib.Core.Path.{refl, sym, _∙_}
 use borrow.Author.Needs.{needs}
 use Rattle.sir_answers.proofs.chart_lines.call_column.Statement.{statement}
 use Rattle.sir_answers.proofs.chart_lines.call_column.Tie as tie

@@ -1,7 +1,7 @@
 -- `digit_for` meets its contract.
-use borrow.Author.Tests.{lt-ltb, le-ltb}
-use native.Mathlib.Omega.{arith}
 use mathlib.Core.Path.{refl}
+use native.Mathlib.Omega.{arith}
+use borrow.Author.Tests.{lt-ltb, le-ltb}
 use borrow.Author.Needs.{needs}
 use Rattle.sir_answers.proofs.chart_lines.digit_for.Statement.{statement}
 use Rattle.sir_answers.proofs.chart_lines.digit_for.Tie as tie

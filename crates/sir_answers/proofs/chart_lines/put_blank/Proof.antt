@@ -1,12 +1,12 @@
 -- `put_blank` meets its contract.
-use Rattle.sir_analyses.proofs.claims.chart.Lines.{blank-spaces}
-use Rattle.plank_core.specs.laws.Putting.{put-then, put-whole}
-use lib.ListN.{length-replicate}
-use Prim.Native.Nat.{ℕ}
 use mathlib.Core.List.{List, [], _∷_, _++_}
+use mathlib.Core.Path.{sym, ap, _∙_}
+use Prim.Native.Nat.{ℕ}
 use native.Mathlib.Omega.{arith}
-use mathlib.Core.Path.{_≡_, refl, sym, ap, _∙_}
+use lib.ListN.{length-replicate}
 use borrow.Author.Needs.{needs}
+use Rattle.plank_core.specs.laws.Putting.{put-then, put-whole}
+use Rattle.sir_analyses.proofs.claims.chart.Lines.{blank-spaces}
 use Rattle.sir_answers.proofs.chart_lines.put_blank.Statement.{statement}
 use Rattle.sir_answers.proofs.chart_lines.put_blank.Tie as tie
 

@@ -1,16 +1,13 @@
 -- `put_blanks` meets its contract. The invariant: blank lines stand before `at`, and the rest is as it was.
-use borrow.Rule.Slice.PartMut.{same-len-mid}
-use mathlib.Core.List.{append-nil}
-use lib.Seq.{length-take-le}
-use lib.ListN.{take}
-use Rattle.sir_answers.proofs.chart_lines.LineTexts.{blanks-more, fill-next}
-use Rattle.sir_analyses.specs.Chart.{blankLine, textOf}
+use mathlib.Core.List.{append-nil, List, [], _∷_, _++_}
+use mathlib.Core.Path.{_≡_, refl, sym, ap, _∙_}
+use Prim.Native.Nat.{ℕ, _+_, _-_, _*_, _/_, _≤_}
+use native.Mathlib.Omega.{arith}
 use lib.Seq.{drop-length}
 use lib.ListN.{length, drop, replicate}
-use Prim.Native.Nat.{ℕ, _+_, _-_, _*_, _/_, _≤_}
-use mathlib.Core.List.{List, [], _∷_, _++_}
-use native.Mathlib.Omega.{arith}
-use mathlib.Core.Path.{_≡_, refl, sym, ap, _∙_}
+use borrow.Rule.Slice.PartMut.{same-len-mid}
+use Rattle.sir_analyses.specs.Chart.{blankLine, textOf}
+use Rattle.sir_answers.proofs.chart_lines.LineTexts.{blanks-more, fill-next}
 use Rattle.sir_answers.proofs.chart_lines.put_blanks.Statement.{statement}
 use Rattle.sir_answers.proofs.chart_lines.put_blanks.Tie as tie
 

@@ -1,14 +1,13 @@
 -- `put_heading` meets its contract.
-use Rattle.sir_answers.proofs.chart_lines.LineTexts.{heading-fed}
+use mathlib.Core.Path.{_≡_}
+use Prim.Native.Nat.{ℕ, _+_, _-_}
+use native.Mathlib.Omega.{arith}
+use lib.ListN.{length, length-replicate}
+use borrow.Author.Needs.{needs}
 use Rattle.plank_core.specs.laws.Putting.{put-as, put-then, put-whole}
 use Rattle.plank_core.specs.laws.Text.{number-short}
 use Rattle.plank_core.specs.Text.{number}
-use lib.ListN.{length, length-replicate}
-use Prim.Native.Nat.{ℕ, _+_, _-_}
-use mathlib.Core.List.{List, [], _∷_, _++_}
-use native.Mathlib.Omega.{arith}
-use mathlib.Core.Path.{_≡_, refl, sym, ap, _∙_}
-use borrow.Author.Needs.{needs}
+use Rattle.sir_answers.proofs.chart_lines.LineTexts.{heading-fed}
 use Rattle.sir_answers.proofs.chart_lines.put_heading.Statement.{statement}
 use Rattle.sir_answers.proofs.chart_lines.put_heading.Tie as tie
 

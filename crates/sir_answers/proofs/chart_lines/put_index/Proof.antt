@@ -1,12 +1,11 @@
 -- `put_index` meets its contract.
-use Rattle.sir_answers.proofs.chart_lines.IndexDigits.{index-digits}
-use Rattle.sir_analyses.specs.Chart.{index}
-use Rattle.plank_core.specs.laws.Putting.{put-as, put-then}
+use mathlib.Core.List.{[], _∷_}
+use mathlib.Core.Path.{_≡_, sym}
 use Prim.Native.Nat.{_+_, _%_}
-use mathlib.Core.List.{List, [], _∷_}
-use native.Mathlib.Omega.{arith}
-use mathlib.Core.Path.{_≡_, refl, sym, ap, _∙_}
 use borrow.Author.Needs.{needs}
+use Rattle.plank_core.specs.laws.Putting.{put-as, put-then}
+use Rattle.sir_analyses.specs.Chart.{index}
+use Rattle.sir_answers.proofs.chart_lines.IndexDigits.{index-digits}
 use Rattle.sir_answers.proofs.chart_lines.put_index.Statement.{statement}
 use Rattle.sir_answers.proofs.chart_lines.put_index.Tie as tie
 

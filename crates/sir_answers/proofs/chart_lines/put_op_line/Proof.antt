@@ -1,16 +1,15 @@
 -- `put_op_line` meets its contract.
-use Rattle.sir_answers.specs.inner.Columns.{lineWith}
-use Rattle.sir_answers.proofs.chart_lines.LineTexts.{line-fed, line-fed-length}
+use mathlib.Core.List.{[], _∷_, _++_}
+use mathlib.Core.Path.{_≡_, sym, _∙_}
+use Prim.Native.Nat.{_<_}
+use native.Mathlib.Omega.{arith}
+use borrow.Author.Needs.{needs}
+use Rattle.plank_core.specs.laws.Putting.{put-as, put-then, put-whole}
 use Rattle.sir_analyses.proofs.claims.chart.Lines.{index-long}
 use Rattle.sir_analyses.proofs.claims.chart.Numbers.{number-five}
 use Rattle.sir_analyses.specs.Chart.{index}
-use Rattle.plank_core.specs.laws.Putting.{put-as, put-then, put-whole}
-use lib.ListN.{length}
-use Prim.Native.Nat.{ℕ, _<_}
-use mathlib.Core.List.{List, [], _∷_, _++_}
-use native.Mathlib.Omega.{arith}
-use mathlib.Core.Path.{_≡_, refl, sym, ap, _∙_}
-use borrow.Author.Needs.{needs}
+use Rattle.sir_answers.specs.inner.Columns.{lineWith}
+use Rattle.sir_answers.proofs.chart_lines.LineTexts.{line-fed, line-fed-length}
 use Rattle.sir_answers.proofs.chart_lines.put_op_line.Statement.{statement}
 use Rattle.sir_answers.proofs.chart_lines.put_op_line.Tie as tie
 

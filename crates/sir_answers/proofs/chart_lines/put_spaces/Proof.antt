@@ -1,12 +1,12 @@
 -- `put_spaces` meets its contract. The invariant: k spaces are put.
-use lib.ListN.{length-replicate}
-use Rattle.sir_answers.proofs.chart_lines.LineTexts.{spaces-more}
-use Rattle.plank_core.specs.laws.Putting.{put-as, put-nothing, put-then}
-use Rattle.sir_analyses.specs.Chart.{spaces}
-use Rattle.plank_core.specs.inner.Putting.{Put}
-use Prim.Native.Nat.{ℕ, _+_, _-_, _*_, _≤_, _<_}
+use mathlib.Core.Path.{_≡_}
+use Prim.Native.Nat.{ℕ, _-_, _≤_}
 use native.Mathlib.Omega.{arith}
-use mathlib.Core.Path.{_≡_, refl, sym, ap, _∙_}
+use lib.ListN.{length-replicate}
+use Rattle.plank_core.specs.laws.Putting.{put-as, put-nothing, put-then}
+use Rattle.plank_core.specs.inner.Putting.{Put}
+use Rattle.sir_analyses.specs.Chart.{spaces}
+use Rattle.sir_answers.proofs.chart_lines.LineTexts.{spaces-more}
 use Rattle.sir_answers.proofs.chart_lines.put_spaces.Statement.{statement}
 use Rattle.sir_answers.proofs.chart_lines.put_spaces.Tie as tie
 
