@@ -1,4 +1,6 @@
 // Prints the chart of the image on standard input; or, where arguments name files, the name and the chart of each.
+#![tactic(auto)]
+
 mod printing;
 
 use crate::printing::chart;

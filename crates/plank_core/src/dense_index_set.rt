@@ -3,7 +3,7 @@
 ghost use Rattle.std.specs.Prelude.{◌≡◌, ◌++◌, ◌≤◌, length, drop};
 ghost use Rattle.plank_core.specs.inner.DenseIndexSet.{is_empty, meets, members};
 
-#[derive(Drop)]
+#[derive(Clone, Copy)]
 pub struct DenseIndexSet {
     pub words: [u64; 8],
 }

@@ -1,15 +1,15 @@
 // Numbers of different kinds are different types, as the source's `Idx` ids are.
-#[derive(Drop)]
+#[derive(Clone, Copy)]
 pub struct BlockId(pub u32);
 
-#[derive(Drop)]
+#[derive(Clone, Copy)]
 pub struct LocalId(pub u32);
 
-#[derive(Drop)]
+#[derive(Clone, Copy)]
 pub struct OpIdx(pub u32);
 
-#[derive(Drop)]
+#[derive(Clone, Copy)]
 pub struct AllocId(pub u32);
 
-#[derive(Drop)]
+#[derive(Clone, Copy)]
 pub struct FunctionId(pub u32);

@@ -1,5 +1,7 @@
 // Prints, for each image that its arguments name, the name and the number of the first rule of 1 to 11 that it breaks,
 // or 0.
+#![tactic(auto)]
+
 use libc::STDOUT_FILENO;
 
 // The most that is read of a file. It is more than an image may have, so a longer file is still seen as too long.

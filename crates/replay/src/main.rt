@@ -4,6 +4,8 @@
 // A file is made of little-endian words and bytes: the image's length and the number of questions; the image; then for
 // each question its number, how many ids it has, the ids, the length of the result slice, the number and the length that
 // the call is to give, and the bytes that the slice is to hold after it.
+#![tactic(auto)]
+
 mod questions;
 
 ghost use Rattle.std.specs.Prelude.{◌≡◌, ◌≤◌, length};

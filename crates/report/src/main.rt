@@ -1,4 +1,6 @@
 // Prints the report of the image on standard input.
+#![tactic(auto)]
+
 use libc::STDIN_FILENO;
 use report_lines::report;
 

@@ -1,4 +1,6 @@
 // The report of an image: its text line by line, and the program's work but for reading.
+#![tactic(auto)]
+
 pub mod counting;
 pub mod lines;
 pub mod printing;

@@ -1,4 +1,6 @@
 // Prints the name and the report of each image that its arguments name.
+#![tactic(auto)]
+
 use libc::STDOUT_FILENO;
 use report_lines::report;
 

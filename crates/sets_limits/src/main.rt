@@ -1,4 +1,6 @@
 // Sets and rows of sets at their limits; what is printed is held to the file stdout.
+#![tactic(auto)]
+
 ghost use Rattle.std.specs.Prelude.{◌≡◌, ◌+◌, ◌*◌, ◌≤◌, ◌<◌, length};
 
 use libc::STDOUT_FILENO;

@@ -62,7 +62,7 @@ pub fn find_allocations(words: &[u32], visit: &[u32], sites: &mut [u32]) -> usiz
 }
 
 // Where an allocation stands.
-#[derive(Drop)]
+#[derive(Clone, Copy)]
 pub struct AllocSite {
     pub block: BlockId,
     pub op: OpIdx,
@@ -140,7 +140,7 @@ const RETURN_FLAG: u32 = 2;
 const MEETING_FLAG: u32 = 4;
 
 // What linking a local to an allocation tells: nobody had the local, the allocation had it before, or another did.
-#[derive(Drop)]
+#[derive(Clone, Copy)]
 pub enum Found {
     First,
     Before,

@@ -15,7 +15,7 @@ use sir_data::codes::is_dynamic_alloc;
 use sir_data::records::{op_inputs, op_word};
 
 // How an allocation gets its size: given, with a static id, or by a local.
-#[derive(Drop)]
+#[derive(Clone, Copy)]
 pub enum AllocKind {
     Static(u32, u32),
     Dynamic(LocalId),
@@ -36,7 +36,7 @@ pub fn alloc_kind(words: &[u32], o: OpIdx) -> AllocKind
 }
 
 // A kind as the three words of a record.
-#[derive(Drop)]
+#[derive(Clone, Copy)]
 pub struct KindWords {
     pub kind: u32,
     pub size: u32,
@@ -67,7 +67,7 @@ fn mark_of(flags: u32) -> u32
 }
 
 // The first nine words of an allocation's record.
-#[derive(Drop)]
+#[derive(Clone, Copy)]
 pub struct AllocHead {
     pub words: [u32; 9],
 }

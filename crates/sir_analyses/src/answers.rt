@@ -53,7 +53,7 @@ pub fn put_triple(out: &mut [u8], n: usize, a: u32, b: u32, c: u32) -> usize
 }
 
 #[repr(C)]
-#[derive(Drop)]
+#[derive(Clone, Copy)]
 pub struct Answer {
     pub number: u32,
     pub length: u64,

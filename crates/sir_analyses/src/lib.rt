@@ -1,4 +1,6 @@
 // Layer 3: the analyses of the source's files, in stages, and what is read from them.
+#![tactic(auto)]
+
 pub mod allocation_answers;
 pub mod allocation_liveness;
 pub mod allocation_words;

@@ -8,7 +8,7 @@ use crate::reverse_post_order::compute_visit;
 use sir_data::image::read_image;
 
 // The refusal of the image, or 0 and how many words, finished functions and blocks, and allocations stand in the arrays.
-#[derive(Drop)]
+#[derive(Clone, Copy)]
 pub struct Sizes {
     pub number: u32,
     pub words: usize,

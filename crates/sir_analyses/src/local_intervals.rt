@@ -21,7 +21,7 @@ pub const BLOCK_END: u32 = 4294967295;
 pub const RUN: usize = 3075;
 
 // The end that is open before an operation, and the end of the interval that it closes; 0 where there is none.
-#[derive(Drop)]
+#[derive(Clone, Copy)]
 pub struct Scanned {
     pub till: u32,
     pub closed: u32,

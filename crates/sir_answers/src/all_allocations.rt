@@ -64,7 +64,7 @@ fn live_owners<'a>(owned: &'a [u64], set: &'a [u64], ids: &mut [u32]) -> usize
 }
 
 // The owners of some locals in two rows: those with a live local, and those with none.
-#[derive(Drop)]
+#[derive(Clone, Copy)]
 pub struct Split {
     pub words: [u64; 16],
 }

@@ -72,7 +72,7 @@ fn first_common<'a>(
 }
 
 // The words of an answer on two allocations: 1 or 0, block + 1, operation + 1.
-#[derive(Drop)]
+#[derive(Clone, Copy)]
 pub struct Crossing {
     pub words: [u32; 3],
 }

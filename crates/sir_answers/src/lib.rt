@@ -1,4 +1,6 @@
 // The questions that can be put to an image, about one id or for all, each a reader of stages; and images taken apart and put together.
+#![tactic(auto)]
+
 pub mod all_allocations;
 pub mod all_intervals;
 pub mod all_predecessors;

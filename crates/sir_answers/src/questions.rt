@@ -10,7 +10,7 @@ ghost use Rattle.sir_answers.specs.inner.Questions.{own_rules};
 use plank_core::index::{AllocId, BlockId, LocalId, OpIdx};
 use sir_data::records::{block_count, block_operations, local_count, operation_count};
 
-#[derive(Drop)]
+#[derive(Clone, Copy)]
 pub enum OrderQuestion {
     Order,
     Predecessors(BlockId),
@@ -19,7 +19,7 @@ pub enum OrderQuestion {
     AllUses,
 }
 
-#[derive(Drop)]
+#[derive(Clone, Copy)]
 pub enum LiveQuestion {
     EntrySet(BlockId),
     ExitSet(BlockId),
@@ -30,7 +30,7 @@ pub enum LiveQuestion {
     AllIntervals,
 }
 
-#[derive(Drop)]
+#[derive(Clone, Copy)]
 pub enum PointerQuestion {
     Allocation(AllocId),
     Owner(LocalId),
@@ -40,7 +40,7 @@ pub enum PointerQuestion {
     Crossing(AllocId, AllocId),
 }
 
-#[derive(Drop)]
+#[derive(Clone, Copy)]
 pub enum Question {
     OfOrder(OrderQuestion),
     OfLiveness(LiveQuestion),

@@ -10,6 +10,8 @@
 // The last two take an image apart and put one together. `sir_records` is asked like a question. `sir_write` takes lent records in
 // the place of an image; its first promise, `written`, is a call like the others, with the rules of lent records and their pages. What
 // they promise beside the outcome are the claims of `WriteBack`, on the image that is taken apart and on the records that are lent.
+#![tactic(auto)]
+
 ghost use Rattle.std.specs.Prelude.{◌≡◌, length};
 ghost use Rattle.sir_data.specs.Pages.{payload};
 ghost use Rattle.sir_data.specs.Records.{blocks, locals};

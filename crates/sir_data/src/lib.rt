@@ -1,4 +1,6 @@
 // Layer 2: the image.
+#![tactic(auto)]
+
 mod block_rules;
 mod bounds;
 pub mod codes;

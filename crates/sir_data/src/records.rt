@@ -8,7 +8,7 @@ use plank_core::index::{BlockId, FunctionId, LocalId, OpIdx};
 use plank_core::span::Span;
 
 // The local that a block's control tests, if it tests one.
-#[derive(Drop)]
+#[derive(Clone, Copy)]
 pub enum Tested {
     Local(LocalId),
     Nothing,

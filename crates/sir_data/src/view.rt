@@ -11,7 +11,7 @@ use crate::records::Tested;
 use plank_core::index::BlockId;
 use plank_core::span::Span;
 
-#[derive(Drop)]
+#[derive(Clone, Copy)]
 pub struct BlockView<'a> {
     pub words: &'a [u32],
     pub block: BlockId,

@@ -1,0 +1,30 @@
+-- `len` meets its contract. The invariant: what is counted and the members in the words to come are all members.
+use mathlib.Core.Path.{◌≡◌, ap, ◌∙◌}
+use Prim.Native.Nat.{◌-◌}
+use native.Mathlib.Nat.{zero-add}
+use native.Mathlib.Omega.{arith}
+use lib.ListN.{length}
+use lib.Count.{ones-le}
+use Rattle.plank_core.specs.laws.Members.{from, from_start, from_end, from_length, members_most}
+use Rattle.plank_core.proofs.dense_index_set.len.Goals as goal
+
+pub loop-k-init : goal.loop-k-init
+loop-k-init c = (omega arith, zero-add _ ∙ ap length (from_start _))
+
+pub overflow_cast-n : goal.overflow_cast-n
+overflow_cast-n c = omega (arith, ones-le 64 _ (c.type_inv.set c.loop-k.k).fits)
+
+pub overflow_add-n : goal.overflow_add-n
+overflow_add-n c = let l = c.loop-k in omega (arith, members_most c.args.set.now, l.invariant.1, ones-le 64 _ (c.type_inv.set l.k).fits)
+
+pub loop-k-preserved : goal.loop-k-preserved
+loop-k-preserved c =
+    let l = c.loop-k in
+    (omega arith, omega (arith, l.invariant.1, from_length c.args.set.now l.k c.loop-k-test.true (c.type_inv.set l.k).fits))
+
+pub returns : goal.returns
+returns c =
+    let l = c.loop-k in
+    let e : l.k ≡ 8 = omega arith in
+    let none = ap length (ap (from c.args.set.now) e ∙ from_end c.args.set.now) in
+    omega (arith, l.invariant.1, none)

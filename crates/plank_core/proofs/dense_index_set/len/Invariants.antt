@@ -1,0 +1,13 @@
+-- `len` meets its contract. The invariant: what is counted and the members in the words to come are all members.
+use mathlib.Core.Path.{◌≡◌}
+use Prim.Native.Nat.{◌+◌, ◌-◌, ◌≤◌}
+use lib.ListN.{length}
+use Rattle.plank_core.specs.inner.DenseIndexSet.{members}
+use Rattle.plank_core.specs.laws.Members.{from}
+use Rattle.plank_core.proofs.dense_index_set.len.Given as goal
+
+abbrev pub invariant-loop-k : goal.invariant-loop-k
+invariant-loop-k l = (l.k ≤ 8) × (l.n + length (from l.set l.k) ≡ length (members l.set))
+
+abbrev pub decreases-loop-k : goal.decreases-loop-k
+decreases-loop-k l = 8 - l.k
