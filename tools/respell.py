@@ -119,9 +119,9 @@ def main():
                 return t
             before = text[: m.start()]
             if before.endswith(".") and not before.endswith(".."):
-                if re.search(r"\btie\.$", before):
-                    return t
-                if t not in fields:
+                # behind a module, a name; behind `tie`, what the toolchain makes; else a field
+                module = re.search(r"(?<![\w.])[A-Z]\w*\.$", before)
+                if not module and (re.search(r"\btie\.$", before) or t not in fields):
                     return t
             if "-" in t and not is_antt:
                 line = before[before.rfind("\n") + 1:]

@@ -38,7 +38,7 @@ page_rule s bytes = (λ kept. let range = pages_range s kept in (pages_back s by
 
 pub written_back : (s : List ℕ) → Bytes s → refusal s ≡ 0 → WrittenBack s
 written_back s bytes z =
-    let taken : lent_refusal (record_bytes s) ≡ 0 = L.written-well later s bytes z in
+    let taken : lent_refusal (record_bytes s) ≡ 0 = L.written_well later s bytes z in
     let same : pages_of (words_of (record_bytes s)) ≡ s = L.written_back later s bytes z in
     record {
       taken = taken;
@@ -55,6 +55,6 @@ read_back r bytes z =
       taken = taken;
       same = same;
       records_are = λ out. sym (image_accepted no_rules (in_words records_of) s out taken) ∙ ap (λ (t : List ℕ). answered t out) same;
-      size = L.pages-few later r z;
-      answers = λ own answer out. sym (image_accepted own answer s out taken) ∙ ap (λ (w : List ℕ). call (own w) (answer w) out) (L.lent-payload later r z bytes);
+      size = L.pages_few later r z;
+      answers = λ own answer out. sym (image_accepted own answer s out taken) ∙ ap (λ (w : List ℕ). call (own w) (answer w) out) (L.lent_payload later r z bytes);
     }

@@ -48,8 +48,8 @@ same_members ws s l h = keep_below (contains ws) (has s) (length s) 512 l (λ i 
 -- ---- the sets of a block
 
 module _ {w : List ℕ} (good : WellFormed w) (b : ℕ) (l : b < blocks w) (exits : List ℕ) (rows : SameRows exits (settled w).1 (blocks w)) where
-  pub exit_members : Words.members (Words.rowOf exits b) ≡ exit_answer w b
-  exit_members = same_members (Words.rowOf exits b) (exit_set w b) (omega (arith, exit_size w good b l, good.sized.locals_most)) (λ v h. contains_row exits b v h ∙ rows b v l h)
+  pub exit_members : Words.members (Words.row_of exits b) ≡ exit_answer w b
+  exit_members = same_members (Words.row_of exits b) (exit_set w b) (omega (arith, exit_size w good b l, good.sized.locals_most)) (λ v h. contains_row exits b v h ∙ rows b v l h)
 
   pub entry_members : (ws : List ℕ) {uses defs : List ℕ} → BlockRows w uses defs → EntryWords uses defs exits b ws → Words.members ws ≡ members (entry_from w b (exit_set w b))
   entry_members ws blockRows words =
@@ -72,7 +72,7 @@ module _ {w : List ℕ} (good : WellFormed w) {uses defs exits : List ℕ} (t : 
   pub exit_row_fits : {table : List ℕ} → table ≡ exits → 8 * b + 8 ≤ length table
   exit_row_fits e = omega (arith, ap length e, t.exits_long, good.sized.blocks_most)
 
-  pub row_answer : {set : List ℕ} → set ≡ Words.rowOf exits b → (length set ≡ 8) × (Words.members set ≡ exit_answer w b)
+  pub row_answer : {set : List ℕ} → set ≡ Words.row_of exits b → (length set ≡ 8) × (Words.members set ≡ exit_answer w b)
   row_answer e = (ap length e ∙ length_row exits b (omega (arith, t.exits_long, good.sized.blocks_most)), ap Words.members e ∙ t.exit_is b l)
 
 -- an unvisited block has an empty entry set

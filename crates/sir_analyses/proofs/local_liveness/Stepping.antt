@@ -222,28 +222,28 @@ set_fits s h = omega arith
 pub block_small : {w : List ℕ} → WellFormed w → {b : ℕ} → b < blocks w → b < 256
 block_small good l = omega (arith, good.sized.blocks_most)
 
-pub unsent : {uses defs exits sent new : List ℕ} {b : ℕ} (ent : List ℕ) → length ent ≡ 8 → EntryWords uses defs exits b ent → new ≡ row_difference ent 0 (Words.rowOf sent b)
+pub unsent : {uses defs exits sent new : List ℕ} {b : ℕ} (ent : List ℕ) → length ent ≡ 8 → EntryWords uses defs exits b ent → new ≡ row_difference ent 0 (Words.row_of sent b)
     → (length new ≡ 8) × Unsent uses defs exits sent b new
 unsent {sent = sent} {b = b} ent l ws e = (
-  ap length e ∙ length_difference ent 0 (Words.rowOf sent b) ∙ l,
+  ap length e ∙ length_difference ent 0 (Words.row_of sent b) ∙ l,
   record {
     entry = ent;
     entry_words = ws;
-    fresh = λ v h. ap (λ (ws : List ℕ). contains ws v) e ∙ set_difference ent (Words.rowOf sent b) v h (omega arith) ∙ ap (λ (t : Bool). contains ent v && not t) (contains_row sent b v h);
+    fresh = λ v h. ap (λ (ws : List ℕ). contains ws v) e ∙ set_difference ent (Words.row_of sent b) v h (omega arith) ∙ ap (λ (t : Bool). contains ent v && not t) (contains_row sent b v h);
   },
 )
 
 -- the members of a row of predecessors are the predecessors
-pub preds_listed : {w : List ℕ} → WellFormed w → (b : ℕ) → b < blocks w → {preds : List ℕ} → PredecessorRows w preds → (q : ℕ) → mem q (Words.members (Words.rowOf preds b)) ≡ mem q (predecessors w b)
-preds_listed {w} good b l {preds} rows q = same_tests (mem q (Words.members (Words.rowOf preds b))) (mem q (predecessors w b))
+pub preds_listed : {w : List ℕ} → WellFormed w → (b : ℕ) → b < blocks w → {preds : List ℕ} → PredecessorRows w preds → (q : ℕ) → mem q (Words.members (Words.row_of preds b)) ≡ mem q (predecessors w b)
+preds_listed {w} good b l {preds} rows q = same_tests (mem q (Words.members (Words.row_of preds b))) (mem q (predecessors w b))
     (λ t.
-    let r = member_is (Words.rowOf preds b) q (mem_in q (Words.members (Words.rowOf preds b)) t) in
+    let r = member_is (Words.row_of preds b) q (mem_in q (Words.members (Words.row_of preds b)) t) in
     sym (rows.preceded b q l r.0) ∙ sym (contains_row preds b q r.0) ∙ r.1)
     (λ t.
     let h : q < 512 = omega (arith, predecessor_below good q b (mem_in q (predecessors w b) t), good.sized.blocks_most) in
-    in_mem q (member_in (Words.rowOf preds b) q h (contains_row preds b q h ∙ rows.preceded b q l h ∙ t)))
+    in_mem q (member_in (Words.row_of preds b) q h (contains_row preds b q h ∙ rows.preceded b q l h ∙ t)))
 
-module _ {w : List ℕ} (good : WellFormed w) (b : ℕ) (l : b < blocks w) {preds : List ℕ} (rows : PredecessorRows w preds) (p : ℕ) (m : p ∈ Words.members (Words.rowOf preds b)) where
+module _ {w : List ℕ} (good : WellFormed w) (b : ℕ) (l : b < blocks w) {preds : List ℕ} (rows : PredecessorRows w preds) (p : ℕ) (m : p ∈ Words.members (Words.row_of preds b)) where
   listed_in : p ∈ predecessors w b
   listed_in = mem_in p (predecessors w b) (sym (preds_listed good b l rows p) ∙ in_mem p m)
 
@@ -258,7 +258,7 @@ module _ {w : List ℕ} (good : WellFormed w) (b : ℕ) (l : b < blocks w) {pred
 
 -- a set is sent to the listed predecessors
 pub sent_to : {w : List ℕ} → WellFormed w → (b : ℕ) → b < blocks w → {preds : List ℕ} → PredecessorRows w preds → {set passing moved ids exits exits' : List ℕ} {told : Bool}
-    → ids ≡ Words.members (Words.rowOf preds b) → TakenInputs w b set passing moved → Sends (blocks w) exits (λ q i. mem q ids && arrives w passing moved q i) exits' told
+    → ids ≡ Words.members (Words.row_of preds b) → TakenInputs w b set passing moved → Sends (blocks w) exits (λ q i. mem q ids && arrives w passing moved q i) exits' told
     → SentToPredecessors w b set exits exits' told
 sent_to {w} good b l rows {passing = passing} {moved = moved} e parts s = record {
   passing = passing;

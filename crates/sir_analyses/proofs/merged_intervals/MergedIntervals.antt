@@ -49,17 +49,17 @@ three_before run n x y z l h =
 
 module _ (exits ends : List ℕ) (b : ℕ) (v : ℕ) (h : v < 512) where
   -- two rows joined to an empty set
-  pub joined : contains (Words.rowUnion (Words.rowUnion (replicate 8 0) 0 (Words.rowOf exits b)) 0 (Words.rowOf ends b)) v ≡ (contains exits (512 * b + v) || contains ends (512 * b + v))
+  pub joined : contains (Words.row_union (Words.row_union (replicate 8 0) 0 (Words.row_of exits b)) 0 (Words.row_of ends b)) v ≡ (contains exits (512 * b + v) || contains ends (512 * b + v))
   joined =
-      set_union (Words.rowUnion (replicate 8 0) 0 (Words.rowOf exits b)) (Words.rowOf ends b) v h (omega (arith, length_union (replicate 8 0) 0 (Words.rowOf exits b)))
-      ∙ rw (set_union (replicate 8 0) (Words.rowOf exits b) v h (omega arith), contains_cleared 8 v, contains_row exits b v h, contains_row ends b v h)
+      set_union (Words.row_union (replicate 8 0) 0 (Words.row_of exits b)) (Words.row_of ends b) v h (omega (arith, length_union (replicate 8 0) 0 (Words.row_of exits b)))
+      ∙ rw (set_union (replicate 8 0) (Words.row_of exits b) v h (omega arith), contains_cleared 8 v, contains_row exits b v h, contains_row ends b v h)
 
 module _ (reads writes : List ℕ) (o : ℕ) (live : List ℕ) (e : length live ≡ 8) (v : ℕ) (h : v < 512) where
   -- one row taken out of a set, and one joined to it
-  pub exchanged : contains (Words.rowUnion (Words.rowDifference live 0 (Words.rowOf writes o)) 0 (Words.rowOf reads o)) v ≡ ((contains live v && not (contains writes (512 * o + v))) || contains reads (512 * o + v))
+  pub exchanged : contains (Words.row_union (Words.row_difference live 0 (Words.row_of writes o)) 0 (Words.row_of reads o)) v ≡ ((contains live v && not (contains writes (512 * o + v))) || contains reads (512 * o + v))
   exchanged =
-      set_union (Words.rowDifference live 0 (Words.rowOf writes o)) (Words.rowOf reads o) v h (omega (arith, length_difference live 0 (Words.rowOf writes o)))
-      ∙ rw (set_difference live (Words.rowOf writes o) v h (omega arith), contains_row writes o v h, contains_row reads o v h)
+      set_union (Words.row_difference live 0 (Words.row_of writes o)) (Words.row_of reads o) v h (omega (arith, length_difference live 0 (Words.row_of writes o)))
+      ∙ rw (set_difference live (Words.row_of writes o) v h (omega arith), contains_row writes o v h, contains_row reads o v h)
 
 -- have the words a member in common exactly where the sets have one?
 pub meets_live : (reach live : List ℕ) (s x : Set) → length s ≤ 512 → Same reach s → ((v : ℕ) → v < length s → contains live v ≡ has x v) → meets reach live ≡ nonempty (meet s x)

@@ -125,5 +125,5 @@ pub record LiveRows (w uses defs exits : List ℕ) : Type 0 where
   pub exits_long : length exits ≡ 2048
   pub exit_rows : SameRows exits (settled w).1 (blocks w)
   -- the members of the exit sets, and of the entry sets of visited blocks
-  pub exit_is : (b : ℕ) → b < blocks w → Words.members (Words.rowOf exits b) ≡ exit_answer w b
+  pub exit_is : (b : ℕ) → b < blocks w → Words.members (Words.row_of exits b) ≡ exit_answer w b
   pub entry_is : (b : ℕ) → b < blocks w → is_visited w b ≡ true → (ws : List ℕ) → EntryWords uses defs exits b ws → Words.members ws ≡ entry_answer w b

@@ -78,7 +78,7 @@ module _ {r new : List ℕ} {number : ℕ} (k : Lent r new number) where
 
     padded_formed : WellFormed (padded (words_of r))
     padded_formed =
-        formed (padded (words_of r)) (unfit (words_of r)) (L.lent-sized later r none_broken).size
+        formed (padded (words_of r)) (unfit (words_of r)) (L.lent_sized later r none_broken).size
         (first_right ((6, bad_records r) ∷ []) (rules_of (unfit (words_of r)) (padded (words_of r))) refl none_broken)
 
     pub front_formed : WellFormed front

@@ -33,11 +33,11 @@ module _ (r : List ℕ) (some : 36 ≤ length r) where
         ∙ words_at front i (omega (arith, front_length)) ∙ front_word i h ∙ sym (padded_word (words_of r) i ∙ words_at r i (omega arith))
 
     pub head_rules_lem : head_rules head ≡ head_rules (padded (words_of r))
-    head_rules_lem = L.head-same head (padded (words_of r)) head_word
+    head_rules_lem = L.head_same head (padded (words_of r)) head_word
 
     pub head_count : word_count head ≡ word_count (words_of r)
     head_count =
-        rw (head_word 1 (omega arith), head_word 2 (omega arith), head_word 3 (omega arith), head_word 4 (omega arith), head_word 5 (omega arith)) (L.padded-count (words_of r))
+        rw (head_word 1 (omega arith), head_word 2 (omega arith), head_word 3 (omega arith), head_word 4 (omega arith), head_word 5 (omega arith)) (L.padded_count (words_of r))
 
   module _ (whole : length r % 4 ≡ 0) where
     abbrev head_asked : List (ℕ × Bool)
@@ -94,7 +94,7 @@ module _ (r : List ℕ) where
 
       pub front_sized : Sized (take (126 * pages_for (length r / 4)) new)
       front_sized =
-          subst Sized (sym front_is) (L.lent-sized (λ w. []) r passed)
+          subst Sized (sym front_is) (L.lent_sized (λ w. []) r passed)
 
       pub read : {number : ℕ} → number ≡ first (field_rules (take (126 * pages_for (length r / 4)) new) ++ operand_rules (take (126 * pages_for (length r / 4)) new)) → Lent r new number
       read e = record {

@@ -145,7 +145,7 @@ module _ (w : List ℕ) (good : WellFormed w) (twelve : rule12 w ≡ false) (lin
       let J = runs_meetings less I R in
       let r = (J.mine v (rw e (Memᴰ.head refl))).1 in
       let l = reached_less w good less r in
-      Marking.followed w harmless J e (Marking.follow-step w good harmless (Marking.popped w harmless J e) less r (links v) (links_next l) false (λ k. k)) (next_links l) refl
+      Marking.followed w harmless J e (Marking.follow_step w good harmless (Marking.popped w harmless J e) less r (links v) (links_next l) false (λ k. k)) (next_links l) refl
 
   -- after k allocations the bases of the other j are still to be followed
   phases : {k : ℕ} {m : Machine} (j : ℕ) → Followed w links used k m → k + j ≡ n → (b : ℕ) × Inv w harmless b m.state (map (base_of w) (count k j)) × (m.state.work ≡ [])
@@ -167,7 +167,7 @@ module _ (w : List ℕ) (good : WellFormed w) (twelve : rule12 w ≡ false) (lin
       let f = J.works v (rw e (Memᴰ.head refl)) in
       let l = onward_less w good less f in
       Owning.followed w o (base_of w a) a
-      (Owning.follow-step w o (base_of w a) a f (links v) false (record { owner = t.state.owner; marks = t.state.marks; work = vs }) (Owning.popped w o (base_of w a) a J e) (λ x m. let k = links_next l x m in (k, next_less w good v x k)))
+      (Owning.follow_step w o (base_of w a) a f (links v) false (record { owner = t.state.owner; marks = t.state.marks; work = vs }) (Owning.popped w o (base_of w a) a J e) (λ x m. let k = links_next l x m in (k, next_less w good v x k)))
       (next_links l)
 
   -- only what the work list comes to is followed
@@ -208,7 +208,7 @@ module _ (w : List ℕ) (good : WellFormed w) (twelve : rule12 w ≡ false) (lin
         followed : {x : ℕ} → Owning.Onward w o (base_of w a) x → x ∈ trail P.runs
         followed {x} (Owning.itself q) = past (Q.pending x (inl q))
         followed {x} (Owning.onwards f k z) =
-            let y : get_or m'.state.owner x 0 ≡ suc a = ap (λ (o : List ℕ). get_or o x 0) turn_owners ∙ Owning.turn-takes w good a less o size f k in
+            let y : get_or m'.state.owner x 0 ≡ suc a = ap (λ (o : List ℕ). get_or o x 0) turn_owners ∙ Owning.turn_takes w good a less o size f k in
             past (Q.pending x (inr (z, λ e. omega arith)))
 
     -- what flags the allocation in its turn
@@ -225,12 +225,12 @@ module _ (w : List ℕ) (good : WellFormed w) (twelve : rule12 w ≡ false) (lin
         there t =
             let q = any_out (λ (v : ℕ). used v cause) (trail P.runs) t in
             let f = trail_onward less first P.runs q.1 in
-            any_mem (used_by w cause) (members_in reached q.0 (Owning.onward-reached w good a less o size f)) (sym (same f) ∙ q.2)
+            any_mem (used_by w cause) (members_in reached q.0 (Owning.onward_reached w good a less o size f)) (sym (same f) ∙ q.2)
 
         back : any (used_by w cause) (members reached) ≡ true → any (λ v. used v cause) (trail P.runs) ≡ true
         back t =
             let q = any_out (used_by w cause) (members reached) t in
-            let f = Owning.reached-onward w good a less o size q.0 (members_out reached q.1) in
+            let f = Owning.reached_onward w good a less o size q.0 (members_out reached q.1) in
             any_mem (λ (v : ℕ). used v cause) (onward_trail f) (same f ∙ q.2)
 
   -- ---- all turns
@@ -277,4 +277,4 @@ module _ (w : List ℕ) (good : WellFormed w) (twelve : rule12 w ≡ false) (lin
 
   -- an allocation that is not marked owns exactly its reach
   pub followed_reach : {m : Machine} → Followed w links used (length (allocs w)) m → (a v : ℕ) → a < length (allocs w) → marked w a ≡ false → has (reach w (alloc_at w a)) v ≡ eqb (get_or m.state.owner v 0) (suc a)
-  followed_reach F a v h free = reach_owned w good twelve a v h free ∙ ap (λ (o : List ℕ). eqb (get_or o v 0) (suc a)) (Owning.source-owners w good ∙ sym (followed_owners F))
+  followed_reach F a v h free = reach_owned w good twelve a v h free ∙ ap (λ (o : List ℕ). eqb (get_or o v 0) (suc a)) (Owning.source_owners w good ∙ sym (followed_owners F))
