@@ -1,0 +1,37 @@
+-- `check_records` meets its contract: the head decides, then the fit, then what is after it.
+use Rattle.std.proofs.Common.{◌≡◌, ℕ, Bool, true, false, List, ◌∷◌, ◌++◌, sym, refl, ◌∙◌, rules}
+use Rattle.sir_data.specs.Rules.{rule6, first, head_rules, field_rules, operand_rules}
+use Rattle.sir_data.specs.laws.Rules.{by_later, by_earlier}
+use Rattle.sir_data.specs.laws.WellFormed.{sized, fits}
+use Rattle.sir_data.proofs.rules.check_records.Goals as goal
+
+-- the rules after the head
+abbrev behind : List ℕ → List (ℕ × Bool)
+behind w = (6, rule6 w) ∷ field_rules w ++ operand_rules w
+
+-- past the first test no rule of the head applies
+head_kept : (c : goal.Else-broken-ne0) → first (head_rules c.args.words.now) ≡ 0
+head_kept c = sym c.check_head-broken.ensures ∙ c.if-broken-ne0.false
+
+pub returns-then-broken-ne0 : goal.returns-then-broken-ne0
+returns-then-broken-ne0 c =
+    let w = c.args.words.now in
+    let head = c.check_head-broken.ensures in
+    head ∙ sym (by_earlier (head_rules w) (behind w) refl (λ z. c.if-broken-ne0.true (head ∙ z)))
+
+pub returns-then-rule_6 : goal.returns-then-rule_6
+returns-then-rule_6 c =
+    let w = c.args.words.now in
+    let unfit : rule6 w ≡ true = sym c.rule_6.ensures ∙ c.if-rule_6.true in
+    sym (by_later (head_rules w) (behind w) refl (head_kept c.before.before) ∙ simp unfit)
+
+pub check_sized-requires : goal.check_sized-requires
+check_sized-requires c =
+    let w = c.args.words.now in
+    sized w (head_kept c.before.before) (fits w (sym c.rule_6.ensures ∙ c.if-rule_6.false))
+
+pub returns : goal.returns
+returns c =
+    let w = c.args.words.now in
+    let fit : rule6 w ≡ false = sym c.rule_6.ensures ∙ c.if-rule_6.false in
+    c.check_sized.ensures ∙ sym (by_later (head_rules w) (behind w) refl (head_kept c.before.before.before) ∙ simp fit)
