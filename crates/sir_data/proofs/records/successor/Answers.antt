@@ -4,22 +4,6 @@ use Rattle.sir_data.specs.Records.{control, field, successors}
 use Rattle.sir_data.specs.laws.Records.{continue_at, branch_other, is_switch, switch_target, switch_fallback}
 use Rattle.sir_data.proofs.records.successor.Goals as goal
 
--- a block that neither continues nor branches, and has a successor, is a switch
-switched :
-    (c : goal.Else-kind-eq3)
-    → control c.args.words.now c.args.b.0 ≡ 4
-switched c =
-    is_switch c.args.words.now c.args.b.0 c.block_word-kind.ensures c.if-kind-eq2.false c.if-kind-eq3.false c.requires.i_in_bounds
-
--- past the targets of a switch stands its fallback
-fallback :
-    (c : goal.Else-i-block_word)
-    → let w = c.args.words.now in
-    let b = c.args.b.0 in
-    (0 < field w b 3) × (get_or (successors w b) c.args.i 0 ≡ field w b 3 - 1)
-fallback c =
-    switch_fallback c.args.words.now c.args.b.0 (switched c.before.before) c.args.i (rw (← c.block_word-2.ensures) c.if-i-block_word.false) c.requires.i_in_bounds
-
 pub returns-then-kind-eq2 : goal.returns-then-kind-eq2
 returns-then-kind-eq2 c =
     let kind = sym c.block_word-kind.ensures ∙ c.if-kind-eq2.true in
@@ -36,17 +20,21 @@ returns-then-kind-eq3 c =
 pub target-requires : goal.target-requires
 target-requires c =
     let b = c.args.b.0 in
-    let range = c.requires.in_range.switch_range b c.requires.b_bound (switched c.before.before.before) in
+    let range = c.requires.in_range.switch_range b c.requires.b_bound (is_switch c.args.words.now c.args.b.0 c.block_word-kind.ensures c.if-kind-eq2.false c.if-kind-eq3.false c.requires.i_in_bounds) in
     search rules
 
 pub returns-then-i-block_word : goal.returns-then-i-block_word
 returns-then-i-block_word c =
     let w = c.args.words.now in
     let b = c.args.b.0 in
-    c.target.ensures ∙ rw c.block_word-then-i-block_word.ensures (sym (switch_target w b (switched c.before.before.before.before) c.args.i (rw (← c.block_word-2.ensures) c.if-i-block_word.true)))
+    c.target.ensures ∙ rw c.block_word-then-i-block_word.ensures (sym (switch_target w b (is_switch c.args.words.now c.args.b.0 c.block_word-kind.ensures c.if-kind-eq2.false c.if-kind-eq3.false c.requires.i_in_bounds) c.args.i (rw (← c.block_word-2.ensures) c.if-i-block_word.true)))
 
 pub overflow_sub-result : goal.overflow_sub-result
-overflow_sub-result c = omega (arith, fallback c.before)
+overflow_sub-result c =
+    let past = switch_fallback c.args.words.now c.args.b.0 (is_switch c.args.words.now c.args.b.0 c.block_word-kind.ensures c.if-kind-eq2.false c.if-kind-eq3.false c.requires.i_in_bounds) c.args.i (rw (← c.block_word-2.ensures) c.if-i-block_word.false) c.requires.i_in_bounds in
+    omega (arith, past)
 
 pub returns : goal.returns
-returns c = rw c.block_word-3.ensures (sym (fallback c.before).1)
+returns c =
+    let past = switch_fallback c.args.words.now c.args.b.0 (is_switch c.args.words.now c.args.b.0 c.block_word-kind.ensures c.if-kind-eq2.false c.if-kind-eq3.false c.requires.i_in_bounds) c.args.i (rw (← c.block_word-2.ensures) c.if-i-block_word.false) c.requires.i_in_bounds in
+    rw c.block_word-3.ensures (sym past.1)

@@ -9,10 +9,6 @@ use Rattle.sir_data.proofs.rules.check_records.Goals as goal
 abbrev behind : List ℕ → List (ℕ × Bool)
 behind w = (6, rule6 w) ∷ field_rules w ++ operand_rules w
 
--- past the first test no rule of the head applies
-head_kept : (c : goal.Else-broken-ne0) → first (head_rules c.args.words.now) ≡ 0
-head_kept c = sym c.check_head-broken.ensures ∙ c.if-broken-ne0.false
-
 pub returns-then-broken-ne0 : goal.returns-then-broken-ne0
 returns-then-broken-ne0 c =
     let w = c.args.words.now in
@@ -23,15 +19,15 @@ pub returns-then-rule_6 : goal.returns-then-rule_6
 returns-then-rule_6 c =
     let w = c.args.words.now in
     let unfit : rule6 w ≡ true = sym c.rule_6.ensures ∙ c.if-rule_6.true in
-    sym (by_later (head_rules w) (behind w) refl (head_kept c.before.before) ∙ simp unfit)
+    sym (by_later (head_rules w) (behind w) refl (sym c.check_head-broken.ensures ∙ c.if-broken-ne0.false) ∙ simp unfit)
 
 pub check_sized-requires : goal.check_sized-requires
 check_sized-requires c =
     let w = c.args.words.now in
-    sized w (head_kept c.before.before) (fits w (sym c.rule_6.ensures ∙ c.if-rule_6.false))
+    sized w (sym c.check_head-broken.ensures ∙ c.if-broken-ne0.false) (fits w (sym c.rule_6.ensures ∙ c.if-rule_6.false))
 
 pub returns : goal.returns
 returns c =
     let w = c.args.words.now in
     let fit : rule6 w ≡ false = sym c.rule_6.ensures ∙ c.if-rule_6.false in
-    c.check_sized.ensures ∙ sym (by_later (head_rules w) (behind w) refl (head_kept c.before.before.before) ∙ simp fit)
+    c.check_sized.ensures ∙ sym (by_later (head_rules w) (behind w) refl (sym c.check_head-broken.ensures ∙ c.if-broken-ne0.false) ∙ simp fit)
