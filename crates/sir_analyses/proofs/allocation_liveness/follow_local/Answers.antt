@@ -1,0 +1,63 @@
+-- `follow_local` meets its contract. The invariant: the first i of what the local carries on are linked.
+use mathlib.Core.Path.{ap, ◌∙◌}
+use mathlib.Core.List.{List}
+use Prim.Native.Nat.{ℕ, ◌-◌, ◌≤◌, ◌<◌}
+use lib.ListN.{length}
+use Rattle.plank_core.specs.inner.DenseIndexSet.{members, row_of}
+use Rattle.plank_core.specs.laws.DenseIndexSet.{length_row}
+use Rattle.plank_core.specs.laws.Lists.{get_or_mem}
+use Rattle.plank_core.specs.laws.Members.{members_most, member_is}
+use Rattle.sir_analyses.specs.inner.Discovery.{links_in, used_in}
+use Rattle.sir_analyses.proofs.allocation_liveness.Linking.{found_at}
+use Rattle.sir_analyses.proofs.allocation_liveness.PointerTables.{room_after, links_none, links_more, links_flagged}
+use borrow.Author.Rules.{rules}
+use native.Mathlib.Omega.{arith}
+use Rattle.sir_analyses.proofs.allocation_liveness.follow_local.Goals as goal
+
+pub row_of-requires : goal.row_of-requires
+row_of-requires c =
+    omega (arith, c.requires.links_len.0, c.requires.local_bound.0)
+
+pub list-count-requires : goal.list-count-requires
+list-count-requires c =
+    (rw c.row_of.ensures (length_row c.args.links.now c.args.local.0 (omega (arith, c.requires.links_len.0, c.requires.local_bound.0))), search rules)
+
+pub loop-i-init : goal.loop-i-init
+loop-i-init c =
+    (omega arith, c.list-count.ensures.0 ∙ ap (λ (r : List ℕ). length (members r)) c.row_of.ensures, found_at _ c.list-count.ensures.1 c.row_of.ensures, links_none c.requires.pointer_room)
+
+pub offset_bounds-found-i : goal.offset_bounds-found-i
+offset_bounds-found-i c =
+    omega (arith, members_most (row_of c.args.links.now c.args.local.0), c.loop-i.invariant.1)
+
+pub bounds-found-i : goal.bounds-found-i
+bounds-found-i c =
+    omega (arith, members_most (row_of c.args.links.now c.args.local.0), c.loop-i.invariant.1)
+
+pub reach_local-requires : goal.reach_local-requires
+reach_local-requires c =
+    let l = c.loop-i in
+    let xs = links_in c.args.links.now c.args.local.0 in
+    let i : l.i < length xs = omega (arith, l.invariant.1) in
+    record { pointer_room = room_after l.invariant.3; local_bound = (rw (l.invariant.2 l.i i) (member_is (row_of c.args.links.now c.args.local.0) _ (get_or_mem xs l.i 0 i)).0, c.requires.local_bound.1); }
+
+pub overflow_add-i : goal.overflow_add-i
+overflow_add-i c =
+    omega (arith, members_most (row_of c.args.links.now c.args.local.0), c.loop-i.invariant.1)
+
+pub loop-i-preserved : goal.loop-i-preserved
+loop-i-preserved c =
+    let l = c.loop-i in
+    let xs = links_in c.args.links.now c.args.local.0 in
+    let i : l.i < length xs = omega (arith, l.invariant.1) in
+    (omega arith, l.invariant.1, l.invariant.2, links_more xs l.i i l.invariant.3 (rw (l.invariant.2 l.i i) at c.reach_local.ensures))
+
+pub flag_uses-requires : goal.flag_uses-requires
+flag_uses-requires c =
+    record { causes_len = (c.requires.links_len.1, room_after c.loop-i.invariant.3); local_bound = c.requires.local_bound; }
+
+pub returns : goal.returns
+returns c =
+    let xs = links_in c.args.links.now c.args.local.0 in
+    let e : length xs ≤ c.loop-i.i = omega (arith, c.loop-i.invariant.1) in
+    links_flagged xs c.loop-i.i e c.loop-i.invariant.3 (used_in c.args.causes.now c.args.local.0) c.flag_uses.ensures

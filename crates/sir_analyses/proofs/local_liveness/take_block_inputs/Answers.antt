@@ -1,0 +1,68 @@
+-- `take_block_inputs` meets its contract. The invariant: the first i inputs are gone from the set, and the positions of those that it had are found.
+use mathlib.Core.Path.{◌≡◌, sym, ◌∙◌}
+use Prim.Native.Nat.{◌-◌, ◌<◌}
+use native.Mathlib.Nat.{zero-add}
+use lib.ListN.{length, get_or}
+use Rattle.plank_core.specs.inner.DenseIndexSet.{contains, removed}
+use Rattle.sir_analyses.proofs.local_liveness.Sending.{taking_starts, taking_told, taking_found, taking_missed, taking_ends, inputs_few, inputs_once, input_small}
+use native.Mathlib.Omega.{arith}
+use Rattle.sir_analyses.proofs.local_liveness.take_block_inputs.Goals as goal
+use Rattle.sir_analyses.proofs.local_liveness.take_block_inputs.Goals.{else-row_remove, then-row_remove}
+
+pub block_inputs-inputs-requires : goal.block_inputs-inputs-requires
+block_inputs-inputs-requires c =
+    record { sized = c.requires.well_formed.sized; in_range = c.requires.well_formed.in_range; b_bound = c.requires.b_bound.0; }
+
+pub loop-i-init : goal.loop-i-init
+loop-i-init c = taking_starts _ _ _
+
+pub row_remove-requires : goal.row_remove-requires
+row_remove-requires c =
+    let l = c.loop-i in
+    (omega (arith, l.invariant.set_long, c.requires.b_bound), input_small c.requires.well_formed c.args.b.0 c.requires.b_bound.0 c.block_inputs-inputs.ensures l.i (omega arith))
+
+pub overflow_cast-moved : goal.overflow_cast-moved
+overflow_cast-moved c =
+    omega (arith, inputs_few c.requires.well_formed c.args.b.0 c.requires.b_bound.0 c.block_inputs-inputs.ensures)
+
+pub bounds-moved-n : goal.bounds-moved-n
+bounds-moved-n c =
+    let l = c.loop-i in
+    omega (arith, l.invariant.few, l.invariant.moved_long, c.requires.b_bound, inputs_few c.requires.well_formed c.args.b.0 c.requires.b_bound.0 c.block_inputs-inputs.ensures)
+
+pub overflow_add-n : goal.overflow_add-n
+overflow_add-n c =
+    omega (arith, c.loop-i.invariant.few, inputs_few c.requires.well_formed c.args.b.0 c.requires.b_bound.0 c.block_inputs-inputs.ensures)
+
+pub overflow_add-i : goal.overflow_add-i
+overflow_add-i c =
+    omega (arith, inputs_few c.requires.well_formed c.args.b.0 c.requires.b_bound.0 c.block_inputs-inputs.ensures)
+
+pub loop-i-preserved : goal.loop-i-preserved
+loop-i-preserved c =
+    let in_range = c.requires.b_bound.0 in
+    let set_long = c.requires.b_bound.1 in
+    let b = c.args.b.0 in
+    let l = c.loop-i in
+    let xs = c.block_inputs-inputs.result.now in
+    let same = c.block_inputs-inputs.ensures in
+    let h : l.i < length xs = omega arith in
+    let once = inputs_once c.requires.well_formed b in_range same in
+    let small = input_small c.requires.well_formed b in_range same l.i h in
+    let r = c.row_remove in
+    let e : r.new.0 ≡ removed l.set (get_or xs l.i 0) = rw zero-add at r.ensures.1 in
+    let t : r.result ≡ contains c.args.set.now (get_or xs l.i 0) = rw zero-add at r.ensures.0 ∙ taking_told once set_long h small l.invariant in
+    elim c.if-row_remove.branch [ then-row_remove x ↦ rw (x.1, x.2) (taking_found once set_long h small l.invariant (sym t ∙ x.if-row_remove.true) (omega (arith, l.invariant.few, l.invariant.moved_long, c.requires.b_bound, inputs_few c.requires.well_formed b in_range same)) e) | else-row_remove x ↦ rw (x.1, x.2) (taking_missed once set_long h small l.invariant (sym t ∙ x.if-row_remove.false) e) ]
+
+pub shape_of-set : goal.shape_of-set
+shape_of-set c = c.loop-i.invariant.set_long
+
+pub shape_of-moved : goal.shape_of-moved
+shape_of-moved c = c.loop-i.invariant.moved_long
+
+pub returns : goal.returns
+returns c =
+    let l = c.loop-i in (
+      omega (arith, l.invariant.few, l.invariant.here, inputs_few c.requires.well_formed c.args.b.0 c.requires.b_bound.0 c.block_inputs-inputs.ensures),
+      taking_ends c.block_inputs-inputs.ensures (omega arith) l.invariant,
+    )
