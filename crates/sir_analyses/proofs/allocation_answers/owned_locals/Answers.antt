@@ -38,7 +38,7 @@ loop-v-preserved c =
     let own : ℕ → Bool = λ u. eqb (get_or (owners_in c.args.pointers.now) u 0) (c.args.a.0 + 1) in
     let z : 0 + L.v ≡ L.v = omega arith in
     let g : (length c.if-owner_of-a.set ≡ 8) × Below own (L.v + 1) c.if-owner_of-a.set =
-    elim c.if-owner_of-a.branch [ then-owner_of-a x ↦ rw x.5 (omega (arith, x.2.kept, L.invariant.1), below_more own L.set L.v L.invariant.2 x.2.last.0 L.invariant.1 (x.2.ensures.1 ∙ ap (added L.set) z) (eq-eqb _ _ (sym c.owner_of.ensures ∙ x.if-owner_of-a.true))) | else-owner_of-a x ↦ rw x.1 (L.invariant.1, below_on own L.set L.v L.invariant.2 (ne_eqb _ _ (λ q. x.if-owner_of-a.false (c.owner_of.ensures ∙ q)))) ] in
+    elim c.if-owner_of-a.branch [ then-owner_of-a x ↦ rw x.set-is (omega (arith, x.row_add.auto, L.invariant.1), below_more own L.set L.v L.invariant.2 x.row_add.new.table L.invariant.1 (x.row_add.ensures.1 ∙ ap (added L.set) z) (eq-eqb _ _ (sym c.owner_of.ensures ∙ x.if-owner_of-a.true))) | else-owner_of-a x ↦ rw x.set-is (L.invariant.1, below_on own L.set L.v L.invariant.2 (ne_eqb _ _ (λ q. x.if-owner_of-a.false (c.owner_of.ensures ∙ q)))) ] in
     (omega arith, g.0, g.1)
 
 pub shape_of-set : goal.shape_of-set

@@ -39,11 +39,11 @@ put_head-requires c =
 
 pub slice_bounds-populate_intervals_from_local_liveness-end-2 : goal.slice_bounds-populate_intervals_from_local_liveness-end-2
 slice_bounds-populate_intervals_from_local_liveness-end-2 c =
-    front_fits _ c.args.out.now c.put_head.new.site.1.1.1.0 (finish_fits c.finish-answer.ensures) (puts_long c.put_head.ensures)
+    front_fits _ c.args.out.now c.put_head.new.out (finish_fits c.finish-answer.ensures) (puts_long c.put_head.ensures)
 
 pub slice_bounds-populate_intervals_from_local_liveness-end-3 : goal.slice_bounds-populate_intervals_from_local_liveness-end-3
 slice_bounds-populate_intervals_from_local_liveness-end-3 c =
-    sym (length-take-le _ _ (front_fits _ c.args.out.now c.put_head.new.site.1.1.1.0 (finish_fits c.finish-answer.ensures) (puts_long c.put_head.ensures)))
+    sym (length-take-le _ _ (front_fits _ c.args.out.now c.put_head.new.out (finish_fits c.finish-answer.ensures) (puts_long c.put_head.ensures)))
 
 pub populate_intervals_from_local_liveness-requires : goal.populate_intervals_from_local_liveness-requires
 populate_intervals_from_local_liveness-requires c =
@@ -57,7 +57,7 @@ returns c =
     let good = c.requires.visit_stage.well_formed in
     λ a x.
     let k = swept_count good x c.populate_intervals_from_local_liveness-n.ensures.1 in
-    let t = front_twice f.result.length out c.put_head.new.site.1.1.1.0 (finish_fits f.ensures) (puts_long c.put_head.ensures) in
+    let t = front_twice f.result.length out c.put_head.new.out (finish_fits f.ensures) (puts_long c.put_head.ensures) in
     finished (allocation_answer w a) out (subst (λ (n : ℕ). Finished n (length out) f.result.number f.result.length) k f.ensures)
     (swept_answer good x k c.put_head.ensures (λ s l m. rw t.0 at (c.populate_intervals_from_local_liveness.ensures.1 s l m)))
-    (ap (λ (r : List ℕ). c.populate_intervals_from_local_liveness.new.visit.1.1.1.1.0 ++ r) t.1)
+    (ap (λ (r : List ℕ). c.populate_intervals_from_local_liveness.new.out ++ r) t.1)

@@ -25,7 +25,7 @@ own_bases-requires c =
 pub loop-i-init : goal.loop-i-init
 unfolding part
 loop-i-init c =
-    (omega arith, turned_to_starts c.requires.accepted_stage c.requires.pointer_rows.0 c.own_bases.new.sites.1.0 c.store_sites.ensures c.own_bases.ensures)
+    (omega arith, turned_to_starts c.requires.accepted_stage c.requires.pointer_rows.0 c.own_bases.new.owners c.store_sites.ensures c.own_bases.ensures)
 
 pub overflow_cast-i : goal.overflow_cast-i
 overflow_cast-i c =

@@ -10,16 +10,16 @@ use Rattle.sir_analyses.proofs.block_sets.add_condition.Goals as goal
 
 pub returns-in_default : goal.returns-in_default
 returns-in_default c = let a = c.args in
-    adds_nothing a.uses.now a.b.0 (condition a.words.now a.b.0) (sym c.tested_local.ensures ∙ ap tested_locals c.enum_told-1.given.1)
+    adds_nothing a.uses.now a.b.0 (condition a.words.now a.b.0) (sym c.in_default.ensures)
 
 pub row_add-requires : goal.row_add-requires
 row_add-requires c =
-    let v = c.v-1.given in
-    let e : condition c.args.words.now c.args.b.0 ≡ v.0.0.0 ∷ [] = sym c.tested_local.ensures ∙ ap tested_locals v.1 in
-    (omega (arith, c.requires.well_formed.sized.blocks_most), tested_small c.requires.well_formed c.args.b.0 v.0.0.0 c.requires.b_bound.0 e)
+    let v = c.in-Local.v.0 in
+    let e : condition c.args.words.now c.args.b.0 ≡ v ∷ [] = sym c.in-Local.ensures in
+    (omega (arith, c.requires.well_formed.sized.blocks_most), tested_small c.requires.well_formed c.args.b.0 v c.requires.b_bound.0 e)
 
 pub returns : goal.returns
 returns c =
-    let v = c.v-1.given in
-    let e : condition c.args.words.now c.args.b.0 ≡ v.0.0.0 ∷ [] = sym c.tested_local.ensures ∙ ap tested_locals v.1 in
-    rw c.row_add.ensures.1 (adds_single c.args.uses.now c.args.b.0 v.0.0.0 (condition c.args.words.now c.args.b.0) e (tested_small c.requires.well_formed c.args.b.0 v.0.0.0 c.requires.b_bound.0 e))
+    let v = c.in-Local.v.0 in
+    let e : condition c.args.words.now c.args.b.0 ≡ v ∷ [] = sym c.in-Local.ensures in
+    rw c.row_add.ensures.1 (adds_single c.args.uses.now c.args.b.0 v (condition c.args.words.now c.args.b.0) e (tested_small c.requires.well_formed c.args.b.0 v c.requires.b_bound.0 e))

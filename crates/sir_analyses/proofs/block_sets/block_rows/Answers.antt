@@ -20,14 +20,14 @@ row_of-requires c =
 pub row_union_with-requires : goal.row_union_with-requires
 unfolding part
 row_union_with-requires c =
-    (omega (arith, length_part 18432 2048 (put_back 16384 2048 c.args.live.now c.use_row.new.b.1.1.0) (omega (arith, used_long c.requires.well_formed c.requires.b_bound.0 c.args.live.now c.requires.b_bound.1 c.requires.range_sets c.use_row.new.b.1.1.0 c.use_row.ensures)), c.requires.b_bound.0, c.requires.well_formed.sized.blocks_most), ap length c.row_of.ensures ∙ length_row c.args.sets.now 1 (omega (arith, c.requires.range_sets.long)))
+    (omega (arith, length_part 18432 2048 (put_back 16384 2048 c.args.live.now c.use_row.new.uses) (omega (arith, used_long c.requires.well_formed c.requires.b_bound.0 c.args.live.now c.requires.b_bound.1 c.requires.range_sets c.use_row.new.uses c.use_row.ensures)), c.requires.b_bound.0, c.requires.well_formed.sized.blocks_most), ap length c.row_of.ensures ∙ length_row c.args.sets.now 1 (omega (arith, c.requires.range_sets.long)))
 
 pub shape_of-live : goal.shape_of-live
 unfolding part
 shape_of-live c =
-    (block_added c.requires.well_formed c.requires.b_bound.0 c.args.live.now c.requires.b_bound.1 c.requires.range_sets c.use_row.new.b.1.1.0 c.use_row.ensures _ (rw c.row_of.ensures at c.row_union_with.ensures.1)).long
+    (block_added c.requires.well_formed c.requires.b_bound.0 c.args.live.now c.requires.b_bound.1 c.requires.range_sets c.use_row.new.uses c.use_row.ensures _ (rw c.row_of.ensures at c.row_union_with.ensures.1)).long
 
 pub returns : goal.returns
 unfolding part
 returns c =
-    block_added c.requires.well_formed c.requires.b_bound.0 c.args.live.now c.requires.b_bound.1 c.requires.range_sets c.use_row.new.b.1.1.0 c.use_row.ensures _ (rw c.row_of.ensures at c.row_union_with.ensures.1)
+    block_added c.requires.well_formed c.requires.b_bound.0 c.args.live.now c.requires.b_bound.1 c.requires.range_sets c.use_row.new.uses c.use_row.ensures _ (rw c.row_of.ensures at c.row_union_with.ensures.1)

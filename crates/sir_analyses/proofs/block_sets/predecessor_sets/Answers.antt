@@ -39,7 +39,7 @@ loop-p-preserved c =
     let h : l.p < blocks w = omega (arith, c.block_count-count.ensures) in
     let seen : c.is_visited.result ≡ is_visited w l.p = c.is_visited.ensures ∙ c.requires.visit_stage.visited_is l.p h in
     let a : Adds l.preds (λ b i. eqb i l.p && (is_visited w l.p && mem b (successors w l.p))) c.if-is_visited.preds =
-    elim c.if-is_visited.branch [ then-is_visited x ↦ rw x.5 (adds_as (λ b i k. rw (sym seen ∙ x.if-is_visited.true)) x.2.ensures) | else-is_visited x ↦ rw x.1 (adds_none (λ b i k. rw (sym seen ∙ x.if-is_visited.false) (and-false (eqb i l.p)))) ] in (
+    elim c.if-is_visited.branch [ then-is_visited x ↦ rw x.preds-is (adds_as (λ b i k. rw (sym seen ∙ x.if-is_visited.true)) x.add_to_successors.ensures) | else-is_visited x ↦ rw x.preds-is (adds_none (λ b i k. rw (sym seen ∙ x.if-is_visited.false) (and-false (eqb i l.p)))) ] in (
       omega arith,
       a.long ∙ l.invariant.1,
       λ b i k n. a.same b i (omega (arith, l.invariant.1)) n ∙ ap (λ (x : Bool). x || (eqb i l.p && (is_visited w l.p && mem b (successors w l.p)))) (l.invariant.2 b i k n) ∙ below_more i l.p (λ q. is_visited w q && mem b (successors w q)),

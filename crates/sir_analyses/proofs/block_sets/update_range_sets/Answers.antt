@@ -16,7 +16,7 @@ returns-then-span-kept-2 c =
     let b = a.b.0 in
     let span = c.block_operations-span in
     let first : a.kept.start ≡ block_word w b 4 = omega (arith, span.ensures) in
-    let last : a.kept.end ≡ block_word w b 5 = sym (eqb-true span.result.end a.kept.end c.if-span-kept-2.true) ∙ span.ensures.1 in
+    let last : a.kept.end ≡ block_word w b 5 = sym c.if-span-kept-2.true ∙ span.ensures.1 in
     let e : range a.kept.start a.kept.end ≡ ops w b = ap₂ range first last in
     record { end_value = e; range_sets_2 = subst (λ (os : List ℕ). RangeSets w os a.sets.now) e c.requires.range_sets; }
 

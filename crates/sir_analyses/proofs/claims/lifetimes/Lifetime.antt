@@ -111,6 +111,7 @@ module _ (w : List ℕ) (good : WellFormed w) where
       itself (only (outs w o) (one_out w good (listed_op w good k.0 k.1) k.2) m ∙ sym (ap (base w) e))
     where
       only : (xs : List ℕ) → length xs ≡ 1 → v ∈ xs → v ≡ get_or xs 0 0
+      only [] h q = elim q [ ]
       only (x ∷ []) h (mathlib.Core.List.Memᴰ.head q) = q
       only (x ∷ []) h (mathlib.Core.List.Memᴰ.tail q) = absurd (mathlib.Core.List.Memᴰ.not-nil q)
       only (x ∷ (y ∷ ys)) h q = absurd (omega arith)
@@ -120,6 +121,7 @@ module _ (w : List ℕ) (good : WellFormed w) where
 
   -- what a local holds on a walk is reached
   pub held_reached : {τ : List Event} {b : ℕ} {os : List ℕ} {v a n : ℕ} → Walk w τ b os → Holds w τ v a n → Reached w a v
+  held_reached (enter _) h = elim h [ ]
   held_reached (step k) (given g m e) = given_reached g m
   held_reached (step k) (derived d mi mo h) = link_reached (held_reached k h) (derive (walk_visited k) (suffix_mem (walk_suffix k) (mathlib.Core.List.Memᴰ.head refl)) d mi mo)
   held_reached (step k) (kept n h) = held_reached k h
@@ -161,6 +163,7 @@ module _ (w : List ℕ) (good : WellFormed w) where
 
   -- where a live local holds a pointer, every operation since is covered
   covered_since : {τ : List Event} {b : ℕ} {os : List ℕ} {v a n u c p : ℕ} → Walk w τ b os → Live w b os v → Holds w τ v a n → Executed τ u c p → n ≤ u → Covered a c p
+  covered_since (enter _) l h _ le = elim h [ ]
   covered_since (step k) l (given g m e) (now x) le = cover_output (walk_visited k) (walk_suffix k) (given_reached g m) m l
   covered_since (step k) l (derived d mi mo h) (now x) le = cover_before (walk_visited k) (walk_suffix k) (held_reached k h) (reads mi)
   covered_since (step k) l (kept n h) (now x) le = cover_before (walk_visited k) (walk_suffix k) (held_reached k h) (later n l)

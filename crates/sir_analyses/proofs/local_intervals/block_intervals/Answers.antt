@@ -39,7 +39,7 @@ loop-o-preserved c =
       omega (arith, p.auto, l.invariant.2),
       omega (arith, p.ensures.0, closing_few c.args.b.0 (l.o - 1 + 1) f.result.closed),
       rw (range_before l.o span.result.end (omega arith) (omega arith))
-          (scanning_more l.invariant.4 (reads_in c.args.live.now) (writes_in c.args.live.now) (l.o - 1) c.requires.liveness_stage.operands h c.requires.b_bound.1 p.new.0 f.ensures.till_value f.ensures.closed_value p.ensures.0 p.ensures.1),
+          (scanning_more l.invariant.4 (reads_in c.args.live.now) (writes_in c.args.live.now) (l.o - 1) c.requires.liveness_stage.operands h c.requires.b_bound.1 p.new.out f.ensures.till_value f.ensures.closed_value p.ensures.0 p.ensures.1),
     )
 
 pub put_interval-requires : goal.put_interval-requires
@@ -59,5 +59,5 @@ returns c =
     let first : l.o ≡ block_word w b 4 = omega (arith, span.ensures) in
     let os : range l.o span.result.end ≡ ops w b = ap₂ range first span.ensures.1 in
     let p = c.put_interval in
-    let e = scanning_ends l.invariant.4 os p.new.0 p.ensures.0 p.ensures.1 in
+    let e = scanning_ends l.invariant.4 os p.new.out p.ensures.0 p.ensures.1 in
     (omega (arith, p.ensures.0, closing_few b 0 l.till, c.requires.liveness_stage.well_formed.sized.operations_most, c.requires.liveness_stage.well_formed.in_range.ops_range b c.requires.b_bound.0, span.ensures), e.0, e.1)

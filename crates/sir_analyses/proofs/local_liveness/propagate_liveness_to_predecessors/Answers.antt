@@ -35,8 +35,8 @@ returns c =
     pass_sent c.requires.passing c.requires.well_formed c.args.b.0 c.requires.b_bound c.unsent-new.ensures.1 c.row_union_with.ensures.1 c.send_to_predecessors.ensures
 
 pub shape_of-live : goal.shape_of-live
-shape_of-live c = (returns_2 c).long
+shape_of-live c = (pass_sent c.requires.passing c.requires.well_formed c.args.b.0 c.requires.b_bound c.unsent-new.ensures.1 c.row_union_with.ensures.1 c.send_to_predecessors.ensures).long
 
 pub shape_of-sent : goal.shape_of-sent
 shape_of-sent c =
-    (returns_2 c).stepped.sent_long ∙ sym c.requires.passing.sent_long
+    (pass_sent c.requires.passing c.requires.well_formed c.args.b.0 c.requires.b_bound c.unsent-new.ensures.1 c.row_union_with.ensures.1 c.send_to_predecessors.ensures).stepped.sent_long ∙ sym c.requires.passing.sent_long

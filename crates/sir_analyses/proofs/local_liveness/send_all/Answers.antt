@@ -33,7 +33,7 @@ loop-k-preserved c =
     let i : l.k < length c.args.ids.now = omega arith in
     let long : 8 * blocks w ≤ length c.args.exits.now = omega (arith, c.requires.set_len, c.requires.well_formed.sized.blocks_most) in
     let r = c.send_to in
-    let told : c.if-send_to.grew ≡ (l.grew || r.result) = elim c.if-send_to.branch [ then-send_to x ↦ told_set l.grew x.if-send_to.true x.1 | else-send_to x ↦ told_kept l.grew x.if-send_to.false x.1 ] in (
+    let told : c.if-send_to.grew ≡ (l.grew || r.result) = elim c.if-send_to.branch [ then-send_to x ↦ told_set l.grew x.if-send_to.true x.grew-is | else-send_to x ↦ told_kept l.grew x.if-send_to.false x.grew-is ] in (
       omega arith,
       sends_as (λ q v h. and_taken c.args.ids.now l.k i (λ x. arrives w c.args.set.now c.args.moved.now x v) q)
           (sends_then long l.invariant.1 r.ensures told),

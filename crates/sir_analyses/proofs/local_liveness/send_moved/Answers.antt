@@ -60,9 +60,9 @@ loop-k-preserved c =
     output_small c.requires.well_formed p in_range c.block_outputs-outputs.ensures at (omega (arith, c.requires.by_index at (get_or_mem moved l.k 0 i), ap length c.block_outputs-outputs.ensures)) in
     let long : 8 * blocks c.args.words.now ≤ length c.args.exits.now = omega (arith, c.requires.p_bound, c.requires.well_formed.sized.blocks_most) in
     let r = c.row_add in
-    let one : Sends (blocks c.args.words.now) l.exits (λ q v. eqb q p && eqb v (get_or xs at 0)) r.new.0 r.result =
+    let one : Sends (blocks c.args.words.now) l.exits (λ q v. eqb q p && eqb v (get_or xs at 0)) r.new.table r.result =
     sends_one (blocks c.args.words.now) l.exits p in_range (omega (arith, l.invariant.1.adds.long)) (get_or xs at 0) small r.ensures.0 r.ensures.1 in
-    let told : c.if-row_add.grew ≡ (l.grew || r.result) = elim c.if-row_add.branch [ then-row_add x ↦ told_set l.grew x.if-row_add.true x.1 | else-row_add x ↦ told_kept l.grew x.if-row_add.false x.1 ] in (
+    let told : c.if-row_add.grew ≡ (l.grew || r.result) = elim c.if-row_add.branch [ then-row_add x ↦ told_set l.grew x.if-row_add.true x.grew-is | else-row_add x ↦ told_kept l.grew x.if-row_add.false x.grew-is ] in (
       omega arith,
       sends_as
           (λ q v h. sym (and-or_distrib_left (eqb q p) (mem v (map (λ j. get_or xs j 0) (take l.k moved))) (eqb v (get_or xs at 0))) ∙ ap (λ (t : Bool). eqb q p && t) (mapped_next (λ j. get_or xs j 0) moved l.k i v))

@@ -27,11 +27,11 @@ list-count-requires c =
 
 pub slice_bounds-ids-end : goal.slice_bounds-ids-end
 slice_bounds-ids-end c =
-    members_fit c.row_of.result.now c.list-count.new.out c.list-count.ensures.0 c.list-count.auto.1.0
+    members_fit c.row_of.result.now c.list-count.new.out c.list-count.ensures.0 c.list-count.auto.out
 
 pub slice_bounds-send_all-end : goal.slice_bounds-send_all-end
 slice_bounds-send_all-end c =
-    front_length _ _ (members_fit c.row_of.result.now c.list-count.new.out c.list-count.ensures.0 c.list-count.auto.1.0)
+    front_length _ _ (members_fit c.row_of.result.now c.list-count.new.out c.list-count.ensures.0 c.list-count.auto.out)
 
 pub slice_bounds-send_all-end-3 : goal.slice_bounds-send_all-end-3
 slice_bounds-send_all-end-3 c =
@@ -44,11 +44,11 @@ send_all-requires c =
     let good = c.requires.well_formed.0 in
     let k = c.list-count in
     let p = c.take_block_inputs-n in
-    let ids : take k.result k.new.1.0 ≡ members (row_of c.args.preds.now b) = front_members c.row_of.result.now (replicate 512 0) k.ensures.0 k.ensures.1 ∙ ap members c.row_of.ensures in record { well_formed = good; set_len = (omega (arith, p.auto, c.requires.b_bound.1), c.requires.b_bound.2); by_index = λ q m. listed_below good b c.requires.b_bound.0 c.requires.well_formed.1 q (subst (λ (xs : List ℕ). q ∈ xs) ids m); by_index_2 = λ q i m n. moved_below good b c.requires.b_bound.0 c.requires.well_formed.1 q (subst (λ (xs : List ℕ). q ∈ xs) ids m) p.ensures.1 i n; }
+    let ids : take k.result k.new.out ≡ members (row_of c.args.preds.now b) = front_members c.row_of.result.now (replicate 512 0) k.ensures.0 k.ensures.1 ∙ ap members c.row_of.ensures in record { well_formed = good; set_len = (omega (arith, p.auto, c.requires.b_bound.1), c.requires.b_bound.2); by_index = λ q m. listed_below good b c.requires.b_bound.0 c.requires.well_formed.1 q (subst (λ (xs : List ℕ). q ∈ xs) ids m); by_index_2 = λ q i m n. moved_below good b c.requires.b_bound.0 c.requires.well_formed.1 q (subst (λ (xs : List ℕ). q ∈ xs) ids m) p.ensures.1 i n; }
 
 pub returns : goal.returns
 returns c =
     let k = c.list-count in
     let b : ℕ = c.args.b.0 in
-    let ids : take k.result k.new.1.0 ≡ members (row_of c.args.preds.now b) = front_members c.row_of.result.now (replicate 512 0) k.ensures.0 k.ensures.1 ∙ ap members c.row_of.ensures in
+    let ids : take k.result k.new.out ≡ members (row_of c.args.preds.now b) = front_members c.row_of.result.now (replicate 512 0) k.ensures.0 k.ensures.1 ∙ ap members c.row_of.ensures in
     sent_to c.requires.well_formed.0 b c.requires.b_bound.0 c.requires.well_formed.1 ids c.take_block_inputs-n.ensures.1 c.send_all.ensures

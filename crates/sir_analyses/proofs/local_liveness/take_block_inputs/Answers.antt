@@ -50,9 +50,9 @@ loop-i-preserved c =
     let once = inputs_once c.requires.well_formed b in_range same in
     let small = input_small c.requires.well_formed b in_range same l.i h in
     let r = c.row_remove in
-    let e : r.new.0 ≡ removed l.set (get_or xs l.i 0) = rw zero-add at r.ensures.1 in
+    let e : r.new.table ≡ removed l.set (get_or xs l.i 0) = rw zero-add at r.ensures.1 in
     let t : r.result ≡ contains c.args.set.now (get_or xs l.i 0) = rw zero-add at r.ensures.0 ∙ taking_told once set_long h small l.invariant in
-    elim c.if-row_remove.branch [ then-row_remove x ↦ rw (x.1, x.2) (taking_found once set_long h small l.invariant (sym t ∙ x.if-row_remove.true) (omega (arith, l.invariant.few, l.invariant.moved_long, c.requires.b_bound, inputs_few c.requires.well_formed b in_range same)) e) | else-row_remove x ↦ rw (x.1, x.2) (taking_missed once set_long h small l.invariant (sym t ∙ x.if-row_remove.false) e) ]
+    elim c.if-row_remove.branch [ then-row_remove x ↦ rw (x.moved-is, x.n-is) (taking_found once set_long h small l.invariant (sym t ∙ x.if-row_remove.true) (omega (arith, l.invariant.few, l.invariant.moved_long, c.requires.b_bound, inputs_few c.requires.well_formed b in_range same)) e) | else-row_remove x ↦ rw (x.moved-is, x.n-is) (taking_missed once set_long h small l.invariant (sym t ∙ x.if-row_remove.false) e) ]
 
 pub shape_of-set : goal.shape_of-set
 shape_of-set c = c.loop-i.invariant.set_long

@@ -83,7 +83,7 @@ loop-o-preserved c =
       omega (arith, l.invariant.4),
       omega (arith, l.invariant.5),
       rw (range_before l.o span.result.end (omega arith) (omega arith))
-          (sweeping_more c.args.reach.now c.requires.liveness_stage.well_formed c.args.b.0 c.requires.b_bound.0 l.invariant.6 (reads_in c.args.live.now) (writes_in c.args.live.now) (l.o - 1) c.requires.liveness_stage.operands h g.new.1.1.0 p.new.0 g.ensures
+          (sweeping_more c.args.reach.now c.requires.liveness_stage.well_formed c.args.b.0 c.requires.b_bound.0 l.invariant.6 (reads_in c.args.live.now) (writes_in c.args.live.now) (l.o - 1) c.requires.liveness_stage.operands h g.new.set p.new.run g.ensures
           meeting f.ensures.till_value f.ensures.closed_value p.ensures.1),
     )
 
@@ -103,4 +103,4 @@ returns c =
     let first : l.o ≡ block_word w b 4 = omega (arith, span.ensures) in
     let os : range l.o span.result.end ≡ ops w b = ap₂ range first span.ensures.1 in
     let p = c.put_interval_before in
-    (omega (arith, p.ensures.0, l.invariant.5), sweeping_ends c.args.reach.now c.requires.liveness_stage.well_formed b c.requires.b_bound.0 l.invariant.6 os p.new.0 p.result p.ensures.1)
+    (omega (arith, p.ensures.0, l.invariant.5), sweeping_ends c.args.reach.now c.requires.liveness_stage.well_formed b c.requires.b_bound.0 l.invariant.6 os p.new.run p.result p.ensures.1)

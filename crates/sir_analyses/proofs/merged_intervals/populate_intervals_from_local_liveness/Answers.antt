@@ -38,8 +38,8 @@ pub put_words-m-requires : goal.put_words-m-requires
 put_words-m-requires c =
     let L = c.loop-b in
     let i = c.merge_intervals-from in
-    let k : length i.new.1.1.1.1.0 ≡ 3075 = omega (arith, i.auto, L.invariant.1) in
-    omega (arith, lent_most i.new.1.1.1.1.0 3075 i.result k, L.invariant.2.few, c.requires.reach_len.1, c.requires.visit_stage.well_formed.sized.blocks_most, c.block_count-count.ensures)
+    let k : length i.new.run ≡ 3075 = omega (arith, i.auto, L.invariant.1) in
+    omega (arith, lent_most i.new.run 3075 i.result k, L.invariant.2.few, c.requires.reach_len.1, c.requires.visit_stage.well_formed.sized.blocks_most, c.block_count-count.ensures)
 
 pub loop-b-preserved : goal.loop-b-preserved
 loop-b-preserved c =
@@ -49,9 +49,9 @@ loop-b-preserved c =
     let seen : c.is_visited.result ≡ is_visited w L.b = c.is_visited.ensures ∙ c.requires.visit_stage.visited_is L.b h in
     let g : (length c.if-is_visited.run ≡ 3075) × Populating w c.args.reach.now c.args.n c.args.out.now (L.b + 1) c.if-is_visited.out c.if-is_visited.m =
     elim c.if-is_visited.branch [ then-is_visited x ↦ 
-    let run = x.2.last.1.1.1.1.0 in
-    let k : length run ≡ 3075 = omega (arith, x.2.kept, L.invariant.1) in
-    rw (x.10, x.11, x.12) (k, populating_more L.invariant.2 h (sym seen ∙ x.if-is_visited.true) run x.2.result k x.2.ensures.1 x.7.ensures) | else-is_visited x ↦ rw (x.1, x.2, x.3) (L.invariant.1, populating_on L.invariant.2 h (sym seen ∙ x.if-is_visited.false)) ] in
+    let run = x.merge_intervals-from.new.run in
+    let k : length run ≡ 3075 = omega (arith, x.merge_intervals-from.auto, L.invariant.1) in
+    rw (x.out-is, x.run-is, x.m-is) (k, populating_more L.invariant.2 h (sym seen ∙ x.if-is_visited.true) run x.merge_intervals-from.result k x.merge_intervals-from.ensures.1 x.put_words-m.ensures) | else-is_visited x ↦ rw (x.out-is, x.run-is, x.m-is) (L.invariant.1, populating_on L.invariant.2 h (sym seen ∙ x.if-is_visited.false)) ] in
     (omega arith, g.0, g.1)
 
 pub shape_of-out : goal.shape_of-out

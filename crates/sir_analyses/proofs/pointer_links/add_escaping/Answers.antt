@@ -40,7 +40,7 @@ loop-k-preserved c =
     let e = c.operation_causes_ptr_escape.ensures in
     let h = read_places c.requires.well_formed c.args.o.0 l.k c.op_inputs-inputs.ensures c.requires.o_bound.0 c.loop-k-test.true in
     let a : Adds l.causes (escaping_at code xs l.k) c.if-operation_causes_ptr_escape.causes =
-    elim c.if-operation_causes_ptr_escape.branch [ then-operation_causes_ptr_escape x ↦ let t : escaping code l.k ≡ true = sym e ∙ x.if-operation_causes_ptr_escape.true in rw (x.6, x.3.ensures.1) (adds_as (λ r v i. rw t) (adds_one l.causes 0 (get_or xs l.k 0) h)) | else-operation_causes_ptr_escape x ↦ let t : escaping code l.k ≡ false = sym e ∙ x.if-operation_causes_ptr_escape.false in rw x.1 (adds_none (λ r v i. rw t)) ] in
+    elim c.if-operation_causes_ptr_escape.branch [ then-operation_causes_ptr_escape x ↦ let t : escaping code l.k ≡ true = sym e ∙ x.if-operation_causes_ptr_escape.true in rw (x.causes-is, x.row_add.ensures.1) (adds_as (λ r v i. rw t) (adds_one l.causes 0 (get_or xs l.k 0) h)) | else-operation_causes_ptr_escape x ↦ let t : escaping code l.k ≡ false = sym e ∙ x.if-operation_causes_ptr_escape.false in rw x.causes-is (adds_none (λ r v i. rw t)) ] in
     (omega arith, adds_counted (escaping_at code xs) l.k l.invariant.1 a)
 
 pub shape_of-causes : goal.shape_of-causes

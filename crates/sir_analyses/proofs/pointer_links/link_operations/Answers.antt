@@ -37,9 +37,9 @@ loop-o-preserved c =
     let h : l.o < 1024 = omega (arith, c.requires.well_formed.sized.operations_most, c.operation_count-count.ensures) in
     let seen : c.row_contains.result ≡ is_visited_op w l.o = c.row_contains.ensures ∙ ap (contains c.args.visited.now) n ∙ c.requires.visited_len.1 l.o h in
     let a : Adds l.links (λ v u. is_visited_op w l.o && derives_by w l.o v u) c.if-row_contains.links =
-    elim c.if-row_contains.branch [ then-row_contains x ↦ rw x.9 (adds_as (λ v u i. rw (sym seen ∙ x.if-row_contains.true)) x.2.ensures) | else-row_contains x ↦ rw x.1 (adds_none (λ v u i. rw (sym seen ∙ x.if-row_contains.false))) ] in
+    elim c.if-row_contains.branch [ then-row_contains x ↦ rw x.links-is (adds_as (λ v u i. rw (sym seen ∙ x.if-row_contains.true)) x.link_operation.ensures) | else-row_contains x ↦ rw x.links-is (adds_none (λ v u i. rw (sym seen ∙ x.if-row_contains.false))) ] in
     let b : Adds l.causes (λ r v. is_visited_op w l.o && (eqb r 0 && escapes_by w l.o v)) c.if-row_contains.causes =
-    elim c.if-row_contains.branch [ then-row_contains x ↦ rw x.10 (adds_as (λ r v i. rw (sym seen ∙ x.if-row_contains.true)) x.6.ensures) | else-row_contains x ↦ rw x.2 (adds_none (λ r v i. rw (sym seen ∙ x.if-row_contains.false))) ] in
+    elim c.if-row_contains.branch [ then-row_contains x ↦ rw x.causes-is (adds_as (λ r v i. rw (sym seen ∙ x.if-row_contains.true)) x.add_escaping.ensures) | else-row_contains x ↦ rw x.causes-is (adds_none (λ r v i. rw (sym seen ∙ x.if-row_contains.false))) ] in
     (omega arith, adds_counted (λ p v u. is_visited_op w p && derives_by w p v u) l.o l.invariant.1 a, adds_counted (λ p r v. is_visited_op w p && (eqb r 0 && escapes_by w p v)) l.o l.invariant.2 b)
 
 pub shape_of-links : goal.shape_of-links

@@ -40,14 +40,14 @@ overflow_cast-table c =
 pub bounds-table-0 : goal.bounds-table-0
 unfolding part
 bounds-table-0 c =
-    omega (arith, flags_put_long c.requires.well_formed c.visit-finished.ensures c.requires.postorder_len.1 c.blocks_rpo-count.ensures c.flag_visited.new.seen.1.0 c.flag_visited.ensures.0)
+    omega (arith, flags_put_long c.requires.well_formed c.visit-finished.ensures c.requires.postorder_len.1 c.blocks_rpo-count.ensures c.flag_visited.new.flags c.flag_visited.ensures.0)
 
 pub shape_of-table : goal.shape_of-table
 unfolding part
 shape_of-table c =
-    (visit_stage c.requires.well_formed c.visit-finished.ensures c.requires.postorder_len.1 c.blocks_rpo-count.ensures c.flag_visited.new.seen.1.0 c.flag_visited.ensures).long ∙ sym (table_long c.requires.well_formed c.visit-finished.ensures c.requires.postorder_len.1)
+    (visit_stage c.requires.well_formed c.visit-finished.ensures c.requires.postorder_len.1 c.blocks_rpo-count.ensures c.flag_visited.new.flags c.flag_visited.ensures).long ∙ sym (table_long c.requires.well_formed c.visit-finished.ensures c.requires.postorder_len.1)
 
 pub returns : goal.returns
 unfolding part
 returns c =
-    (finished_fit c.requires.well_formed c.visit-finished.ensures, order_stage c.requires.well_formed c.visit-finished.ensures, visit_stage c.requires.well_formed c.visit-finished.ensures c.requires.postorder_len.1 c.blocks_rpo-count.ensures c.flag_visited.new.seen.1.0 c.flag_visited.ensures)
+    (finished_fit c.requires.well_formed c.visit-finished.ensures, order_stage c.requires.well_formed c.visit-finished.ensures, visit_stage c.requires.well_formed c.visit-finished.ensures c.requires.postorder_len.1 c.blocks_rpo-count.ensures c.flag_visited.new.flags c.flag_visited.ensures)

@@ -41,7 +41,7 @@ loop-b-smaller c =
 pub loop-b-preserved : goal.loop-b-preserved
 loop-b-preserved c =
     let h : c.loop-b.b < 256 = omega (arith, c.block_count-count.ensures, c.requires.well_formed.sized.blocks_most, c.loop-b-test.true) in
-    elim c.if-row_contains.branch [ then-row_contains x ↦ rw x.1 (omega (arith, c.loop-b-test.true), flags_seen c.loop-b.invariant.1 h (sym c.row_contains.ensures ∙ x.if-row_contains.true)) | else-row_contains x ↦ rw x.1 (omega (arith, c.loop-b-test.true), flags_unseen c.loop-b.invariant.1 h (sym c.row_contains.ensures ∙ x.if-row_contains.false)) ]
+    elim c.if-row_contains.branch [ then-row_contains x ↦ rw x.flags-is (omega (arith, c.loop-b-test.true), flags_seen c.loop-b.invariant.1 h (sym c.row_contains.ensures ∙ x.if-row_contains.true)) | else-row_contains x ↦ rw x.flags-is (omega (arith, c.loop-b-test.true), flags_unseen c.loop-b.invariant.1 h (sym c.row_contains.ensures ∙ x.if-row_contains.false)) ]
 
 pub shape_of-flags : goal.shape_of-flags
 shape_of-flags c =

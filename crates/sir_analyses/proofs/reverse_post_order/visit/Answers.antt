@@ -12,14 +12,14 @@ visit_function-n-requires c =
 
 pub returns-then-main-eq0 : goal.returns-then-main-eq0
 returns-then-main-eq0 c =
-    visited_one c.requires.seen_value.0 (rw c.init_function.ensures at c.visit_function_fact.ensures) (sym c.main_plus_one-main.ensures ∙ c.if-main-eq0.true)
+    visited_one c.requires.seen_value.0 (rw c.init_function.ensures at c.visit_function-n.ensures) (sym c.main_plus_one-main.ensures ∙ c.if-main-eq0.true)
 
 pub visit_function-requires : goal.visit_function-requires
 visit_function-requires c =
     let m = c.main_plus_one-main.result in
     let n : main_plus_one c.args.words.now ≡ suc (m - 1) = omega (arith, c.main_plus_one-main.ensures, c.if-main-eq0.false) in
-    record { well_formed = c.requires.well_formed; f_bound = c.requires.well_formed.in_range.main (m - 1) n; held = c.visit_function_fact.ensures.held; }
+    record { well_formed = c.requires.well_formed; f_bound = c.requires.well_formed.in_range.main (m - 1) n; held = c.visit_function-n.ensures.held; }
 
 pub returns : goal.returns
 returns c =
-    visited_two c.requires.seen_value.0 (rw c.init_function.ensures at c.visit_function_fact.ensures) (λ z. c.if-main-eq0.false (c.main_plus_one-main.ensures ∙ z)) (rw c.main_plus_one-main.ensures at c.visit_function.ensures)
+    visited_two c.requires.seen_value.0 (rw c.init_function.ensures at c.visit_function-n.ensures) (λ z. c.if-main-eq0.false (c.main_plus_one-main.ensures ∙ z)) (rw c.main_plus_one-main.ensures at c.visit_function.ensures)

@@ -1,0 +1,8 @@
+-- `defs` meets its contract.
+use Rattle.sir_analyses.specs.inner.Stages.{part}
+use borrow.Author.Rules.{rules}
+use Rattle.sir_analyses.proofs.stages.defs.Goals as goal
+
+pub returns : goal.returns
+unfolding part
+returns c = search rules

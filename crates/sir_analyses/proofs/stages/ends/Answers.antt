@@ -1,0 +1,8 @@
+-- `ends` meets its contract.
+use Rattle.sir_analyses.specs.inner.Stages.{part}
+use borrow.Author.Rules.{rules}
+use Rattle.sir_analyses.proofs.stages.ends.Goals as goal
+
+pub returns : goal.returns
+unfolding part
+returns c = search rules
