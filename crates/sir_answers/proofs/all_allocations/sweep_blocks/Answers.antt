@@ -1,0 +1,81 @@
+-- `sweep_blocks` meets its contract. The invariant: the pieces of the visited blocks below b are to be put.
+use mathlib.Core.Path.{◌≡◌, sym, ap, ◌∙◌}
+use mathlib.Core.List.{[]}
+use Prim.Native.Nat.{◌-◌, ◌<◌}
+use native.Mathlib.Omega.{arith}
+use Rattle.sir_data.specs.Records.{blocks}
+use Rattle.sir_answers.specs.inner.AllocationPieces.{sweep_pieces}
+use Rattle.sir_answers.proofs.scatter.Scattering.{scattering_none, scattering_as, scattering_fits, scattering_more, scattering_all}
+use Rattle.sir_answers.proofs.all_allocations.AllocationPieces.{visited_to, visited_next, visited_skip}
+use Rattle.sir_answers.proofs.all_allocations.sweep_blocks.Goals as goal
+
+pub block_count-b-requires : goal.block_count-b-requires
+block_count-b-requires c =
+    omega (arith, c.requires.visit_stage.well_formed.sized.size)
+
+pub loop-b-init : goal.loop-b-init
+loop-b-init c =
+    let n = c.block_count-b.ensures in
+    (omega (arith, n), scattering_as (ap (visited_to c.args.words.now) (sym n)) (scattering_none c.requires.cursors_len.1))
+
+pub overflow_sub-b : goal.overflow_sub-b
+overflow_sub-b c = omega (arith, c.loop-b-test.true)
+
+pub is_visited-requires : goal.is_visited-requires
+is_visited-requires c =
+    (c.requires.visit_stage.long, omega (arith, c.loop-b-test.true, c.loop-b.invariant.0, c.requires.visit_stage.well_formed.sized.blocks_most))
+
+pub sweep_block-requires : goal.sweep_block-requires
+sweep_block-requires c =
+    let w = c.args.words.now in
+    let L = c.loop-b in
+    let h = c.loop-b-test.true in
+    let b = L.b - 1 in
+    let below : b < blocks w = omega (arith, h, L.invariant.0) in
+    let t = sym (c.requires.visit_stage.visited_is b below) ∙ sym c.is_visited.ensures ∙ c.if-is_visited.true in
+    let k = scattering_as (visited_next w L.b h t) L.invariant.1 in
+    record { liveness_stage = c.requires.liveness_stage; owned_tables = c.requires.owned_tables; b_bound = below; cursors_len = (L.invariant.1.wide ∙ c.requires.cursors_len.0, scattering_fits (sweep_pieces w b) (visited_to w b) k); }
+
+pub loop-b-smaller-then-is_visited : goal.loop-b-smaller-then-is_visited
+loop-b-smaller-then-is_visited c =
+    omega (arith, c.loop-b-test.true)
+
+pub loop-b-preserved-then-is_visited : goal.loop-b-preserved-then-is_visited
+loop-b-preserved-then-is_visited c =
+    let w = c.args.words.now in
+    let L = c.loop-b in
+    let h = c.loop-b-test.true in
+    let b = L.b - 1 in
+    let below : b < blocks w = omega (arith, h, L.invariant.0) in
+    let t = sym (c.requires.visit_stage.visited_is b below) ∙ sym c.is_visited.ensures ∙ c.if-is_visited.true in
+    let k = scattering_as (visited_next w L.b h t) L.invariant.1 in
+    (omega (arith, L.invariant.0), scattering_more (visited_to w b) k c.sweep_block.ensures)
+
+pub loop-b-smaller : goal.loop-b-smaller
+loop-b-smaller c =
+    omega (arith, c.loop-b-test.true)
+
+pub loop-b-preserved : goal.loop-b-preserved
+loop-b-preserved c =
+    let w = c.args.words.now in
+    let L = c.loop-b in
+    let h = c.loop-b-test.true in
+    let b = L.b - 1 in
+    let below : b < blocks w = omega (arith, h, L.invariant.0) in
+    let t = sym (c.requires.visit_stage.visited_is b below) ∙ sym c.is_visited.ensures ∙ c.if-is_visited.false in
+    (omega (arith, L.invariant.0), scattering_as (visited_skip w L.b h t) L.invariant.1)
+
+pub shape_of-cursors : goal.shape_of-cursors
+shape_of-cursors c =
+    c.loop-b.invariant.1.wide
+
+pub shape_of-out : goal.shape_of-out
+shape_of-out c =
+    c.loop-b.invariant.1.long
+
+pub returns : goal.returns
+returns c =
+    let L = c.loop-b in
+    let z : L.b ≡ 0 = omega (arith, c.loop-b-test.false) in
+    let e : visited_to c.args.words.now L.b ≡ [] = rw z in
+    scattering_all e L.invariant.1

@@ -1,0 +1,37 @@
+-- `write_allocations` meets its contract.
+use mathlib.Core.Path.{◌≡◌}
+use native.Mathlib.Omega.{arith}
+use lib.ListN.{length}
+use Rattle.sir_analyses.specs.Allocation.{allocs}
+use Rattle.sir_answers.specs.inner.Scatter.{backward}
+use Rattle.sir_answers.proofs.scatter.AllAnswers.{lengths_fit, placed_fits, counts_written}
+use Rattle.sir_answers.proofs.all_allocations.AllocationPieces.{records_are, records_small, records_below}
+use Rattle.sir_answers.proofs.all_allocations.write_allocations.Goals as goal
+
+pub put_lengths-requires : goal.put_lengths-requires
+put_lengths-requires c =
+    let stage = c.requires.pointer_stage in
+    let counts = c.requires.counts in
+    lengths_fit counts (records_small stage) c.requires.out_len
+
+pub scan_allocations-requires : goal.scan_allocations-requires
+scan_allocations-requires c =
+    let stage = c.requires.pointer_stage in
+    let counts = c.requires.counts in
+    let wide : length c.put_lengths.new.cursors ≡ length (allocs c.args.words.now) = omega (arith, c.put_lengths.auto, counts.wide) in
+    record { visit_stage = c.requires.visit_stage; liveness_stage = c.requires.liveness_stage; pointer_stage = stage; cursors_len = (wide, placed_fits counts backward (records_are stage) wide c.put_lengths.ensures (records_small stage)); }
+
+pub shape_of-cursors : goal.shape_of-cursors
+shape_of-cursors c =
+    omega (arith, c.scan_allocations.auto, c.put_lengths.auto)
+
+pub shape_of-out : goal.shape_of-out
+shape_of-out c =
+    omega (arith, c.scan_allocations.auto, c.put_lengths.auto)
+
+pub returns : goal.returns
+returns c =
+    let stage = c.requires.pointer_stage in
+    let counts = c.requires.counts in
+    let lengths = c.put_lengths in
+    counts_written counts backward (records_below c.args.words.now stage.well_formed) (records_are stage) (omega (arith, lengths.auto, counts.wide)) lengths.ensures (omega (arith, lengths.auto, c.requires.out_len)) c.scan_allocations.ensures

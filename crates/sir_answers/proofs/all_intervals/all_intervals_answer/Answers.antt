@@ -1,0 +1,25 @@
+-- `all_intervals_answer` meets its contract.
+use mathlib.Core.Path.{sym, ◌∙◌}
+use Prim.Native.Nat.{◌≤◌}
+use native.Mathlib.Omega.{arith}
+use Rattle.sir_answers.proofs.scatter.AllAnswers.{zero_long, zero_prefix}
+use Rattle.sir_answers.proofs.all_intervals.all_intervals_answer.Goals as goal
+
+pub local_count-n-requires : goal.local_count-n-requires
+local_count-n-requires c =
+    omega (arith, c.requires.visit_stage.well_formed.sized.size)
+
+pub slice_bounds-cursors-end : goal.slice_bounds-cursors-end
+slice_bounds-cursors-end c =
+    omega (arith, c.local_count-n.ensures, c.requires.visit_stage.well_formed.sized.locals_most)
+
+pub slice_bounds-fill_intervals-end : goal.slice_bounds-fill_intervals-end
+slice_bounds-fill_intervals-end c =
+    let n = c.local_count-n in
+    sym (zero_long n.result 512 (omega (arith, n.ensures, c.requires.visit_stage.well_formed.sized.locals_most)))
+
+pub fill_intervals-requires : goal.fill_intervals-requires
+fill_intervals-requires c =
+    let n = c.local_count-n in
+    let h : n.result ≤ 512 = omega (arith, n.ensures, c.requires.visit_stage.well_formed.sized.locals_most) in
+    record { visit_stage = c.requires.visit_stage; liveness_stage = c.requires.liveness_stage; cursors_len = (zero_long n.result 512 h ∙ n.ensures, λ v. zero_prefix n.result 512 v); }

@@ -1,0 +1,20 @@
+-- `all_predecessors_answer` meets its contract.
+use mathlib.Core.Path.{sym, ◌∙◌}
+use Prim.Native.Nat.{◌≤◌}
+use native.Mathlib.Omega.{arith}
+use Rattle.sir_answers.proofs.scatter.AllAnswers.{zero_long, zero_prefix}
+use Rattle.sir_answers.proofs.all_predecessors.all_predecessors_answer.Goals as goal
+
+  statement,
+}
+use Rattle.sir_answers.proofs.all_predecessors.all_predecessors_answer.Tie as tie
+
+pub slice_bounds-fill_predecessors-end : goal.slice_bounds-fill_predecessors-end
+slice_bounds-fill_predecessors-end c =
+    sym (zero_long c.block_count-n.result 256 (omega (arith, c.requires.well_formed.sized.blocks_most)))
+
+pub fill_predecessors-requires : goal.fill_predecessors-requires
+fill_predecessors-requires c =
+    let n = c.block_count-n.result in
+    let h : n ≤ 256 = omega (arith, c.requires.well_formed.sized.blocks_most) in
+    record { visit_stage = c.requires; cursors_len = (zero_long n 256 h ∙ c.block_count-n.ensures, λ v. zero_prefix n 256 v); }

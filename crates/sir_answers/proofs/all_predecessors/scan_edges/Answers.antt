@@ -1,0 +1,46 @@
+-- `scan_edges` meets its contract. The invariant: the pieces of the successors left are to be put.
+use mathlib.Core.List.{◌∷◌, []}
+use Prim.Native.Nat.{◌-◌, ◌<◌}
+use native.Mathlib.Omega.{arith}
+use lib.ListN.{length, get_or}
+use Rattle.plank_core.specs.laws.Lists.{get_or_mem}
+use Rattle.sir_data.specs.Records.{blocks, successors}
+use Rattle.sir_answers.proofs.scatter.Scattering.{scattering_none}
+use Rattle.sir_answers.proofs.scatter.PieceLaws.{piece_fits, piece_more, piece_all}
+use Rattle.sir_answers.proofs.all_predecessors.scan_edges.Goals as goal
+
+pub loop-i-init : goal.loop-i-init
+loop-i-init c = (omega arith, scattering_none c.requires.fits)
+
+pub successor-s-requires : goal.successor-s-requires
+successor-s-requires c =
+    record { sized = c.requires.well_formed.sized; in_range = c.requires.well_formed.in_range; b_bound = c.requires.p_bound.0; i_in_bounds = omega (arith, c.successor_count-count.ensures); }
+
+pub append-requires : goal.append-requires
+append-requires c =
+    let w = c.args.words.now in
+    let p = c.args.p.0 in
+    let i = c.loop-i.i in
+    let h : i < length (successors w p) = omega (arith, c.successor_count-count.ensures) in
+    let r = c.successor-s.result.0 in
+    let l : r < blocks w = rw c.successor-s.ensures (c.requires.well_formed.in_range.successor p (get_or (successors w p) i 0) c.requires.p_bound.0 (get_or_mem (successors w p) i 0 h)) in
+    (omega (arith, c.requires.p_bound.1, c.loop-i.invariant.1.wide), piece_fits (λ k. p ∷ []) (successors w p) c.loop-i.i c.loop-i.invariant.1 h c.successor-s.ensures)
+
+pub loop-i-preserved : goal.loop-i-preserved
+loop-i-preserved c =
+    let w = c.args.words.now in
+    let p = c.args.p.0 in
+    let i = c.loop-i.i in
+    let h : i < length (successors w p) = omega (arith, c.successor_count-count.ensures) in
+    (omega arith, piece_more (λ k. p ∷ []) (successors w p) c.loop-i.i c.loop-i.invariant.1 h c.successor-s.ensures c.append.ensures)
+
+pub shape_of-cursors : goal.shape_of-cursors
+shape_of-cursors c = c.loop-i.invariant.1.wide
+
+pub shape_of-out : goal.shape_of-out
+shape_of-out c = c.loop-i.invariant.1.long
+
+pub returns : goal.returns
+returns c =
+    let a = c.args in
+    piece_all (λ k. a.p.0 ∷ []) (successors a.words.now a.p.0) c.loop-i.i c.loop-i.invariant.1 (omega (arith, c.successor_count-count.ensures))

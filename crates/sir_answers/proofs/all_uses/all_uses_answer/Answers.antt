@@ -1,0 +1,20 @@
+-- `all_uses_answer` meets its contract.
+use mathlib.Core.Path.{sym, ◌∙◌}
+use Prim.Native.Nat.{◌≤◌}
+use native.Mathlib.Omega.{arith}
+use Rattle.sir_answers.proofs.scatter.AllAnswers.{zero_long, zero_prefix}
+use Rattle.sir_answers.proofs.all_uses.all_uses_answer.Goals as goal
+
+  statement,
+}
+use Rattle.sir_answers.proofs.all_uses.all_uses_answer.Tie as tie
+
+pub slice_bounds-fill_uses-end : goal.slice_bounds-fill_uses-end
+slice_bounds-fill_uses-end c =
+    sym (zero_long c.local_count-n.result 512 (omega (arith, c.requires.well_formed.sized.locals_most)))
+
+pub fill_uses-requires : goal.fill_uses-requires
+fill_uses-requires c =
+    let n = c.local_count-n.result in
+    let h : n ≤ 512 = omega (arith, c.requires.well_formed.sized.locals_most) in
+    record { visit_stage = c.requires; cursors_len = (zero_long n 512 h ∙ c.local_count-n.ensures, λ v. zero_prefix n 512 v); }

@@ -1,0 +1,31 @@
+-- `scan_condition` meets its contract.
+use mathlib.Core.Path.{◌≡◌, refl, sym, ap, ◌∙◌}
+use mathlib.Core.List.Memᴰ
+use mathlib.Core.List.{List, ◌∷◌, []}
+use Prim.Native.Nat.{ℕ}
+use native.Mathlib.Omega.{arith}
+use Rattle.sir_data.specs.inner.Cases.{tested_locals}
+use Rattle.sir_data.specs.Records.{condition}
+use Rattle.sir_answers.specs.inner.Pieces.{pieces_at}
+use Rattle.sir_answers.proofs.scatter.Scattering.{scatters_nothing, scatters_as, fits_as}
+use Rattle.sir_answers.proofs.all_uses.scan_condition.Goals as goal
+
+pub returns-in_default : goal.returns-in_default
+returns-in_default c =
+    let a = c.args in
+    let none : condition a.words.now a.b.0 ≡ [] = sym c.condition.ensures ∙ ap tested_locals c.enum_told-1.given.1 in
+    scatters_as (sym (ap (λ (l : List ℕ). pieces_at (λ k. a.b.0 ∷ 1 ∷ 0 ∷ []) l 0) none)) scatters_nothing
+
+pub append-requires : goal.append-requires
+append-requires c =
+    let w = c.args.words.now in
+    let b = c.args.b.0 in
+    let v = c.v-1.given.0.0.0 in
+    let one : condition w b ≡ v ∷ [] = sym c.condition.ensures ∙ ap tested_locals c.v-1.given.1 in
+    (omega (arith, c.requires.b_bound.1, c.requires.well_formed.in_range.tested b v c.requires.b_bound.0 (rw one (Memᴰ.head refl))), fits_as (ap (λ (l : List ℕ). pieces_at (λ k. b ∷ 1 ∷ 0 ∷ []) l 0) one) c.requires.fits)
+
+pub returns : goal.returns
+returns c =
+    let a = c.args in
+    let one : condition a.words.now a.b.0 ≡ c.v-1.given.0.0.0 ∷ [] = sym c.condition.ensures ∙ ap tested_locals c.v-1.given.1 in
+    scatters_as (sym (ap (λ (l : List ℕ). pieces_at (λ k. a.b.0 ∷ 1 ∷ 0 ∷ []) l 0) one)) c.append.ensures

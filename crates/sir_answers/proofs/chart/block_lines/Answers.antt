@@ -1,0 +1,18 @@
+-- `block_lines` meets its contract.
+use Prim.Native.Nat.{◌-◌}
+use native.Mathlib.Omega.{arith}
+use Rattle.plank_core.specs.laws.Loops.{length_count}
+use Rattle.sir_data.specs.Records.{block_word}
+use Rattle.sir_answers.proofs.chart.block_lines.Goals as goal
+
+pub overflow_sub-result : goal.overflow_sub-result
+overflow_sub-result c =
+    omega (arith, c.block_operations-span.ensures, c.requires.well_formed.in_range.ops_range c.args.b.0 c.requires.b_bound)
+
+pub returns : goal.returns
+returns c =
+    let w = c.args.words.now in
+    let b = c.args.b.0 in
+    let span = c.block_operations-span.ensures in
+    let range = c.requires.well_formed.in_range.ops_range b c.requires.b_bound in
+    (omega (arith, span, length_count (block_word w b 4) (block_word w b 5 - block_word w b 4)), omega (arith, span, range, c.requires.well_formed.sized.operations_most))

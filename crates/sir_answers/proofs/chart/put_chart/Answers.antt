@@ -1,0 +1,101 @@
+-- `put_chart` meets its contract. The invariant: the series before this one stand before `at`, and the rest is as it was.
+use mathlib.Core.List.{append-nil, List, ◌++◌}
+use mathlib.Core.Path.{◌≡◌, refl, sym, ap, ◌∙◌}
+use Prim.Native.Nat.{ℕ, suc, ◌+◌, ◌-◌, ◌*◌, ◌≤◌, ◌<◌}
+use native.Mathlib.Numerals.{add-one}
+use native.Mathlib.Nat.{mul-suc, mul-le-mul_left}
+use native.Mathlib.Omega.{arith}
+use lib.Seq.{drop-length}
+use lib.ListN.{length, drop}
+use borrow.Rule.Slice.PartMut.{same_len_mid}
+use Rattle.sir_analyses.specs.Allocation.{allocs}
+use Rattle.sir_analyses.proofs.allocation_liveness.PointerTables.{allocations_few}
+use Rattle.sir_analyses.proofs.claims.chart.ChartProof.{series_most}
+use Rattle.sir_analyses.specs.Chart.{series_lines, sheets, series_for, series_count, text_of, chart_lines, chart_text}
+use Rattle.sir_answers.proofs.chart.ChartTexts.{lines_most, series_to, series_next}
+use Rattle.sir_answers.proofs.chart_lines.LineTexts.{fill_next}
+use Rattle.sir_answers.proofs.chart_columns.ColumnLaws.{sites_count, sites_few}
+use Rattle.sir_answers.proofs.chart.put_chart.Goals as goal
+
+-- the text of all series
+text_is : (w : List ℕ) → series_to w (series_count w) ≡ chart_text w
+unfolding chart_lines chart_text
+text_is w = refl
+
+pub alloc_sites-requires : goal.alloc_sites-requires
+alloc_sites-requires c =
+    (c.requires.pointer_stage.long, c.requires.pointer_stage.few)
+
+pub series_count-count-requires : goal.series_count-count-requires
+series_count-count-requires c =
+    omega (arith, ap length c.alloc_sites.ensures, sites_few c.requires.pointer_stage)
+
+pub loop-series-init : goal.loop-series-init
+loop-series-init c = (omega arith, refl, omega arith, refl, refl)
+
+pub overflow_add-end : goal.overflow_add-end
+overflow_add-end c =
+    let w = c.args.words.now in
+    let l = c.loop-series in
+    let count : c.series_count-count.result ≡ series_count w = c.series_count-count.ensures ∙ ap series_for (ap length c.alloc_sites.ensures ∙ sites_count c.requires.pointer_stage) in
+    let more : l.series < series_count w = omega (arith, count, c.loop-series-test.true) in
+    let room : c.args.bytes * suc l.series ≤ c.args.bytes * series_count w = mul-le-mul_left c.args.bytes more in
+    let next = mul-suc c.args.bytes l.series in
+    let eight = mul-le-mul_left c.args.bytes (series_most (length (allocs w)) (allocations_few c.requires.pointer_stage)) in
+    omega (arith, room, next, eight, l.invariant.2, c.requires.bytes_value.0, lines_most c.requires.visit_stage)
+
+pub put_series-requires : goal.put_series-requires
+put_series-requires c =
+    let w = c.args.words.now in
+    let l = c.loop-series in
+    let count : c.series_count-count.result ≡ series_count w = c.series_count-count.ensures ∙ ap series_for (ap length c.alloc_sites.ensures ∙ sites_count c.requires.pointer_stage) in
+    let more : l.series < series_count w = omega (arith, count, c.loop-series-test.true) in
+    let room : c.args.bytes * suc l.series ≤ c.args.bytes * series_count w = mul-le-mul_left c.args.bytes more in
+    let next = mul-suc c.args.bytes l.series in
+    record { visit_stage = c.requires.visit_stage; liveness_stage = c.requires.liveness_stage; pointer_stage = c.requires.pointer_stage; series_bound = (omega (arith, more, series_most (length (allocs w)) (allocations_few c.requires.pointer_stage)), omega (arith, room, next, l.invariant.1, l.invariant.2, c.requires.bytes_value.1, c.requires.bytes_value.0)); }
+
+pub overflow_add-series : goal.overflow_add-series
+overflow_add-series c =
+    let w = c.args.words.now in
+    let l = c.loop-series in
+    let count : c.series_count-count.result ≡ series_count w = c.series_count-count.ensures ∙ ap series_for (ap length c.alloc_sites.ensures ∙ sites_count c.requires.pointer_stage) in
+    let more : l.series < series_count w = omega (arith, count, c.loop-series-test.true) in
+    let room : c.args.bytes * suc l.series ≤ c.args.bytes * series_count w = mul-le-mul_left c.args.bytes more in
+    let next = mul-suc c.args.bytes l.series in
+    omega (arith, more, series_most (length (allocs w)) (allocations_few c.requires.pointer_stage))
+
+pub loop-series-smaller : goal.loop-series-smaller
+loop-series-smaller c =
+    omega (arith, c.loop-series-test.true)
+
+pub loop-series-preserved : goal.loop-series-preserved
+loop-series-preserved c =
+    let w = c.args.words.now in
+    let l = c.loop-series in
+    let count : c.series_count-count.result ≡ series_count w = c.series_count-count.ensures ∙ ap series_for (ap length c.alloc_sites.ensures ∙ sites_count c.requires.pointer_stage) in
+    let more : l.series < series_count w = omega (arith, count, c.loop-series-test.true) in
+    let room : c.args.bytes * suc l.series ≤ c.args.bytes * series_count w = mul-le-mul_left c.args.bytes more in
+    let next = mul-suc c.args.bytes l.series in
+    let d = c.args.out.now in
+    let bytes = c.args.bytes in
+    let long : length c.put_series.new.out ≡ bytes = omega (arith, c.put_series.auto, room, next, l.invariant.1, l.invariant.2, c.requires.bytes_value.1) in
+    let put = fill_next (series_to w l.series) (text_of (sheets (series_lines w l.series))) l.at bytes d l.invariant.3 l.invariant.4 c.put_series.ensures long in (
+      omega (arith, c.loop-series-test.true),
+      same_len_mid l.at (l.at + bytes - l.at) l.out c.put_series.new.out (omega (arith, c.put_series.auto)) ∙ l.invariant.1,
+      omega (arith, l.invariant.2, next, ap (λ (n : ℕ). bytes * n) (add-one l.series)),
+      ap length (sym (series_next w l.series)) ∙ put.0,
+      put.1 ∙ ap (λ (t : List ℕ). t ++ drop (l.at + bytes) d) (series_next w l.series),
+    )
+
+pub shape_of-out : goal.shape_of-out
+shape_of-out c = c.loop-series.invariant.1
+
+pub returns : goal.returns
+returns c =
+    let w = c.args.words.now in
+    let d = c.args.out.now in
+    let l = c.loop-series in
+    let count : c.series_count-count.result ≡ series_count w = c.series_count-count.ensures ∙ ap series_for (ap length c.alloc_sites.ensures ∙ sites_count c.requires.pointer_stage) in
+    let all : l.series ≡ series_count w = omega (arith, count, l.invariant.0, c.loop-series-test.false) in
+    let end : l.at ≡ length d = l.invariant.2 ∙ ap (λ (n : ℕ). c.args.bytes * n) all ∙ sym c.requires.bytes_value.1 in
+    l.invariant.4 ∙ ap (λ (n : ℕ). series_to w n ++ drop l.at d) all ∙ ap (λ (t : List ℕ). series_to w (series_count w) ++ t) (ap (λ (n : ℕ). drop n d) end ∙ drop-length d) ∙ append-nil (series_to w (series_count w)) ∙ text_is w

@@ -1,0 +1,64 @@
+-- `crossing_of_reaches` meets its contract. The invariant: the blocks from b on decide.
+use mathlib.Core.Path.{◌≡◌, sym, ◌∙◌}
+use Prim.Native.Nat.{◌-◌, ◌<◌}
+use native.Mathlib.Omega.{arith}
+use Rattle.sir_data.specs.Records.{blocks, ops}
+use Rattle.sir_analyses.specs.Order.{is_visited}
+use Rattle.sir_analyses.specs.Allocation.{merged}
+use Rattle.sir_analyses.specs.Open.{is_common}
+use Rattle.sir_answers.proofs.crossing.FirstCommon.{none_passes, crossing_starts, crossing_ends, crossing_on, crossing_found, unvisited_apart}
+use Rattle.sir_answers.proofs.crossing.crossing_of_reaches.Goals as goal
+use Rattle.sir_answers.proofs.crossing.crossing_of_reaches.Goals.{else-is_visited, then-is_visited}
+
+pub block_count-count-requires : goal.block_count-count-requires
+block_count-count-requires c =
+    omega (arith, c.requires.visit_stage.well_formed.sized.size)
+
+pub loop-b-init : goal.loop-b-init
+loop-b-init c =
+    λ a d x y. crossing_starts c.args.words.now a d x.unmarked y.unmarked
+
+pub is_visited-requires : goal.is_visited-requires
+is_visited-requires c =
+    (c.requires.visit_stage.long, omega (arith, c.loop-b-test.true, c.block_count-count.ensures, c.requires.visit_stage.well_formed.sized.blocks_most))
+
+pub first_common-found-requires : goal.first_common-found-requires
+first_common-found-requires c =
+    let b = c.loop-b.b in
+    let h : b < blocks c.args.words.now = omega (arith, c.loop-b-test.true, c.block_count-count.ensures) in
+    record { liveness_stage = c.requires.liveness_stage; b_bound = (h, sym (c.is_visited.ensures ∙ c.requires.visit_stage.visited_is b h) ∙ c.if-is_visited.true, c.requires.one_len.0, c.requires.one_len.1); }
+
+pub overflow_add-result : goal.overflow_add-result
+overflow_add-result c =
+    omega (arith, c.loop-b-test.true)
+
+pub returns-then-found-ne0 : goal.returns-then-found-ne0
+returns-then-found-ne0 c =
+    let w = c.args.words.now in
+    let b = c.loop-b.b in
+    let h : b < blocks w = omega (arith, c.loop-b-test.true, c.block_count-count.ensures) in
+    λ a d x y. crossing_found w a d b h (c.first_common-found.ensures a d x y) c.if-found-ne0.true ∙ sym (c.loop-b.invariant a d x y)
+
+pub overflow_add-b : goal.overflow_add-b
+overflow_add-b c =
+    omega (arith, c.loop-b-test.true)
+
+pub loop-b-smaller : goal.loop-b-smaller
+loop-b-smaller c =
+    omega (arith, c.loop-b-test.true)
+
+pub loop-b-preserved : goal.loop-b-preserved
+loop-b-preserved c =
+    let w = c.args.words.now in
+    let b = c.loop-b.b in
+    let h : b < blocks w = omega (arith, c.loop-b-test.true, c.block_count-count.ensures) in
+    let seen : c.is_visited.result ≡ is_visited w b = c.is_visited.ensures ∙ c.requires.visit_stage.visited_is b h in
+    λ a d x y.
+    c.loop-b.invariant a d x y
+    ∙ crossing_on w a d b h
+    (elim c.if-is_visited.branch [ then-is_visited p ↦ none_passes (is_common (merged w a) (merged w d)) b (ops w b) (sym (p.1.ensures a d x y) ∙ p.2.left) | else-is_visited p ↦ unvisited_apart w a d b h x.unmarked (sym seen ∙ p.left) ])
+
+pub returns : goal.returns
+returns c =
+    let w = c.args.words.now in
+    λ a d x y. sym (c.loop-b.invariant a d x y ∙ crossing_ends w a d c.loop-b.b (omega (arith, c.loop-b-test.false, c.block_count-count.ensures)))

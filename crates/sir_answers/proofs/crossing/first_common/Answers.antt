@@ -1,0 +1,95 @@
+-- `first_common` meets its contract. The invariant: whatever block the scan started in, the operations from o on are passed.
+use mathlib.Core.Path.{◌≡◌, refl, ap₂}
+use Prim.Native.Nat.{◌+◌, ◌-◌}
+use native.Mathlib.Omega.{arith}
+use lib.ListN.{length}
+use Rattle.plank_core.specs.Lists.{range}
+use Rattle.plank_core.specs.laws.Loops.{range_before, range_none}
+use Rattle.sir_data.specs.Records.{block_word, ops}
+use Rattle.sir_analyses.proofs.claims.order.OrderProof.{blocks_seen}
+use Rattle.sir_answers.proofs.LiveSets.{ScanStart, live_none}
+use Rattle.sir_answers.proofs.crossing.FirstCommon.{CommonScan, scan_none, scan_more}
+use Rattle.sir_answers.proofs.crossing.first_common.Goals as goal
+
+pub slice_bounds-live_after-end : goal.slice_bounds-live_after-end
+slice_bounds-live_after-end c = refl
+
+pub live_after-requires : goal.live_after-requires
+live_after-requires c =
+    (c.requires.liveness_stage.long, omega (arith, c.requires.b_bound.0, c.requires.liveness_stage.well_formed.sized.blocks_most), refl)
+
+pub block_operations-span-requires : goal.block_operations-span-requires
+block_operations-span-requires c =
+    record { sized = c.requires.liveness_stage.well_formed.sized; b_bound = c.requires.b_bound.0; }
+
+pub loop-o-init : goal.loop-o-init
+loop-o-init c =
+    let span = c.block_operations-span in (
+      omega (arith, span.ensures, c.requires.liveness_stage.well_formed.in_range.ops_range c.args.b.0 c.requires.b_bound.0),
+      omega arith,
+      omega (arith, c.live_after.auto),
+      λ b s. scan_none c.requires.liveness_stage s (range_none span.result.end span.result.end (omega arith)),
+    )
+
+pub slice_bounds-live_around-end : goal.slice_bounds-live_around-end
+slice_bounds-live_around-end c =
+    omega (arith, c.loop-o.invariant.2)
+
+pub live_around-requires : goal.live_around-requires
+live_around-requires c =
+    (c.requires.liveness_stage.long, omega (arith, c.loop-o.invariant.1, c.block_operations-span.ensures, c.requires.liveness_stage.well_formed.in_range.ops_range c.args.b.0 c.requires.b_bound.0, c.requires.liveness_stage.well_formed.sized.operations_most), c.loop-o.invariant.2)
+
+pub slice_bounds-both_meet-end : goal.slice_bounds-both_meet-end
+slice_bounds-both_meet-end c =
+    omega (arith, c.live_around.auto, c.loop-o.invariant.2)
+
+pub both_meet-requires : goal.both_meet-requires
+both_meet-requires c =
+    (c.requires.b_bound.2, c.requires.b_bound.3, omega (arith, c.live_around.auto, c.loop-o.invariant.2))
+
+pub earliest-found-requires : goal.earliest-found-requires
+earliest-found-requires c =
+    omega (arith, c.loop-o.invariant.1, c.block_operations-span.ensures, c.requires.liveness_stage.well_formed.in_range.ops_range c.args.b.0 c.requires.b_bound.0, c.requires.liveness_stage.well_formed.sized.operations_most)
+
+pub slice_bounds-live_before-end : goal.slice_bounds-live_before-end
+slice_bounds-live_before-end c =
+    omega (arith, c.live_around.auto, c.loop-o.invariant.2)
+
+pub live_before-requires : goal.live_before-requires
+live_before-requires c =
+    (c.requires.liveness_stage.long, omega (arith, c.loop-o.invariant.1, c.block_operations-span.ensures, c.requires.liveness_stage.well_formed.in_range.ops_range c.args.b.0 c.requires.b_bound.0, c.requires.liveness_stage.well_formed.sized.operations_most), omega (arith, c.live_around.auto, c.loop-o.invariant.2))
+
+pub loop-o-preserved : goal.loop-o-preserved
+loop-o-preserved c =
+    let l = c.loop-o in
+    let span = c.block_operations-span in
+    let f = c.live_around in
+    let g = c.live_before in
+    let test = c.loop-o-test.true in
+    let next : l.o - 1 + 1 ≡ l.o = omega (arith, test) in
+    let long : length f.new.set ≡ 8 = omega (arith, f.auto, l.invariant.2) in (
+      omega (arith, test),
+      omega (arith, l.invariant.1),
+      omega (arith, g.auto, f.auto, l.invariant.2),
+      λ b s.
+          let k : CommonScan c.args.words.now c.args.one.now c.args.other.now b (range (l.o - 1 + 1) span.result.end) l.set l.found = rw next (l.invariant.3 b s) in
+          rw (range_before l.o span.result.end (omega arith) (omega (arith, l.invariant.1)))
+          (rw next at (scan_more c.requires.liveness_stage s k (omega (arith, test, l.invariant.0)) (omega (arith, test, l.invariant.1)) f.new.set f.ensures long c.both_meet.ensures c.earliest-found.ensures g.ensures (omega (arith, g.auto, f.auto, l.invariant.2)))),
+    )
+
+pub returns : goal.returns
+returns c =
+    let w = c.args.words.now in
+    let b = c.args.b.0 in
+    let l = c.loop-o in
+    let span = c.block_operations-span in
+    let s : ScanStart w span.result.start span.result.end c.live_after.new.set b = record {
+      below = c.requires.b_bound.0;
+      visited = (blocks_seen w b).1 c.requires.b_bound.1;
+      start_is = span.ensures.0;
+      end_is = span.ensures.1;
+      live = live_none c.requires.liveness_stage c.requires.b_bound.0 (omega (arith, c.live_after.auto)) c.live_after.ensures;
+    } in
+    let first : l.o ≡ block_word w b 4 = omega (arith, span.ensures, l.invariant.0, c.loop-o-test.false) in
+    let os : range l.o span.result.end ≡ ops w b = ap₂ range first span.ensures.1 in
+    λ d e x y. rw os at ((l.invariant.3 b s).first_is d e x y)

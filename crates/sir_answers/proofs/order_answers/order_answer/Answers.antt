@@ -1,0 +1,43 @@
+-- `order_answer` meets its contract.
+use mathlib.Core.Path.{ap, ◌∙◌}
+use mathlib.Core.List.{List}
+use Prim.Native.Nat.{ℕ}
+use Rattle.plank_core.specs.Lists.{bind}
+use Rattle.sir_data.specs.Pages.{bytes_of}
+use Rattle.sir_analyses.specs.Calls.{answered}
+use Rattle.sir_answers.specs.declared.questions.Question.{Question}
+use Rattle.sir_answers.proofs.questions.Asked.{answered_as}
+use Rattle.sir_answers.proofs.order_answers.order_answer.Goals as goal
+
+pub all_predecessors_answer-requires : goal.all_predecessors_answer-requires
+all_predecessors_answer-requires c =
+    c.requires.visit_stage
+
+pub all_uses_answer-requires : goal.all_uses_answer-requires
+all_uses_answer-requires c =
+    c.requires.visit_stage
+
+pub returns-in-Order : goal.returns-in-Order
+returns-in-Order c =
+    let a = c.args in
+    c.visit_answer.ensures ∙ ap (λ (l : List ℕ). answered (bind l bytes_of) a.out.now) c.requires.order_stage.order_is ∙ answered_as Question.OfOrder a.words.now c.enum_told-1.given.1 a.out.now
+
+pub returns-in-Predecessors : goal.returns-in-Predecessors
+returns-in-Predecessors c =
+    let a = c.args in
+    c.predecessors_answer.ensures ∙ answered_as Question.OfOrder a.words.now c.question-1.given.1 a.out.now
+
+pub returns-in-Uses : goal.returns-in-Uses
+returns-in-Uses c =
+    let a = c.args in
+    c.uses_answer.ensures ∙ answered_as Question.OfOrder a.words.now c.question-in-Uses-1.given.1 a.out.now
+
+pub returns-in-AllPredecessors : goal.returns-in-AllPredecessors
+returns-in-AllPredecessors c =
+    let a = c.args in
+    c.all_predecessors_answer.ensures ∙ answered_as Question.OfOrder a.words.now c.enum_told-in-AllPredecessors-1.given.1 a.out.now
+
+pub returns-in-AllUses : goal.returns-in-AllUses
+returns-in-AllUses c =
+    let a = c.args in
+    c.all_uses_answer.ensures ∙ answered_as Question.OfOrder a.words.now c.enum_told-in-AllUses-1.given.1 a.out.now
