@@ -272,7 +272,7 @@ module _ (d : Direction) (lo hi : ℕ → ℕ) where
     filled_all : {done : List ℕ} (ps : Pieces) (s : Segments) → v < length s.cursors → Ready d lo hi ps s → Filled d (lo v) (hi v) (get_or s.cursors v 0) done s.out
         → Filled d (lo v) (hi v) (get_or (scatter d ps s).cursors v 0) (collect d v done ps) (scatter d ps s).out
     filled_all [] s h r k = k
-    filled_all (p ∷ ps) s h r k = filled_all ps (piece_put d s p) (rw (cursors_long d s p) h) (ready_next p ps s r) (filled_next p ps s h r k)
+    filled_all {done = done} (p ∷ ps) s h r k = filled_all {done = joined d done (own v p)} ps (piece_put d s p) (rw (cursors_long d s p) h) (ready_next p ps s r) (filled_next p ps s h r k)
 
 -- ---- all segments are filled
 

@@ -35,7 +35,7 @@ sweep_blocks-requires c =
 
 pub slice_bounds-put_heads-end : goal.slice_bounds-put_heads-end
 slice_bounds-put_heads-end c =
-    sym c.copy_numbers.auto.1.0
+    sym c.copy_numbers.auto.to
 
 pub put_heads-requires : goal.put_heads-requires
 put_heads-requires c =

@@ -70,8 +70,8 @@ loop-o-init c =
     let os : ops w b ≡ range span.result.start span.result.end = sym (ap₂ range span.ensures.0 span.ensures.1) in
     let none = range_none span.result.end span.result.end (omega arith) in
     let lives : LiveBefore w b [] c.live_after.new.set = live_none stage below (omega (arith, c.live_after.auto)) c.live_after.ensures in
-    let ends : SweptEnds w b [] c.set_ends.new.till = swept_none stage c.requires.owned_tables below (replicate 512 0) lives c.live_owners-n.ensures.1 c.set_ends.auto.1.1.0 (λ v. zero_at 512 v) c.set_ends.ensures in
-    (omega (arith, few, span.ensures), omega (arith, few, span.ensures), omega arith, c.live_owners-n.auto.1.1.0, rw none lives, rw none ends, scattering_as (ap (λ (l : List ℕ). bind (reverse l) (swept_pieces w b) ++ open_pieces w b) os) (scattering_none c.requires.cursors_len.1))
+    let ends : SweptEnds w b [] c.set_ends.new.till = swept_none stage c.requires.owned_tables below (replicate 512 0) lives c.live_owners-n.ensures.1 c.set_ends.auto.till (λ v. zero_at 512 v) c.set_ends.ensures in
+    (omega (arith, few, span.ensures), omega (arith, few, span.ensures), omega arith, c.live_owners-n.auto.ids, rw none lives, rw none ends, scattering_as (ap (λ (l : List ℕ). bind (reverse l) (swept_pieces w b) ++ open_pieces w b) os) (scattering_none c.requires.cursors_len.1))
 
 pub overflow_sub-o : goal.overflow_sub-o
 overflow_sub-o c = omega (arith, c.loop-o-test.true)
@@ -138,7 +138,8 @@ close_before-requires c =
     let split = c.split_touched-split.ensures in
     let closed = ap (closed_pieces b (o + 1) (number_at L.till)) c.list_row-dead.ensures.1 ∙ swept_closed stage c.requires.owned_tables below L.invariant.4 L.invariant.5 m c.live_before.ensures long split os in
     let k = scattering_as (swept_next w b span.result.start L.o h) L.invariant.6 in
-    (listed_below (row_of c.split_touched-split.result.words 1) L.till c.list_row-dead.ensures.1 L.invariant.5.long, close_ready closed (L.invariant.6.wide ∙ c.requires.cursors_len.0) (swept_below w stage.well_formed b o below) (scattering_fits (swept_pieces w b o) (swept_left w b span.result.start o) k))
+    let ready = close_ready closed (L.invariant.6.wide ∙ c.requires.cursors_len.0) (swept_below w stage.well_formed b o below) (scattering_fits (swept_pieces w b o) (swept_left w b span.result.start o) k) in
+    record { by_index = listed_below (row_of c.split_touched-split.result.words 1) L.till c.list_row-dead.ensures.1 L.invariant.5.long; below = ready.0; fits = ready.1; }
 
 pub slice_bounds-ids-end-in-loop-o-2 : goal.slice_bounds-ids-end-in-loop-o-2
 slice_bounds-ids-end-in-loop-o-2 c =
@@ -251,7 +252,8 @@ close_before-requires-2 c =
     let e = open_closed c.requires.liveness_stage c.requires.owned_tables c.requires.b_bound (rw os at L.invariant.4) c.live_owners-m.ensures.1 (rw os at L.invariant.5) in
     let k = scattering_as (swept_last w b span.result.start L.o c.loop-o-test.false) L.invariant.6 in
     let x = c.live_owners-m.ensures.1 in
-    (listed_below x.owners L.till x.listed L.invariant.5.long, close_ready e (L.invariant.6.wide ∙ c.requires.cursors_len.0) (open_below w c.requires.liveness_stage.well_formed b c.requires.b_bound) (scattering_fits (open_pieces w b) [] k))
+    let ready = close_ready e (L.invariant.6.wide ∙ c.requires.cursors_len.0) (open_below w c.requires.liveness_stage.well_formed b c.requires.b_bound) (scattering_fits (open_pieces w b) [] k) in
+    record { by_index = listed_below x.owners L.till x.listed L.invariant.5.long; below = ready.0; fits = ready.1; }
 
 pub shape_of-cursors : goal.shape_of-cursors
 shape_of-cursors c =

@@ -12,7 +12,8 @@ pub put_lengths-requires : goal.put_lengths-requires
 put_lengths-requires c =
     let stage = c.requires.pointer_stage in
     let counts = c.requires.counts in
-    lengths_fit counts (records_small stage) c.requires.out_len
+    let fit = lengths_fit counts (records_small stage) c.requires.out_len in
+    record { cursors_bound = fit.0; cursors_in_bounds = fit.1.0; by_index = fit.1.1; }
 
 pub scan_allocations-requires : goal.scan_allocations-requires
 scan_allocations-requires c =

@@ -16,14 +16,14 @@ open_block-requires c =
 
 pub slice_bounds-scan_operations-end : goal.slice_bounds-scan_operations-end
 slice_bounds-scan_operations-end c =
-    sym c.open_block.auto.1.1.0
+    sym c.open_block.auto.till
 
 pub scan_operations-requires : goal.scan_operations-requires
 scan_operations-requires c =
     let a = c.args in
     let w = a.words.now in
     let b = a.b.0 in
-    let opened : OpenEnds w b [] c.open_block.new.till = ends_none c.requires.liveness_stage c.requires.b_bound c.open_block.auto.1.1.0 c.open_block.ensures in
+    let opened : OpenEnds w b [] c.open_block.new.till = ends_none c.requires.liveness_stage c.requires.b_bound c.open_block.auto.till c.open_block.ensures in
     record { liveness_stage = c.requires.liveness_stage; b_bound = (c.requires.b_bound, opened); cursors_len = (c.requires.cursors_len.0, room_first forward (operations_pieces w b) (start_pieces w b) c.requires.cursors_len.1); }
 
 pub slice_bounds-close_block-end : goal.slice_bounds-close_block-end

@@ -80,7 +80,8 @@ close_ends-requires c =
     let os : range L.o span.result.end ≡ range (o + 1) (block_word w b 5) = ap₂ range next span.ensures.1 in
     let e = ap (closed_pieces b (o + 1) (number_at L.till)) listed ∙ operation_closed c.requires.liveness_stage c.requires.b_bound.0 L.invariant.4 m os in
     let k = scattering_as (bind_back_step (operation_pieces w b) span.result.start L.o c.loop-o-test.true) L.invariant.5 in
-    (listed_below (row_of (writes_in a.live.now) o) L.till listed L.invariant.4.long, close_ready e (L.invariant.5.wide ∙ c.requires.cursors_len.0) (operation_below c.requires.liveness_stage.well_formed c.requires.b_bound.0 o) (scattering_fits (operation_pieces w b o) (bind (reverse (range span.result.start o)) (operation_pieces w b)) k))
+    let ready = close_ready e (L.invariant.5.wide ∙ c.requires.cursors_len.0) (operation_below c.requires.liveness_stage.well_formed c.requires.b_bound.0 o) (scattering_fits (operation_pieces w b o) (bind (reverse (range span.result.start o)) (operation_pieces w b)) k) in
+    record { by_index = listed_below (row_of (writes_in a.live.now) o) L.till listed L.invariant.4.long; below = ready.0; fits = ready.1; }
 
 pub slice_bounds-ids-end-in-loop-o : goal.slice_bounds-ids-end-in-loop-o
 slice_bounds-ids-end-in-loop-o c =

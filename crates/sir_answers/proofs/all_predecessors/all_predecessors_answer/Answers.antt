@@ -5,10 +5,6 @@ use native.Mathlib.Omega.{arith}
 use Rattle.sir_answers.proofs.scatter.AllAnswers.{zero_long, zero_prefix}
 use Rattle.sir_answers.proofs.all_predecessors.all_predecessors_answer.Goals as goal
 
-  statement,
-}
-use Rattle.sir_answers.proofs.all_predecessors.all_predecessors_answer.Tie as tie
-
 pub slice_bounds-fill_predecessors-end : goal.slice_bounds-fill_predecessors-end
 slice_bounds-fill_predecessors-end c =
     sym (zero_long c.block_count-n.result 256 (omega (arith, c.requires.well_formed.sized.blocks_most)))

@@ -10,7 +10,8 @@ use Rattle.sir_answers.proofs.all_predecessors.write_predecessors.Goals as goal
 
 pub put_lengths-requires : goal.put_lengths-requires
 put_lengths-requires c =
-    lengths_fit c.requires.counts (predecessors_small c.args.words.now c.requires.visit_stage.well_formed) c.requires.out_len
+    let fit = lengths_fit c.requires.counts (predecessors_small c.args.words.now c.requires.visit_stage.well_formed) c.requires.out_len in
+    record { cursors_bound = fit.0; cursors_in_bounds = fit.1.0; by_index = fit.1.1; }
 
 pub scan_predecessors-requires : goal.scan_predecessors-requires
 scan_predecessors-requires c =

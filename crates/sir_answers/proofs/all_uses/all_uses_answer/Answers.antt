@@ -5,10 +5,6 @@ use native.Mathlib.Omega.{arith}
 use Rattle.sir_answers.proofs.scatter.AllAnswers.{zero_long, zero_prefix}
 use Rattle.sir_answers.proofs.all_uses.all_uses_answer.Goals as goal
 
-  statement,
-}
-use Rattle.sir_answers.proofs.all_uses.all_uses_answer.Tie as tie
-
 pub slice_bounds-fill_uses-end : goal.slice_bounds-fill_uses-end
 slice_bounds-fill_uses-end c =
     sym (zero_long c.local_count-n.result 512 (omega (arith, c.requires.well_formed.sized.locals_most)))

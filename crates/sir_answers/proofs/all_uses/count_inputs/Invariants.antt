@@ -10,7 +10,7 @@ use Rattle.sir_answers.proofs.scatter.Scattering.{Scattering}
 use Rattle.sir_answers.proofs.all_uses.count_inputs.Given as goal
 
 abbrev pub invariant-loop-o : goal.invariant-loop-o
-invariant-loop-o l = (l.o ≤ l.last) × Scattering forward (input_pieces l.words l.times) l.initial.cursors [] (bind (range l.o l.last) (λ l.o. pieces_at (λ k. blanks (3 * get_or l.times l.o 0)) (ins l.words l.o) 0)) l.cursors []
+invariant-loop-o l = (l.o ≤ l.last) × Scattering forward (input_pieces l.words l.times) l.initial.cursors [] (bind (range l.o l.last) (λ o. pieces_at (λ k. blanks (3 * get_or l.times o 0)) (ins l.words o) 0)) l.cursors []
 
 abbrev pub decreases-loop-o : goal.decreases-loop-o
 decreases-loop-o l = l.last - l.o

@@ -8,7 +8,7 @@ use Rattle.sir_answers.proofs.scatter.Scattering.{Scattering}
 use Rattle.sir_answers.proofs.all_uses.count_operations.Given as goal
 
 abbrev pub invariant-loop-o : goal.invariant-loop-o
-invariant-loop-o l = Scattering forward (bind (range l.initial.o l.last) (λ l.o. (l.o, blanks 1) ∷ [])) l.initial.times [] (bind (range l.o l.last) (λ l.o. (l.o, blanks 1) ∷ [])) l.times []
+invariant-loop-o l = Scattering forward (bind (range l.initial.o l.last) (λ o. (o, blanks 1) ∷ [])) l.initial.times [] (bind (range l.o l.last) (λ o. (o, blanks 1) ∷ [])) l.times []
 
 abbrev pub decreases-loop-o : goal.decreases-loop-o
 decreases-loop-o l = l.last - l.o

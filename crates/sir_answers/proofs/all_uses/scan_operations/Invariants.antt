@@ -9,7 +9,7 @@ use Rattle.sir_answers.proofs.scatter.Scattering.{Scattering}
 use Rattle.sir_answers.proofs.all_uses.scan_operations.Given as goal
 
 abbrev pub invariant-loop-o : goal.invariant-loop-o
-invariant-loop-o l = Scattering forward (bind (range l.initial.o l.last) (λ l.o. pieces_at (λ k. l.b.0 ∷ 0 ∷ l.o ∷ []) (ins l.words l.o) 0)) l.initial.cursors l.initial.out (bind (range l.o l.last) (λ l.o. pieces_at (λ k. l.b.0 ∷ 0 ∷ l.o ∷ []) (ins l.words l.o) 0)) l.cursors l.out
+invariant-loop-o l = Scattering forward (bind (range l.initial.o l.last) (λ o. pieces_at (λ k. l.b.0 ∷ 0 ∷ o ∷ []) (ins l.words o) 0)) l.initial.cursors l.initial.out (bind (range l.o l.last) (λ o. pieces_at (λ k. l.b.0 ∷ 0 ∷ o ∷ []) (ins l.words o) 0)) l.cursors l.out
 
 abbrev pub decreases-loop-o : goal.decreases-loop-o
 decreases-loop-o l = l.last - l.o

@@ -20,28 +20,28 @@ order_answer-requires c =
 
 pub live_answer-requires : goal.live_answer-requires
 live_answer-requires c =
-    record { visit_stage = c.requires.1; words_value = own_as (λ q. q) c.args.words.now c.question-in-OfLiveness-1.given.1 (sym c.own_refusal-number.ensures ∙ c.if-number-ne0.false); }
+    record { visit_stage = c.requires.1; words_value = own_as (λ q. q) c.args.words.now c.in-OfLiveness.is (sym c.own_refusal-number.ensures ∙ c.if-number-ne0.false); }
 
 pub pointer_answer-requires : goal.pointer_answer-requires
 pointer_answer-requires c =
-    record { visit_stage = c.requires.1; accepted_stage = (c.requires.2, own_as (λ q. q) c.args.words.now c.question-in-OfPointers-1.given.1 (sym c.own_refusal-number.ensures ∙ c.if-number-ne0.false)); }
+    record { visit_stage = c.requires.1; accepted_stage = (c.requires.2, own_as (λ q. q) c.args.words.now c.in-OfPointers.is (sym c.own_refusal-number.ensures ∙ c.if-number-ne0.false)); }
 
 pub returns-in-OfOrder : goal.returns-in-OfOrder
 returns-in-OfOrder c =
     let a = c.args in
-    c.order_answer.ensures ∙ answered_as (λ q. q) a.words.now c.question-1.given.1 a.out.now ∙ call_answered (own_rules a.question a.words.now) (answer_bytes a.question a.words.now) a.out.now (sym c.own_refusal-number.ensures ∙ c.if-number-ne0.false)
+    c.order_answer.ensures ∙ answered_as (λ q. q) a.words.now c.in-OfOrder.is a.out.now ∙ call_answered (own_rules a.question a.words.now) (answer_bytes a.question a.words.now) a.out.now (sym c.own_refusal-number.ensures ∙ c.if-number-ne0.false)
 
 pub returns-in-OfLiveness : goal.returns-in-OfLiveness
 returns-in-OfLiveness c =
     let a = c.args in
-    c.live_answer.ensures ∙ answered_as (λ q. q) a.words.now c.question-in-OfLiveness-1.given.1 a.out.now ∙ call_answered (own_rules a.question a.words.now) (answer_bytes a.question a.words.now) a.out.now (sym c.own_refusal-number.ensures ∙ c.if-number-ne0.false)
+    c.live_answer.ensures ∙ answered_as (λ q. q) a.words.now c.in-OfLiveness.is a.out.now ∙ call_answered (own_rules a.question a.words.now) (answer_bytes a.question a.words.now) a.out.now (sym c.own_refusal-number.ensures ∙ c.if-number-ne0.false)
 
 pub returns-in-OfPointers : goal.returns-in-OfPointers
 returns-in-OfPointers c =
     let a = c.args in
-    c.pointer_answer.ensures ∙ answered_as (λ q. q) a.words.now c.question-in-OfPointers-1.given.1 a.out.now ∙ call_answered (own_rules a.question a.words.now) (answer_bytes a.question a.words.now) a.out.now (sym c.own_refusal-number.ensures ∙ c.if-number-ne0.false)
+    c.pointer_answer.ensures ∙ answered_as (λ q. q) a.words.now c.in-OfPointers.is a.out.now ∙ call_answered (own_rules a.question a.words.now) (answer_bytes a.question a.words.now) a.out.now (sym c.own_refusal-number.ensures ∙ c.if-number-ne0.false)
 
 pub returns-in-Chart : goal.returns-in-Chart
 returns-in-Chart c =
     let a = c.args in
-    c.chart_answer.ensures ∙ answered_as (λ q. q) a.words.now c.enum_told-1.given.1 a.out.now ∙ call_answered (own_rules a.question a.words.now) (answer_bytes a.question a.words.now) a.out.now (sym c.own_refusal-number.ensures ∙ c.if-number-ne0.false)
+    c.chart_answer.ensures ∙ answered_as (λ q. q) a.words.now c.in-Chart.is a.out.now ∙ call_answered (own_rules a.question a.words.now) (answer_bytes a.question a.words.now) a.out.now (sym c.own_refusal-number.ensures ∙ c.if-number-ne0.false)

@@ -44,6 +44,16 @@ overflow_add-end c =
     let eight = mul-le-mul_left c.args.bytes (series_most (length (allocs w)) (allocations_few c.requires.pointer_stage)) in
     omega (arith, room, next, eight, l.invariant.2, c.requires.bytes_value.0, lines_most c.requires.visit_stage)
 
+pub slice_bounds-put_series-end : goal.slice_bounds-put_series-end
+slice_bounds-put_series-end c =
+    let w = c.args.words.now in
+    let l = c.loop-series in
+    let count : c.series_count-count.result ≡ series_count w = c.series_count-count.ensures ∙ ap series_for (ap length c.alloc_sites.ensures ∙ sites_count c.requires.pointer_stage) in
+    let more : l.series < series_count w = omega (arith, count, c.loop-series-test.true) in
+    let room : c.args.bytes * suc l.series ≤ c.args.bytes * series_count w = mul-le-mul_left c.args.bytes more in
+    let next = mul-suc c.args.bytes l.series in
+    omega (arith, room, next, l.invariant.1, l.invariant.2, c.requires.bytes_value.1)
+
 pub put_series-requires : goal.put_series-requires
 put_series-requires c =
     let w = c.args.words.now in

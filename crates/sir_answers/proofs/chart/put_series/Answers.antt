@@ -62,6 +62,16 @@ pub slice_bounds-put_block-end : goal.slice_bounds-put_block-end
 slice_bounds-put_block-end c =
     sym c.other_locals.ensures.long
 
+pub slice_bounds-put_block-end-in-loop-i : goal.slice_bounds-put_block-end-in-loop-i
+slice_bounds-put_block-end-in-loop-i c =
+    let w = c.args.words.now in
+    let order = c.rpo-order.result.now in
+    let l = c.loop-i in
+    let h = c.loop-i-test.true in
+    let same : order ≡ blocks_rpo w = c.rpo-order.ensures ∙ c.requires.visit_stage.rpo_is in
+    let room : 73 * lines_of w (take (l.i + 1) order) ≤ length c.args.out.now = omega (arith, lines_within w order (l.i + 1), ap (lines_of w) same, sheets_hold (lines_of w (blocks_rpo w)), c.requires.series_bound.1) in
+    omega (arith, room, l.invariant.1, l.invariant.2, lines_next w order l.i h, c.block_lines.ensures.0)
+
 pub put_block-requires : goal.put_block-requires
 put_block-requires c =
     let w = c.args.words.now in
@@ -106,6 +116,15 @@ loop-i-preserved c =
 
 pub slice_bounds-put_blanks-count : goal.slice_bounds-put_blanks-count
 slice_bounds-put_blanks-count c =
+    let w = c.args.words.now in
+    let order = c.rpo-order.result.now in
+    let l = c.loop-i in
+    let same : order ≡ blocks_rpo w = c.rpo-order.ensures ∙ c.requires.visit_stage.rpo_is in
+    let room : 73 * lines_of w (take l.i order) ≤ length c.args.out.now = omega (arith, lines_within w order l.i, ap (lines_of w) same, sheets_hold (lines_of w (blocks_rpo w)), c.requires.series_bound.1) in
+    omega (arith, room, l.invariant.1, l.invariant.2)
+
+pub slice_bounds-put_blanks-start : goal.slice_bounds-put_blanks-start
+slice_bounds-put_blanks-start c =
     let w = c.args.words.now in
     let order = c.rpo-order.result.now in
     let l = c.loop-i in

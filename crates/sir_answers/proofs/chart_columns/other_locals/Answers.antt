@@ -35,7 +35,7 @@ loop-v-preserved-then-not-in_series c =
     let a = c.args in
     let l = c.loop-v in
     let own : ℕ → Bool = λ u. not (in_series a.series (unmarked_owner a.pointers.now u)) in
-    let out : own l.v ≡ true = ap (λ (x : ℕ). not (in_series a.series x)) (sym c.unmarked_owner-owner.ensures.0) ∙ ap not (sym c.in_series.ensures) ∙ c.if-not-in_series.true in
+    let out : own l.v ≡ true = ap (λ (x : ℕ). not (in_series a.series x)) (sym c.unmarked_owner-owner.ensures.0) ∙ ap not (sym c.in_series.ensures ∙ c.if-not-in_series.true) in
     let place : 512 * 0 + (l.v + 1 - 1) ≡ l.v = omega arith in
     (omega arith, omega (arith, c.row_add.auto, l.invariant.1), below_more own l.others l.v l.invariant.2 _ l.invariant.1 (rw place at c.row_add.ensures.1) out)
 
@@ -44,7 +44,7 @@ loop-v-preserved c =
     let a = c.args in
     let l = c.loop-v in
     let own : ℕ → Bool = λ u. not (in_series a.series (unmarked_owner a.pointers.now u)) in
-    let kept : own l.v ≡ false = ap (λ (x : ℕ). not (in_series a.series x)) (sym c.unmarked_owner-owner.ensures.0) ∙ ap not (sym c.in_series.ensures) ∙ c.if-not-in_series.false in
+    let kept : own l.v ≡ false = ap (λ (x : ℕ). not (in_series a.series x)) (sym c.unmarked_owner-owner.ensures.0) ∙ ap not (sym c.in_series.ensures ∙ c.if-not-in_series.false) in
     (omega arith, l.invariant.1, below_on own l.others l.v l.invariant.2 kept)
 
 pub shape_of-others : goal.shape_of-others

@@ -13,7 +13,7 @@ use Rattle.sir_analyses.proofs.allocation_answers.AllocationWords.{mark_told}
 use Rattle.sir_analyses.proofs.allocation_liveness.PointerTables.{allocations_few}
 use Rattle.sir_answers.proofs.crossing.FirstCommon.{crossing_marked}
 use Rattle.sir_answers.proofs.crossing.crossing_answer.Goals as goal
-use Rattle.sir_answers.proofs.crossing.crossing_answer.Goals.{else-is_marked, then-is_marked}
+use Rattle.sir_answers.proofs.crossing.crossing_answer.Goals.{then-is_marked-via-then-is_marked, then-is_marked-via-else-is_marked+then-is_marked-2}
 
 pub is_marked-requires : goal.is_marked-requires
 is_marked-requires c =
@@ -33,7 +33,10 @@ returns-then-is_marked c =
     let found = c.requires.pointer_stage.discovered in
     let known = c.requires.one_in_bounds in
     let either : (marked w a || marked w d) ≡ true =
-    elim c.if-is_marked.branch [ then-is_marked x ↦ or_true_left (marked w a) (marked w d) (mark_told found known.0 c.is_marked.ensures x.taken) | else-is_marked x ↦ or_true_right (marked w a) (marked w d) (mark_told found known.1 x.1.ensures x.2.taken) ] in
+    elim c.then-is_marked.branch [
+      then-is_marked-via-then-is_marked x ↦ or_true_left (marked w a) (marked w d) (mark_told found known.0 c.is_marked.ensures x.if-is_marked.true)
+      | then-is_marked-via-else-is_marked+then-is_marked-2 x ↦ or_true_right (marked w a) (marked w d) (mark_told found known.1 x.is_marked-else-is_marked.ensures x.if-is_marked-2.true)
+    ] in
     c.words_answer.ensures ∙ ap (λ (l : List ℕ). answered (bind l bytes_of) c.args.out.now) (crossing_marked w a d either)
 
 pub unmarked_crossing-told-requires : goal.unmarked_crossing-told-requires

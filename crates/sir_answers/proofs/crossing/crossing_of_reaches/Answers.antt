@@ -8,7 +8,7 @@ use Rattle.sir_analyses.specs.Allocation.{merged}
 use Rattle.sir_analyses.specs.Open.{is_common}
 use Rattle.sir_answers.proofs.crossing.FirstCommon.{none_passes, crossing_starts, crossing_ends, crossing_on, crossing_found, unvisited_apart}
 use Rattle.sir_answers.proofs.crossing.crossing_of_reaches.Goals as goal
-use Rattle.sir_answers.proofs.crossing.crossing_of_reaches.Goals.{else-is_visited, then-is_visited}
+use Rattle.sir_answers.proofs.crossing.crossing_of_reaches.Goals.{then-is_visited+else-found-ne0, else-is_visited}
 
 pub block_count-count-requires : goal.block_count-count-requires
 block_count-count-requires c =
@@ -56,7 +56,10 @@ loop-b-preserved c =
     λ a d x y.
     c.loop-b.invariant a d x y
     ∙ crossing_on w a d b h
-    (elim c.if-is_visited.branch [ then-is_visited p ↦ none_passes (is_common (merged w a) (merged w d)) b (ops w b) (sym (p.1.ensures a d x y) ∙ p.2.left) | else-is_visited p ↦ unvisited_apart w a d b h x.unmarked (sym seen ∙ p.left) ])
+    (elim c.if-is_visited.branch [
+      then-is_visited+else-found-ne0 p ↦ none_passes (is_common (merged w a) (merged w d)) b (ops w b) (sym (p.first_common-found.ensures a d x y) ∙ p.if-found-ne0.false)
+      | else-is_visited p ↦ unvisited_apart w a d b h x.unmarked (sym seen ∙ p.if-is_visited.false)
+    ])
 
 pub returns : goal.returns
 returns c =

@@ -14,7 +14,7 @@ use Rattle.sir_answers.proofs.live_answers.answer_from_sets.Goals as goal
 
 pub entry_answer-requires : goal.entry_answer-requires
 entry_answer-requires c =
-    record { visit_stage = c.requires.visit_stage; liveness_stage = (c.requires.liveness_stage.0, known_below blocks _ c.args.words.now (own_as Question.OfLiveness c.args.words.now c.question-1.given.1 c.requires.words_value)); }
+    record { visit_stage = c.requires.visit_stage; liveness_stage = (c.requires.liveness_stage.0, known_below blocks _ c.args.words.now (own_as Question.OfLiveness c.args.words.now c.in-EntrySet.is c.requires.words_value)); }
 
 pub exits-requires : goal.exits-requires
 exits-requires c =
@@ -22,15 +22,15 @@ exits-requires c =
 
 pub row_of-requires : goal.row_of-requires
 row_of-requires c =
-    exit_row_fits c.requires.visit_stage.well_formed c.requires.liveness_stage.0.sets (known_below blocks _ c.args.words.now (own_as Question.OfLiveness c.args.words.now c.question-in-ExitSet-1.given.1 c.requires.words_value)) c.exits.ensures
+    exit_row_fits c.requires.visit_stage.well_formed c.requires.liveness_stage.0.sets (known_below blocks _ c.args.words.now (own_as Question.OfLiveness c.args.words.now c.in-ExitSet.is c.requires.words_value)) c.exits.ensures
 
 pub set_answer-requires : goal.set_answer-requires
 set_answer-requires c =
-    (row_answer c.requires.visit_stage.well_formed c.requires.liveness_stage.0.sets (known_below blocks _ c.args.words.now (own_as Question.OfLiveness c.args.words.now c.question-in-ExitSet-1.given.1 c.requires.words_value)) (rw c.exits.ensures at c.row_of.ensures)).0
+    (row_answer c.requires.visit_stage.well_formed c.requires.liveness_stage.0.sets (known_below blocks _ c.args.words.now (own_as Question.OfLiveness c.args.words.now c.in-ExitSet.is c.requires.words_value)) (rw c.exits.ensures at c.row_of.ensures)).0
 
 pub intervals_answer-requires : goal.intervals_answer-requires
 intervals_answer-requires c =
-    record { visit_stage = c.requires.visit_stage; liveness_stage = (c.requires.liveness_stage.0, known_below locals _ c.args.words.now (own_as Question.OfLiveness c.args.words.now c.question-in-Intervals-1.given.1 c.requires.words_value)); }
+    record { visit_stage = c.requires.visit_stage; liveness_stage = (c.requires.liveness_stage.0, known_below locals _ c.args.words.now (own_as Question.OfLiveness c.args.words.now c.in-Intervals.is c.requires.words_value)); }
 
 pub all_entry_sets_answer-requires : goal.all_entry_sets_answer-requires
 all_entry_sets_answer-requires c =
@@ -46,30 +46,30 @@ all_intervals_answer-requires c =
 
 pub returns-in-EntrySet : goal.returns-in-EntrySet
 returns-in-EntrySet c =
-    c.entry_answer.ensures ∙ answered_as Question.OfLiveness c.args.words.now c.question-1.given.1 c.args.out.now
+    c.entry_answer.ensures ∙ answered_as Question.OfLiveness c.args.words.now c.in-EntrySet.is c.args.out.now
 
 pub returns-in-ExitSet : goal.returns-in-ExitSet
 returns-in-ExitSet c =
     let a = c.args in
-    c.set_answer.ensures ∙ ap (λ (l : List ℕ). answered (bind l bytes_of) a.out.now) (row_answer c.requires.visit_stage.well_formed c.requires.liveness_stage.0.sets (known_below blocks _ a.words.now (own_as Question.OfLiveness a.words.now c.question-in-ExitSet-1.given.1 c.requires.words_value)) (rw c.exits.ensures at c.row_of.ensures)).1 ∙ answered_as Question.OfLiveness a.words.now c.question-in-ExitSet-1.given.1 a.out.now
+    c.set_answer.ensures ∙ ap (λ (l : List ℕ). answered (bind l bytes_of) a.out.now) (row_answer c.requires.visit_stage.well_formed c.requires.liveness_stage.0.sets (known_below blocks _ a.words.now (own_as Question.OfLiveness a.words.now c.in-ExitSet.is c.requires.words_value)) (rw c.exits.ensures at c.row_of.ensures)).1 ∙ answered_as Question.OfLiveness a.words.now c.in-ExitSet.is a.out.now
 
 pub returns-in-Intervals : goal.returns-in-Intervals
 returns-in-Intervals c =
-    c.intervals_answer.ensures ∙ answered_as Question.OfLiveness c.args.words.now c.question-in-Intervals-1.given.1 c.args.out.now
+    c.intervals_answer.ensures ∙ answered_as Question.OfLiveness c.args.words.now c.in-Intervals.is c.args.out.now
 
 pub returns-in-Rounds : goal.returns-in-Rounds
 returns-in-Rounds c =
     let a = c.args in
-    c.words_answer.ensures ∙ ap (λ (n : ℕ). answered (bind (n ∷ []) bytes_of) a.out.now) c.requires.liveness_stage.1 ∙ answered_as Question.OfLiveness a.words.now c.enum_told-1.given.1 a.out.now
+    c.words_answer.ensures ∙ ap (λ (n : ℕ). answered (bind (n ∷ []) bytes_of) a.out.now) c.requires.liveness_stage.1 ∙ answered_as Question.OfLiveness a.words.now c.in-Rounds.is a.out.now
 
 pub returns-in-AllEntrySets : goal.returns-in-AllEntrySets
 returns-in-AllEntrySets c =
-    c.all_entry_sets_answer.ensures ∙ answered_as Question.OfLiveness c.args.words.now c.enum_told-in-AllEntrySets-1.given.1 c.args.out.now
+    c.all_entry_sets_answer.ensures ∙ answered_as Question.OfLiveness c.args.words.now c.in-AllEntrySets.is c.args.out.now
 
 pub returns-in-AllExitSets : goal.returns-in-AllExitSets
 returns-in-AllExitSets c =
-    c.all_exit_sets_answer.ensures ∙ answered_as Question.OfLiveness c.args.words.now c.enum_told-in-AllExitSets-1.given.1 c.args.out.now
+    c.all_exit_sets_answer.ensures ∙ answered_as Question.OfLiveness c.args.words.now c.in-AllExitSets.is c.args.out.now
 
 pub returns-in-AllIntervals : goal.returns-in-AllIntervals
 returns-in-AllIntervals c =
-    c.all_intervals_answer.ensures ∙ answered_as Question.OfLiveness c.args.words.now c.enum_told-in-AllIntervals-1.given.1 c.args.out.now
+    c.all_intervals_answer.ensures ∙ answered_as Question.OfLiveness c.args.words.now c.in-AllIntervals.is c.args.out.now

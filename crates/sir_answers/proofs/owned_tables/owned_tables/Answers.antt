@@ -31,7 +31,7 @@ shape_of-owned c =
     let adds = c.own_rows.ensures in
     let put = put_long 0 4104 owned rows (adds.long ∙ length_part 0 4104 owned (omega (arith, long))) (omega (arith, long)) ∙ long in
     let words = c.own_words.new.owners in
-    put_long 4104 512 (put_back 0 4104 owned rows) words (c.own_words.auto.1.1.0 ∙ length_part 4104 512 (put_back 0 4104 owned rows) (omega (arith, put))) (omega (arith, put)) ∙ put ∙ sym long
+    put_long 4104 512 (put_back 0 4104 owned rows) words (c.own_words.auto.owners ∙ length_part 4104 512 (put_back 0 4104 owned rows) (omega (arith, put))) (omega (arith, put)) ∙ put ∙ sym long
 
 pub returns : goal.returns
 unfolding part
@@ -42,4 +42,4 @@ returns c =
     let adds = c.own_rows.ensures in
     let put = put_long 0 4104 owned rows (adds.long ∙ length_part 0 4104 owned (omega (arith, long))) (omega (arith, long)) ∙ long in
     let words = c.own_words.new.owners in
-    tables_owned c.requires.pointer_stage words c.requires.owned_value adds (c.own_words.auto.1.1.0 ∙ length_part 4104 512 (put_back 0 4104 owned rows) (omega (arith, put))) c.own_words.ensures
+    tables_owned c.requires.pointer_stage words c.requires.owned_value adds (c.own_words.auto.owners ∙ length_part 4104 512 (put_back 0 4104 owned rows) (omega (arith, put))) c.own_words.ensures

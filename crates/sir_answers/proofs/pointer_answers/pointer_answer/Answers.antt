@@ -22,12 +22,12 @@ compute_pointers-requires c =
 pub one_allocation-requires : goal.one_allocation-requires
 one_allocation-requires c =
     let w = c.args.words.now in
-    record { visit_stage = c.requires.visit_stage; pointer_stage = (c.compute_pointers.ensures, known_below (λ x. length (allocs x)) _ w (own_as Question.OfPointers w c.question-1.given.1 c.requires.accepted_stage.1)); }
+    record { visit_stage = c.requires.visit_stage; pointer_stage = (c.compute_pointers.ensures, known_below (λ x. length (allocs x)) _ w (own_as Question.OfPointers w c.in-Allocation.is c.requires.accepted_stage.1)); }
 
 pub owner_of-requires : goal.owner_of-requires
 owner_of-requires c =
     let w = c.args.words.now in
-    (c.compute_pointers.ensures.long, omega (arith, known_below locals _ w (own_as Question.OfPointers w c.question-in-Owner-1.given.1 c.requires.accepted_stage.1), c.requires.visit_stage.well_formed.sized.locals_most))
+    (c.compute_pointers.ensures.long, omega (arith, known_below locals _ w (own_as Question.OfPointers w c.in-Owner.is c.requires.accepted_stage.1), c.requires.visit_stage.well_formed.sized.locals_most))
 
 pub every_allocation-requires : goal.every_allocation-requires
 every_allocation-requires c =
@@ -40,40 +40,40 @@ all_owners_answer-requires c =
 pub open_answer-requires : goal.open_answer-requires
 open_answer-requires c =
     let w = c.args.words.now in
-    record { visit_stage = c.requires.visit_stage; pointer_stage = c.compute_pointers.ensures; b_bound = open_held _ _ w (own_as Question.OfPointers w c.question-in-Open-1.given.1 c.requires.accepted_stage.1); }
+    record { visit_stage = c.requires.visit_stage; pointer_stage = c.compute_pointers.ensures; b_bound = open_held _ _ w (own_as Question.OfPointers w c.in-Open.is c.requires.accepted_stage.1); }
 
 pub crossing_answer-requires : goal.crossing_answer-requires
 crossing_answer-requires c =
     let w = c.args.words.now in
-    record { visit_stage = c.requires.visit_stage; pointer_stage = c.compute_pointers.ensures; one_in_bounds = crossing_known _ _ w (own_as Question.OfPointers w c.question-in-Crossing-1.given.1 c.requires.accepted_stage.1); }
+    record { visit_stage = c.requires.visit_stage; pointer_stage = c.compute_pointers.ensures; one_in_bounds = crossing_known _ _ w (own_as Question.OfPointers w c.in-Crossing.is c.requires.accepted_stage.1); }
 
 pub returns-in-Allocation : goal.returns-in-Allocation
 returns-in-Allocation c =
     let a = c.args in
-    c.one_allocation.ensures ∙ answered_as Question.OfPointers a.words.now c.question-1.given.1 a.out.now
+    c.one_allocation.ensures ∙ answered_as Question.OfPointers a.words.now c.in-Allocation.is a.out.now
 
 pub returns-in-Owner : goal.returns-in-Owner
 returns-in-Owner c =
     let a = c.args in
     let w = a.words.now in
-    c.words_answer.ensures ∙ ap (λ (n : ℕ). answered (bind (n ∷ []) bytes_of) a.out.now) (c.owner_of.ensures ∙ c.compute_pointers.ensures.discovered.owner_is _ (known_below locals _ w (own_as Question.OfPointers w c.question-in-Owner-1.given.1 c.requires.accepted_stage.1))) ∙ answered_as Question.OfPointers w c.question-in-Owner-1.given.1 a.out.now
+    c.words_answer.ensures ∙ ap (λ (n : ℕ). answered (bind (n ∷ []) bytes_of) a.out.now) (c.owner_of.ensures ∙ c.compute_pointers.ensures.discovered.owner_is _ (known_below locals _ w (own_as Question.OfPointers w c.in-Owner.is c.requires.accepted_stage.1))) ∙ answered_as Question.OfPointers w c.in-Owner.is a.out.now
 
 pub returns-in-AllAllocations : goal.returns-in-AllAllocations
 returns-in-AllAllocations c =
     let a = c.args in
-    c.every_allocation.ensures ∙ answered_as Question.OfPointers a.words.now c.enum_told-1.given.1 a.out.now
+    c.every_allocation.ensures ∙ answered_as Question.OfPointers a.words.now c.in-AllAllocations.is a.out.now
 
 pub returns-in-AllOwners : goal.returns-in-AllOwners
 returns-in-AllOwners c =
     let a = c.args in
-    c.all_owners_answer.ensures ∙ answered_as Question.OfPointers a.words.now c.enum_told-in-AllOwners-1.given.1 a.out.now
+    c.all_owners_answer.ensures ∙ answered_as Question.OfPointers a.words.now c.in-AllOwners.is a.out.now
 
 pub returns-in-Open : goal.returns-in-Open
 returns-in-Open c =
     let a = c.args in
-    c.open_answer.ensures ∙ answered_as Question.OfPointers a.words.now c.question-in-Open-1.given.1 a.out.now
+    c.open_answer.ensures ∙ answered_as Question.OfPointers a.words.now c.in-Open.is a.out.now
 
 pub returns-in-Crossing : goal.returns-in-Crossing
 returns-in-Crossing c =
     let a = c.args in
-    c.crossing_answer.ensures ∙ answered_as Question.OfPointers a.words.now c.question-in-Crossing-1.given.1 a.out.now
+    c.crossing_answer.ensures ∙ answered_as Question.OfPointers a.words.now c.in-Crossing.is a.out.now

@@ -17,27 +17,22 @@ returns-then-number-ne0 c =
 pub pages_for-n-requires : goal.pages_for-n-requires
 pages_for-n-requires c = omega (arith, c.read_records-number.ensures.few c.if-number-ne0.false)
 
--- past `pages_for`, where the records were read and refused by no rule
-abbrev at_read : goal.After-pages_for-n → goal.After-read_records-number
-at_read c = c.before.before.before
-
 pub slice_bounds-lent-end : goal.slice_bounds-lent-end
-slice_bounds-lent-end c = omega (arith, c.pages_for-n.ensures, (at_read c).read-records.ensures.room c.if-number-ne0.false)
+slice_bounds-lent-end c = omega (arith, c.pages_for-n.ensures, c.read_records-number.ensures.room c.if-number-ne0.false)
 
 pub slice_bounds-write_words-end : goal.slice_bounds-write_words-end
 slice_bounds-write_words-end c =
-    sym (length-take-le _ _ (omega (arith, c.pages_for-n.ensures, (at_read c.before).read-records.ensures.room c.if-number-ne0.false)))
+    sym (length-take-le _ _ (omega (arith, c.pages_for-n.ensures, c.read_records-number.ensures.room c.if-number-ne0.false)))
 
 pub write_words-requires : goal.write_words-requires
 write_words-requires c =
-    let k = (at_read c.before.before).read-records.ensures in
+    let k = c.read_records-number.ensures in
     let z = c.if-number-ne0.false in
-    rw c.pages_for-n.ensures (front_formed k z, front_paged k z)
+    rw c.pages_for-n.ensures (record { well_formed = front_formed k z; words_len = front_paged k z; })
 
 pub returns : goal.returns
 returns c =
-    let at_known = (at_read c.before.before.before.before.before).before.before.before in
-    let a = at_known.before.args in
+    let a = c.args in
     let r = a.records.now in
-    let bytes : Bytes r = λ i l. omega (arith, at_known.shared-slice-known.given i) in
-    record { out_after = rw c.pages_for-n.ensures at c.write_words.ensures ∙ lent_written (at_read c.before.before.before.before.before).read-records.ensures c.if-number-ne0.false a.out.now; read_back = read_back r bytes; readers_number = readers_number r bytes; }
+    let bytes : Bytes r = λ i l. omega (arith, c.type_inv.records i) in
+    record { out_after = rw c.pages_for-n.ensures at c.write_words.ensures ∙ lent_written c.read_records-number.ensures c.if-number-ne0.false a.out.now; read_back = read_back r bytes; readers_number = readers_number r bytes; }
