@@ -1,6 +1,7 @@
 pub mod Pages
 pub mod Records
 pub mod Codes
+pub mod Givers
 pub mod Rules
 pub mod Paging
 pub mod ExampleRows

@@ -4,6 +4,7 @@
 mod block_rules;
 mod bounds;
 pub mod codes;
+pub mod giver_rules;
 pub mod image;
 pub mod lent_records;
 mod operation_rules;

@@ -1,7 +1,7 @@
 -- Sets of numbers below 512 in eight words of 64 digits, and tables of such sets, one row of eight words after the other.
 -- A set is what `contains` says of each number; row r of a table holds i where the table holds 512 * r + i.
 use Rattle.std.specs.Prelude.{Bool, false, not, ◌&&◌, ◌||◌, cond, List, map, ℕ, zero, suc, ◌+◌, ◌*◌, ◌/◌, ◌%◌, ◌^◌, length, get_or, take, drop, eqb}
-use Rattle.plank_core.specs.Lists.{upto, all, any, keep, distinct}
+use Rattle.plank_core.specs.Lists.{foldl, upto, all, any, keep, distinct}
 
 -- is binary digit k of a word 1?
 unfoldable pub bit : ℕ → ℕ → Bool
@@ -27,6 +27,10 @@ empty_set = set_of 8 (λ n. false)
 -- a set or table with the number i added
 unfoldable pub added : List ℕ → ℕ → List ℕ
 added ws i = set_of (length ws) (λ n. eqb n i || contains ws n)
+
+-- a set or table with these numbers added, one after the other
+abbrev pub added_all : List ℕ → List ℕ → List ℕ
+added_all ws is = foldl added ws is
 
 -- a set or table with the number i taken out
 unfoldable pub removed : List ℕ → ℕ → List ℕ

@@ -1,0 +1,64 @@
+-- `all_new` meets its contract. The loop's invariant: the numbers that are left decide, and go into the set.
+use Rattle.std.proofs.Common.{◌≡◌, ℕ, ◌+◌, ◌-◌, ◌<◌, ◌≤◌, true, false, List, [], ◌∷◌, ◌++◌, length, get_or, drop, sym, refl, ◌∙◌, zero-add, arith, drop_of_length-le}
+use borrow.Author.Tests.{not-true, not-false}
+use Rattle.plank_core.specs.laws.Lists.{none, get_or_mem, drop_mem}
+use Rattle.plank_core.specs.laws.Loops.{drop_next}
+use Rattle.plank_core.specs.inner.DenseIndexSet.{contains, added, fresh}
+use Rattle.plank_core.specs.laws.DenseIndexSet.{length_added}
+use Rattle.sir_data.proofs.giver_rules.Passing as passing
+use Rattle.sir_data.proofs.giver_rules.Passing.{Passing, Locals}
+use Rattle.sir_data.proofs.giver_rules.all_new.Goals as goal
+
+pub loop-i-init : goal.loop-i-init
+loop-i-init c = (omega arith, passing.start c.requires.set_len)
+
+pub row_add-requires : goal.row_add-requires
+row_add-requires c =
+    let l = c.loop-i in
+    (omega (arith, l.invariant.1.wide), c.requires.by_index _ (get_or_mem c.args.run.now l.i 0 (omega arith)))
+
+pub shape_of-set-then-not-row_add : goal.shape_of-set-then-not-row_add
+shape_of-set-then-not-row_add c =
+    let l = c.loop-i in
+    rw c.row_add.ensures.1 (length_added l.set _ ∙ l.invariant.1.wide ∙ sym c.requires.set_len)
+
+-- the run from place i on: the next number, and then those left
+module _ {set₀ set run : List ℕ} {i : ℕ} (h : i < length run) (small : Locals run) (p : Passing set₀ run set (drop i run)) where
+  abbrev x : ℕ
+  x = get_or run i 0
+
+  fit : Locals ((x ∷ []) ++ drop (i + 1) run)
+  fit v m = small v (drop_mem v run i (rw (drop_next i run h) m))
+
+  split : Passing set₀ run set ((x ∷ []) ++ drop (i + 1) run)
+  split = rw (drop_next i run h) at p
+
+  added_next : {next : List ℕ} → contains set x ≡ false → next ≡ added set x → Passing set₀ run next (drop (i + 1) run)
+  added_next e more = passing.step (x ∷ []) (drop (i + 1) run) fit split (rw e) more
+
+  there : contains set x ≡ true → false ≡ fresh set₀ run
+  there e = passing.stop (x ∷ []) (drop (i + 1) run) fit split (rw e)
+
+pub returns-then-not-row_add : goal.returns-then-not-row_add
+returns-then-not-row_add c =
+    let l = c.loop-i in
+    let e = not-false _ (rw zero-add at (sym c.row_add.ensures.0) ∙ c.if-not-row_add.true) in
+    record { value = there (omega arith) c.requires.by_index l.invariant.1 e; set_after = λ h. none _ h refl; }
+
+pub loop-i-preserved : goal.loop-i-preserved
+loop-i-preserved c =
+    let l = c.loop-i in
+    let less : l.i + 1 ≤ length c.args.run.now = omega arith in
+    let e = not-true _ (rw zero-add at (sym c.row_add.ensures.0) ∙ c.if-not-row_add.false) in
+    (less, added_next (omega (arith, less)) c.requires.by_index l.invariant.1 e (rw zero-add at c.row_add.ensures.1))
+
+pub shape_of-set : goal.shape_of-set
+shape_of-set c =
+    c.loop-i.invariant.1.wide ∙ sym c.requires.set_len
+
+pub returns : goal.returns
+returns c =
+    let l = c.loop-i in
+    let xs : List ℕ = c.args.run.now in
+    let done = passing.end (rw (drop_of_length-le xs {i = l.i} (omega arith)) at l.invariant.1) in
+    record { value = done.0; set_after = λ h. done.1; }

@@ -1,0 +1,11 @@
+-- `inputs_new` meets its contract. The loop's invariant: the blocks that are left decide, and go into the set.
+use Rattle.std.proofs.Common.{◌-◌}
+use Rattle.sir_data.specs.Records.{blocks, inputs}
+use Rattle.sir_data.proofs.giver_rules.Passing.{PassingRuns}
+use Rattle.sir_data.proofs.giver_rules.inputs_new.Given as goal
+
+abbrev pub invariant-loop-b : goal.invariant-loop-b
+invariant-loop-b l = PassingRuns l.initial.given (inputs l.words) (blocks l.words) l.given l.b
+
+abbrev pub decreases-loop-b : goal.decreases-loop-b
+decreases-loop-b l = l.n - l.b

@@ -1,0 +1,11 @@
+-- `outputs_new` meets its contract. The loop's invariant: the operations that are left decide, and go into the set.
+use Rattle.std.proofs.Common.{◌-◌}
+use Rattle.sir_data.specs.Records.{operations, outs}
+use Rattle.sir_data.proofs.giver_rules.Passing.{PassingRuns}
+use Rattle.sir_data.proofs.giver_rules.outputs_new.Given as goal
+
+abbrev pub invariant-loop-o : goal.invariant-loop-o
+invariant-loop-o l = PassingRuns l.initial.given (outs l.words) (operations l.words) l.given l.o
+
+abbrev pub decreases-loop-o : goal.decreases-loop-o
+decreases-loop-o l = l.n - l.o
