@@ -4,7 +4,7 @@ use Rattle.std.proofs.Common.{sym, ap, ap₂, ◌∙◌, ⊎_elim, append_assoc,
 use Rattle.std.proofs.Math.Nat.{zero-min}
 use Rattle.std.specs.Int.Bits.{bit_and, and_self}
 use Rattle.std.specs.Int.Count.{count_trailing_zeros, ones, ones_step, ones-ones}
-use Rattle.plank_core.specs.Lists.{count, upto, all, keep, ◌∈◌}
+use Rattle.plank_core.specs.Lists.{count, upto, keep, ◌∈◌}
 use Rattle.plank_core.specs.inner.DenseIndexSet.{bit, contains, members}
 use Rattle.plank_core.specs.laws.Lists.{mem_count, count_mem, keep_most, keep_mem, keep_out}
 use Rattle.plank_core.specs.laws.Loops.{count_add, length_count, keep_append}

@@ -1,7 +1,7 @@
 -- `intersects` meets its contract. The invariant: no digit is in both of the words so far.
 use mathlib.Core.Path.{◌≡◌, sym}
 use mathlib.Core.Bool.{◌&&◌}
-use Prim.Native.Nat.{◌-◌, ◌<◌, ◌^◌}
+use Prim.Native.Nat.{◌<◌, ◌^◌}
 use lib.ListN.{get_or}
 use lib.Bits.{bit_and, and_le_l}
 use Rattle.plank_core.specs.inner.DenseIndexSet.{contains, meets}

@@ -1,7 +1,6 @@
 -- `is_empty` meets its contract. The invariant: the words so far are 0.
 use mathlib.Core.Path.{◌≡◌, sym, ap}
 use mathlib.Core.Bool.{not}
-use Prim.Native.Nat.{◌-◌}
 use lib.ListN.{get_or}
 use Rattle.plank_core.specs.inner.DenseIndexSet.{contains, is_empty}
 use Rattle.plank_core.specs.laws.Lists.{below_next}

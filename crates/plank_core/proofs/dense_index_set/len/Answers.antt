@@ -1,6 +1,5 @@
 -- `len` meets its contract. The invariant: what is counted and the members in the words to come are all members.
 use mathlib.Core.Path.{◌≡◌, ap, ◌∙◌}
-use Prim.Native.Nat.{◌-◌}
 use native.Mathlib.Nat.{zero-add}
 use native.Mathlib.Omega.{arith}
 use lib.ListN.{length}

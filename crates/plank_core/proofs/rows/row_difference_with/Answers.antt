@@ -1,6 +1,5 @@
 -- `row_difference_with` meets its contract. The invariant: the first k words of the row have lost those of the set.
 use mathlib.Core.Path.{◌≡◌, refl, ◌∙◌}
-use Prim.Native.Nat.{◌-◌}
 use native.Mathlib.Omega.{arith}
 use lib.ListN.{length-set}
 use Rattle.plank_core.specs.laws.DenseIndexSet.{Fit, row_to, row_to_next, row_to_fit, minus, difference_words}

@@ -1,6 +1,5 @@
 -- `row_union_with` meets its contract. The invariant: the first k words of the row have taken in those of the set, and `grew` tells whether one changed.
 use mathlib.Core.Path.{◌≡◌, refl, ◌∙◌}
-use Prim.Native.Nat.{◌-◌}
 use native.Mathlib.Omega.{arith}
 use lib.ListN.{length-set}
 use mathlib.Core.Bool.{true, false}

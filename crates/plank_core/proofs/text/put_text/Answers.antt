@@ -1,5 +1,4 @@
 -- `put_text` meets its contract.
-use Prim.Native.Nat.{◌-◌}
 use native.Mathlib.Omega.{arith}
 use Rattle.plank_core.specs.laws.Putting.{copied_none, copied_more, copied_all}
 use Rattle.plank_core.proofs.text.put_text.Goals as goal

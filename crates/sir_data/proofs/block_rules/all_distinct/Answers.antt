@@ -1,5 +1,5 @@
 -- `all_distinct` meets its contract. The loop's invariant: what is left is distinct and not in the set.
-use Rattle.std.proofs.Common.{◌-◌, sym, refl, ◌∙◌, zero-add, arith}
+use Rattle.std.proofs.Common.{sym, refl, ◌∙◌, zero-add, arith}
 use borrow.Author.Tests.{not-true, not-false}
 use Rattle.plank_core.specs.laws.Lists.{get_or_mem}
 use Rattle.plank_core.specs.inner.DenseIndexSet.{empty_set, set_of, word_of}

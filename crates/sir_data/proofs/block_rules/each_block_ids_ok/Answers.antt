@@ -1,7 +1,6 @@
 -- `each_block_ids_ok` meets its contract. The loop's invariant: the blocks that are left decide.
-use Rattle.std.proofs.Common.{◌-◌, sym, ◌∙◌, arith}
+use Rattle.std.proofs.Common.{sym, ◌∙◌, arith}
 use Rattle.plank_core.specs.laws.Loops.{range_all, all_step, all_stop, all_end}
-use Rattle.sir_data.specs.Rules.{block_ids_ok}
 use Rattle.sir_data.proofs.block_rules.each_block_ids_ok.Goals as goal
 
 pub loop-b-init : goal.loop-b-init

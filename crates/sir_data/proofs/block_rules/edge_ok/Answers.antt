@@ -11,7 +11,7 @@ inputs-to-requires c =
     let i = c.args.i in
     let p = c.requires in
     let below : c.successor.result.0 < blocks w = subst (λ (x : ℕ). x < blocks w) (sym c.successor.ensures) (p.in_range.successor b _ p.b_bound (get_or_mem (successors w b) i 0 p.i_in_bounds)) in
-    record { sized = p.sized; in_range = p.in_range; b_bound = below; }
+    record { sized = p.sized; in_range = p.in_range; b_bound = below }
 
 pub returns : goal.returns
 returns c =

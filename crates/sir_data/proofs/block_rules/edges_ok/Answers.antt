@@ -1,5 +1,5 @@
 -- `edges_ok` meets its contract. The loop's invariant: the successors that are left decide.
-use Rattle.std.proofs.Common.{◌-◌, sym, refl, ◌∙◌, arith}
+use Rattle.std.proofs.Common.{sym, refl, ◌∙◌, arith}
 use Rattle.plank_core.specs.laws.Loops.{all_drop_step, all_drop_stop, all_drop_end}
 use Rattle.sir_data.proofs.block_rules.edges_ok.Goals as goal
 
@@ -8,7 +8,7 @@ loop-i-init c = (omega arith, refl)
 
 pub edge_ok-requires : goal.edge_ok-requires
 edge_ok-requires c =
-    record { sized = c.requires.sized; in_range = c.requires.in_range; b_bound = c.requires.b_bound; i_in_bounds = omega arith; }
+    record { sized = c.requires.sized; in_range = c.requires.in_range; b_bound = c.requires.b_bound; i_in_bounds = omega arith }
 
 pub returns-then-not-edge_ok : goal.returns-then-not-edge_ok
 returns-then-not-edge_ok c =

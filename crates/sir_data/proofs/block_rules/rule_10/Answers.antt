@@ -1,5 +1,5 @@
 -- `rule_10` meets its contract. The loop's invariant: the blocks that are left decide.
-use Rattle.std.proofs.Common.{◌-◌, not, sym, ap, ◌∙◌, arith}
+use Rattle.std.proofs.Common.{not, sym, ap, ◌∙◌, arith}
 use Rattle.plank_core.specs.laws.Loops.{range_all, all_step, all_stop, all_end}
 use Rattle.sir_data.specs.Rules.{rule10}
 use Rattle.sir_data.proofs.block_rules.rule_10.Goals as goal

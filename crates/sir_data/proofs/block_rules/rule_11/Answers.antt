@@ -1,8 +1,7 @@
 -- `rule_11` meets its contract. The loop's invariant: the blocks that are left decide.
-use Rattle.std.proofs.Common.{◌-◌, not, sym, ap, ◌∙◌, arith}
+use Rattle.std.proofs.Common.{not, sym, ap, ◌∙◌, arith}
 use Rattle.plank_core.specs.Lists.{distinct}
 use Rattle.plank_core.specs.laws.Loops.{range_all, all_step, all_stop, all_end}
-use Rattle.sir_data.specs.Records.{inputs}
 use Rattle.sir_data.specs.Rules.{rule11}
 use Rattle.sir_data.proofs.block_rules.rule_11.Goals as goal
 

@@ -1,5 +1,5 @@
 -- `zero_from` meets its contract. The loop's invariant: the fields that are left decide.
-use Rattle.std.proofs.Common.{◌-◌, sym, refl, ◌∙◌, arith, eq-eqb, ne_eqb}
+use Rattle.std.proofs.Common.{sym, refl, ◌∙◌, arith, eq-eqb, ne_eqb}
 use Rattle.plank_core.specs.laws.Loops.{all_step, all_stop, all_end}
 use Rattle.sir_data.proofs.block_rules.zero_from.Goals as goal
 

@@ -1,5 +1,5 @@
 -- `all_below` meets its contract. The loop's invariant: the words that are left decide.
-use Rattle.std.proofs.Common.{◌-◌, sym, ◌∙◌, arith, le-ltb, lt-ltb}
+use Rattle.std.proofs.Common.{sym, ◌∙◌, arith, le-ltb, lt-ltb}
 use Rattle.plank_core.specs.laws.Loops.{range_all, all_step, all_stop, all_end}
 use Rattle.sir_data.proofs.bounds.all_below.Goals as goal
 

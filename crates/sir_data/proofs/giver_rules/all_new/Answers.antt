@@ -1,5 +1,5 @@
 -- `all_new` meets its contract. The loop's invariant: the numbers that are left decide, and go into the set.
-use Rattle.std.proofs.Common.{◌≡◌, ℕ, ◌+◌, ◌-◌, ◌<◌, ◌≤◌, true, false, List, [], ◌∷◌, ◌++◌, length, get_or, drop, sym, refl, ◌∙◌, zero-add, arith, drop_of_length-le}
+use Rattle.std.proofs.Common.{◌≡◌, ℕ, ◌+◌, ◌<◌, ◌≤◌, true, false, List, [], ◌∷◌, ◌++◌, length, get_or, drop, sym, refl, ◌∙◌, zero-add, arith, drop_of_length-le}
 use borrow.Author.Tests.{not-true, not-false}
 use Rattle.plank_core.specs.laws.Lists.{none, get_or_mem, drop_mem}
 use Rattle.plank_core.specs.laws.Loops.{drop_next}
@@ -43,7 +43,7 @@ pub returns-then-not-row_add : goal.returns-then-not-row_add
 returns-then-not-row_add c =
     let l = c.loop-i in
     let e = not-false _ (rw zero-add at (sym c.row_add.ensures.0) ∙ c.if-not-row_add.true) in
-    record { value = there (omega arith) c.requires.by_index l.invariant.1 e; set_after = λ h. none _ h refl; }
+    record { value = there (omega arith) c.requires.by_index l.invariant.1 e; set_after = λ h. none _ h refl }
 
 pub loop-i-preserved : goal.loop-i-preserved
 loop-i-preserved c =
@@ -61,4 +61,4 @@ returns c =
     let l = c.loop-i in
     let xs : List ℕ = c.args.run.now in
     let done = passing.end (rw (drop_of_length-le xs {i = l.i} (omega arith)) at l.invariant.1) in
-    record { value = done.0; set_after = λ h. done.1; }
+    record { value = done.0; set_after = λ h. done.1 }

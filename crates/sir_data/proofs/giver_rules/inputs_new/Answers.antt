@@ -1,5 +1,5 @@
 -- `inputs_new` meets its contract. The loop's invariant: the blocks that are left decide, and go into the set.
-use Rattle.std.proofs.Common.{ℕ, ◌-◌, ◌<◌, List, sym, ap, ◌∙◌, arith}
+use Rattle.std.proofs.Common.{ℕ, ◌<◌, List, sym, ap, ◌∙◌, arith}
 use Rattle.sir_data.specs.Records.{blocks, inputs}
 use Rattle.plank_core.specs.inner.DenseIndexSet.{added_all, fresh}
 use Rattle.sir_data.specs.inner.WellFormed.{Sized, InRange}
@@ -15,7 +15,7 @@ loop-b-init c =
 
 pub all_new-requires : goal.all_new-requires
 all_new-requires c =
-    record { set_len = c.loop-b.invariant.1.wide; by_index = rw c.inputs.ensures (small c.requires.sized c.requires.in_range c.loop-b.b (omega arith)); }
+    record { set_len = c.loop-b.invariant.1.wide; by_index = rw c.inputs.ensures (small c.requires.sized c.requires.in_range c.loop-b.b (omega arith)) }
 
 pub shape_of-given-then-not-all_new : goal.shape_of-given-then-not-all_new
 shape_of-given-then-not-all_new c =

@@ -1,5 +1,5 @@
 -- `outputs_new` meets its contract. The loop's invariant: the operations that are left decide, and go into the set.
-use Rattle.std.proofs.Common.{ℕ, ◌-◌, ◌<◌, List, sym, refl, ap, ◌∙◌, arith}
+use Rattle.std.proofs.Common.{ℕ, ◌<◌, List, sym, refl, ap, ◌∙◌, arith}
 use Rattle.plank_core.specs.laws.Lists.{none}
 use Rattle.sir_data.specs.Records.{operations, outs}
 use Rattle.plank_core.specs.inner.DenseIndexSet.{added_all, fresh}
@@ -16,7 +16,7 @@ loop-o-init c =
 
 pub all_new-requires : goal.all_new-requires
 all_new-requires c =
-    record { set_len = c.loop-o.invariant.1.wide; by_index = rw c.op_outputs.ensures (small c.requires.sized c.requires.in_range c.loop-o.o (omega arith)); }
+    record { set_len = c.loop-o.invariant.1.wide; by_index = rw c.op_outputs.ensures (small c.requires.sized c.requires.in_range c.loop-o.o (omega arith)) }
 
 pub shape_of-given-then-not-all_new : goal.shape_of-given-then-not-all_new
 shape_of-given-then-not-all_new c =
@@ -28,7 +28,7 @@ returns-then-not-all_new c =
     let w : List ℕ = c.args.words.now in
     let e = sym (c.all_new.ensures.value ∙ ap (fresh l.given) c.op_outputs.ensures) ∙ c.if-not-all_new.true in
     let stops = stop_run c.args.given.now (outs w) (operations w) (small c.requires.sized c.requires.in_range) (omega arith) l.invariant e in
-    record { value = stops; given_after = λ h. none _ h refl; }
+    record { value = stops; given_after = λ h. none _ h refl }
 
 pub loop-o-preserved : goal.loop-o-preserved
 loop-o-preserved c =
@@ -47,4 +47,4 @@ pub returns : goal.returns
 returns c =
     let w : List ℕ = c.args.words.now in
     let done = end_runs c.args.given.now (outs w) (operations w) (omega arith) c.loop-o.invariant in
-    record { value = done.0; given_after = λ h. done.1; }
+    record { value = done.0; given_after = λ h. done.1 }

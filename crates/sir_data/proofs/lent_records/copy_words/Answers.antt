@@ -1,5 +1,5 @@
 -- `copy_words` meets its contract. The loop's invariant: i words are stored, and the rest is as it was.
-use Rattle.std.proofs.Common.{◌≡◌, ◌-◌, ◌/◌, length, refl, arith, length-set}
+use Rattle.std.proofs.Common.{◌≡◌, ◌/◌, length, refl, arith, length-set}
 use Rattle.plank_core.specs.laws.Loops.{fill_step}
 use Rattle.sir_data.specs.Pages.{word_at}
 use Rattle.sir_data.specs.Paging.{words_of}

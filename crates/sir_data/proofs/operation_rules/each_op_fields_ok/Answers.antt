@@ -1,7 +1,6 @@
 -- `each_op_fields_ok` meets its contract. The loop's invariant: the operations that are left decide.
-use Rattle.std.proofs.Common.{◌-◌, sym, ◌∙◌, arith}
+use Rattle.std.proofs.Common.{sym, ◌∙◌, arith}
 use Rattle.plank_core.specs.laws.Loops.{range_all, all_step, all_stop, all_end}
-use Rattle.sir_data.specs.Rules.{op_fields_ok}
 use Rattle.sir_data.proofs.operation_rules.each_op_fields_ok.Goals as goal
 
 pub loop-o-init : goal.loop-o-init

@@ -1,5 +1,5 @@
 -- `check_bad` meets its contract. The loop's invariant: the pages that are left decide.
-use Rattle.std.proofs.Common.{◌≡◌, ◌-◌, true, false, sym, ◌∙◌, arith, eq-eqb, ne_eqb}
+use Rattle.std.proofs.Common.{◌≡◌, true, false, sym, ◌∙◌, arith, eq-eqb, ne_eqb}
 use Rattle.plank_core.specs.laws.Loops.{range_all, any_step, any_stop, any_end}
 use Rattle.sir_data.specs.Pages.{pages}
 use Rattle.sir_data.proofs.pages.check_bad.Invariants.{wrong}

@@ -1,5 +1,5 @@
 -- `page_check` meets its contract. The loop keeps the sum of the words so far and the sum of those sums, both wrapped.
-use Rattle.std.proofs.Common.{◌≡◌, ◌-◌, ◌∙◌, arith, rules}
+use Rattle.std.proofs.Common.{◌≡◌, ◌∙◌, arith, rules}
 use Rattle.sir_data.specs.Pages.{page_word}
 use Rattle.sir_data.proofs.pages.PageCheck.{total_none, turn_a, turn_b, check_is}
 use Rattle.sir_data.proofs.pages.page_check.Goals as goal

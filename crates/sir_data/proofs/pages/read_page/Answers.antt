@@ -1,5 +1,5 @@
 -- `read_page` meets its contract. The loop's invariant: k payload words are stored, and the rest is as it was.
-use Rattle.std.proofs.Common.{◌≡◌, ◌-◌, refl, arith, length-set}
+use Rattle.std.proofs.Common.{◌≡◌, refl, arith, length-set}
 use Rattle.plank_core.specs.laws.Loops.{fill_step}
 use Rattle.sir_data.proofs.pages.read_page.Invariants.{taken}
 use Rattle.sir_data.proofs.pages.read_page.Goals as goal

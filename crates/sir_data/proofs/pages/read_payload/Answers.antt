@@ -1,5 +1,5 @@
 -- `read_payload` meets its contract. The loop's invariant: the payload of p pages is stored, and the rest is as it was.
-use Rattle.std.proofs.Common.{◌≡◌, ℕ, ◌+◌, ◌-◌, ◌*◌, ◌/◌, ◌%◌, ◌<◌, ◌≤◌, List, ◌++◌, map, sym, refl, ◌∙◌, arith}
+use Rattle.std.proofs.Common.{◌≡◌, ℕ, ◌+◌, ◌*◌, ◌/◌, ◌%◌, ◌<◌, ◌≤◌, List, ◌++◌, map, sym, refl, ◌∙◌, arith}
 use Rattle.plank_core.specs.Lists.{upto}
 use Rattle.plank_core.specs.laws.Loops.{map_same, fill_part}
 use Rattle.sir_data.specs.Pages.{page_word, pages, payload}

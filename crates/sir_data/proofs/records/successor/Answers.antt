@@ -1,6 +1,5 @@
 -- `successor`, by control kind and place.
-use Rattle.std.proofs.Common.{◌≡◌, ◌-◌, ◌<◌, get_or, sym, ◌∙◌, arith, rules}
-use Rattle.sir_data.specs.Records.{control, field, successors}
+use Rattle.std.proofs.Common.{sym, ◌∙◌, arith, rules}
 use Rattle.sir_data.specs.laws.Records.{continue_at, branch_other, is_switch, switch_target, switch_fallback}
 use Rattle.sir_data.proofs.records.successor.Goals as goal
 

@@ -1,6 +1,6 @@
 -- `check_records` meets its contract: the head decides, then the fit, then what is after it.
-use Rattle.std.proofs.Common.{◌≡◌, ℕ, Bool, true, false, List, ◌∷◌, ◌++◌, sym, refl, ◌∙◌, rules}
-use Rattle.sir_data.specs.Rules.{rule6, first, head_rules, field_rules, operand_rules}
+use Rattle.std.proofs.Common.{◌≡◌, ℕ, Bool, true, false, List, ◌∷◌, ◌++◌, sym, refl, ◌∙◌}
+use Rattle.sir_data.specs.Rules.{rule6, head_rules, field_rules, operand_rules}
 use Rattle.sir_data.specs.laws.Rules.{by_later, by_earlier}
 use Rattle.sir_data.specs.laws.WellFormed.{sized, fits}
 use Rattle.sir_data.proofs.rules.check_records.Goals as goal

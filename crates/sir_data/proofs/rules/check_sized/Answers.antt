@@ -13,7 +13,7 @@ returns-then-broken-ne0 c =
 
 pub check_operands-requires : goal.check_operands-requires
 check_operands-requires c =
-    record { sized = c.requires; in_range = in_range c.args.words.now (sym c.check_fields-broken.ensures ∙ c.if-broken-ne0.false); }
+    record { sized = c.requires; in_range = in_range c.args.words.now (sym c.check_fields-broken.ensures ∙ c.if-broken-ne0.false) }
 
 pub returns : goal.returns
 returns c =

@@ -1,5 +1,5 @@
 -- `padding_bad` meets its contract. The loop's invariant: the words that are left decide.
-use Rattle.std.proofs.Common.{◌-◌, not, sym, refl, ap, ◌∙◌, arith, eq-eqb, ne_eqb}
+use Rattle.std.proofs.Common.{not, sym, refl, ap, ◌∙◌, arith, eq-eqb, ne_eqb}
 use Rattle.plank_core.specs.laws.Loops.{any_drop_step, any_drop_stop, any_drop_end}
 use Rattle.sir_data.proofs.rules.padding_bad.Invariants.{some}
 use Rattle.sir_data.proofs.rules.padding_bad.Goals as goal
