@@ -7,7 +7,7 @@ usage: tools/respell.py [--table]      at the top of the repository, once, right
 
 Names that a library declares, names that the toolchain makes for proofs (behind `tie.` and `c.`), functions, types and modules keep their
 spelling; so do strings and prose. A name is the repository's own where one of its .antt files declares it. --table prints old and new.
-It stops where two names of one file would fall together.
+It names the places where two names of one file would fall together, and its status is then 1.
 """
 import collections
 import glob

@@ -1,5 +1,5 @@
 -- Examples of records that are read, lent and written (document 02, R-3), as one table that one proof computes.
-use Rattle.std.specs.Prelude.{◌≡◌, refl, true, List, [], ◌∷◌, ◌++◌, map, ℕ, ◌-◌, length, set, take, drop, replicate}
+use Rattle.std.specs.Prelude.{◌≡◌, refl, true, List, [], ◌∷◌, ◌++◌, map, ℕ, length, set, take, drop, replicate}
 use Rattle.plank_core.specs.Lists.{all, bind}
 use Rattle.sir_data.specs.Pages.{check_of, payload, bytes_of}
 use Rattle.sir_data.specs.Rules.{rule4, rule5, rule6, rule7, rule8, rule9, rule10, rule11}

@@ -1,6 +1,5 @@
-// A block read through a view, which keeps the image's words and the block's number. The borrow checker covers no function
-// over a struct that holds a reference, so each is proved by hand: a method takes the view apart and calls a function of
-// `records`, and each function below the methods makes a view and calls one of them. Callers use these, on plain words.
+// A block read through a view, which keeps the image's words and the block's number. A method takes the view apart and calls a
+// function of `records`, and each function below the methods makes a view and calls one of them. Callers use these, on plain words.
 ghost use Rattle.std.specs.Prelude.{◌≡◌, ◌<◌, length, slice_index};
 ghost use Rattle.sir_data.specs.Records.{blocks, block_word, inputs, outputs, successors, condition};
 ghost use Rattle.sir_data.specs.inner.Cases.{tested_locals};

@@ -11,7 +11,6 @@ use borrow.Author.Tests.{eqb-true, eqb-false, eq-eqb, ne_eqb, leb-true, leb-fals
 use Rattle.plank_core.specs.Lists.{bind, keep}
 use Rattle.plank_core.specs.laws.Loops.{map_append, keep_append, bind_bind, bind_same, bind_snoc, reverse_snoc}
 use Rattle.sir_analyses.specs.Order.{visited, functions_rpo, function_blocks, blocks_rpo}
-use Rattle.sir_analyses.proofs.claims.order.OrderLaws.{seen}
 use Rattle.sir_analyses.specs.Answers.{order_answer}
 use Rattle.sir_analyses.specs.inner.Visiting.{Shows, keyed_block, keyed_function, block_of, blocks_of, function_of, blocks_in, entry_of, order_in}
 

@@ -25,7 +25,7 @@ flags_of-requires c =
 
 pub marked_answer-requires : goal.marked_answer-requires
 marked_answer-requires c =
-    record { well_formed = c.requires.visit_stage.well_formed; by_index = (c.args.a.0, c.site_of-site.ensures c.args.words.now c.requires.visit_stage.well_formed (c.alloc_sites.ensures ∙ c.requires.pointer_stage.0.sites_are)); }
+    record { well_formed = c.requires.visit_stage.well_formed; by_index = (c.args.a.0, c.site_of-site.ensures c.args.words.now c.requires.visit_stage.well_formed (c.alloc_sites.ensures ∙ c.requires.pointer_stage.0.sites_are)) }
 
 pub returns-then-is_marked : goal.returns-then-is_marked
 returns-then-is_marked c =
@@ -35,13 +35,13 @@ returns-then-is_marked c =
 
 pub owned_locals-requires : goal.owned_locals-requires
 owned_locals-requires c =
-    record { well_formed = c.requires.visit_stage.well_formed; pointers_len = (c.requires.pointer_stage.0.long, omega (arith, c.requires.pointer_stage.1, allocations_few c.requires.pointer_stage.0), refl); }
+    record { well_formed = c.requires.visit_stage.well_formed; pointers_len = (c.requires.pointer_stage.0.long, omega (arith, c.requires.pointer_stage.1, allocations_few c.requires.pointer_stage.0), refl) }
 
 pub record_answer-requires : goal.record_answer-requires
 record_answer-requires c =
     let x = c.site_of-site.ensures c.args.words.now c.requires.visit_stage.well_formed (c.alloc_sites.ensures ∙ c.requires.pointer_stage.0.sites_are) in
     let d = c.requires.pointer_stage.0.discovered in
-    record { visit_stage = c.requires.visit_stage; liveness_stage = c.requires.liveness_stage; by_index = (c.args.a.0, owned_unmarked c.requires.visit_stage.well_formed d x.known (mark_told d x.known c.is_marked.ensures c.if-is_marked.false) x c.owned_locals.ensures); }
+    record { visit_stage = c.requires.visit_stage; liveness_stage = c.requires.liveness_stage; by_index = (c.args.a.0, owned_unmarked c.requires.visit_stage.well_formed d x.known (mark_told d x.known c.is_marked.ensures c.if-is_marked.false) x c.owned_locals.ensures) }
 
 pub returns : goal.returns
 returns c =

@@ -18,7 +18,7 @@ slice_bounds-put_head-end-2 c = sym (length-take-le _ _ (finish_fits c.finish-an
 
 pub put_head-requires : goal.put_head-requires
 put_head-requires c =
-    record { well_formed = c.requires.well_formed; op_bound = site_known c.args.words.now c.requires.well_formed c.requires.by_index.1; }
+    record { well_formed = c.requires.well_formed; op_bound = site_known c.args.words.now c.requires.well_formed c.requires.by_index.1 }
 
 pub returns : goal.returns
 returns c =

@@ -14,7 +14,7 @@ use Rattle.sir_analyses.proofs.allocation_answers.record_answer.Goals as goal
 
 pub populate_intervals_from_local_liveness-n-requires : goal.populate_intervals_from_local_liveness-n-requires
 populate_intervals_from_local_liveness-n-requires c =
-    record { visit_stage = c.requires.visit_stage; liveness_stage = c.requires.liveness_stage; reach_len = (c.requires.by_index.1.long, omega arith); }
+    record { visit_stage = c.requires.visit_stage; liveness_stage = c.requires.liveness_stage; reach_len = (c.requires.by_index.1.long, omega arith) }
 
 pub finish-answer-requires : goal.finish-answer-requires
 finish-answer-requires c = omega (arith, c.populate_intervals_from_local_liveness-n.ensures.0)
@@ -35,7 +35,7 @@ slice_bounds-put_head-end-2 c = sym (length-take-le _ _ (finish_fits c.finish-an
 
 pub put_head-requires : goal.put_head-requires
 put_head-requires c =
-    record { well_formed = c.requires.visit_stage.well_formed; op_bound = site_known c.args.words.now c.requires.visit_stage.well_formed c.requires.by_index.1.site; }
+    record { well_formed = c.requires.visit_stage.well_formed; op_bound = site_known c.args.words.now c.requires.visit_stage.well_formed c.requires.by_index.1.site }
 
 pub slice_bounds-populate_intervals_from_local_liveness-end-2 : goal.slice_bounds-populate_intervals_from_local_liveness-end-2
 slice_bounds-populate_intervals_from_local_liveness-end-2 c =
@@ -47,7 +47,7 @@ slice_bounds-populate_intervals_from_local_liveness-end-3 c =
 
 pub populate_intervals_from_local_liveness-requires : goal.populate_intervals_from_local_liveness-requires
 populate_intervals_from_local_liveness-requires c =
-    record { visit_stage = c.requires.visit_stage; liveness_stage = c.requires.liveness_stage; reach_len = (c.requires.by_index.1.long, omega arith); }
+    record { visit_stage = c.requires.visit_stage; liveness_stage = c.requires.liveness_stage; reach_len = (c.requires.by_index.1.long, omega arith) }
 
 pub returns : goal.returns
 returns c =

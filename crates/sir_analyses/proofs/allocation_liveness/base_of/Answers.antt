@@ -8,7 +8,7 @@ use Rattle.sir_analyses.proofs.allocation_liveness.base_of.Goals as goal
 
 pub base_ptr-requires : goal.base_ptr-requires
 base_ptr-requires c = let w = c.args.words.now in
-    record { well_formed = c.requires.well_formed; o_bound = site_known w c.requires.well_formed (c.site_of-site.ensures w c.requires.well_formed c.requires.sites_value.0); }
+    record { well_formed = c.requires.well_formed; o_bound = site_known w c.requires.well_formed (c.site_of-site.ensures w c.requires.well_formed c.requires.sites_value.0) }
 
 pub returns : goal.returns
 returns c = let w = c.args.words.now in

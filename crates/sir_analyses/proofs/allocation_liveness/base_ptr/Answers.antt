@@ -10,7 +10,7 @@ use Rattle.sir_analyses.proofs.Accepted.{one_out}
 use Rattle.sir_analyses.proofs.allocation_liveness.base_ptr.Goals as goal
 
 pub op_outputs-outputs-requires : goal.op_outputs-outputs-requires
-op_outputs-outputs-requires c = record { sized = c.requires.well_formed.sized; in_range = c.requires.well_formed.in_range; o_bound = c.requires.o_bound.0; }
+op_outputs-outputs-requires c = record { sized = c.requires.well_formed.sized; in_range = c.requires.well_formed.in_range; o_bound = c.requires.o_bound.0 }
 
 pub bounds-outputs-0 : goal.bounds-outputs-0
 bounds-outputs-0 c = omega (arith, ap length c.op_outputs-outputs.ensures, one_out c.args.words.now c.requires.well_formed c.requires.o_bound.0 c.requires.o_bound.1)

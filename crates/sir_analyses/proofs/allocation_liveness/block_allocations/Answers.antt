@@ -1,7 +1,7 @@
 -- `block_allocations` meets its contract. The invariant: the sites of the operations left are to be written.
 use mathlib.Core.Path.{◌≡◌, sym, ap, ◌∙◌}
 use mathlib.Core.Bool.{true, false}
-use Prim.Native.Nat.{◌+◌, ◌-◌, ◌*◌, ◌<◌}
+use Prim.Native.Nat.{◌+◌, ◌*◌, ◌<◌}
 use native.Mathlib.Omega.{arith}
 use lib.ListN.{length, length-set}
 use Rattle.sir_data.specs.Records.{operations, code}
@@ -11,7 +11,7 @@ use Rattle.sir_analyses.proofs.allocation_liveness.Discovery.{site_next, site_sk
 use Rattle.sir_analyses.proofs.allocation_liveness.block_allocations.Goals as goal
 
 pub block_operations-span-requires : goal.block_operations-span-requires
-block_operations-span-requires c = record { sized = c.requires.well_formed.sized; b_bound = c.requires.b_bound.0; }
+block_operations-span-requires c = record { sized = c.requires.well_formed.sized; b_bound = c.requires.b_bound.0 }
 
 pub loop-o-init : goal.loop-o-init
 loop-o-init c = (c.requires.b_bound.1, listing_as (block_sites_lem c.args.words.now c.args.b.0 _ _ c.block_operations-span.ensures.0 c.block_operations-span.ensures.1) listing_none)
@@ -20,7 +20,7 @@ pub op_word-requires : goal.op_word-requires
 op_word-requires c = let L = c.loop-o in
     let w = c.args.words.now in
     let h : L.o < operations w = omega (arith, c.requires.well_formed.in_range.ops_range c.args.b.0 c.requires.b_bound.0, c.block_operations-span.ensures, c.loop-o-test.true) in
-    record { sized = c.requires.well_formed.sized; o_bound = h; k_bound = omega arith; }
+    record { sized = c.requires.well_formed.sized; o_bound = h; k_bound = omega arith }
 
 pub overflow_add-result : goal.overflow_add-result
 overflow_add-result c = omega (arith, c.loop-o.invariant.0)

@@ -1,6 +1,6 @@
 -- `discover_allocations` meets its contract. The invariant: the arrays show the state after the first i allocations.
 use mathlib.Core.Path.{sym, ap, ◌∙◌}
-use Prim.Native.Nat.{ℕ, ◌-◌, ◌<◌}
+use Prim.Native.Nat.{ℕ, ◌<◌}
 use lib.ListN.{length, length-replicate}
 use Rattle.sir_analyses.specs.Allocation.{allocs}
 use Rattle.sir_analyses.proofs.allocation_liveness.Discovery.{sites_long}
@@ -20,7 +20,7 @@ slice_bounds-own_bases-count c =
 pub own_bases-requires : goal.own_bases-requires
 unfolding part
 own_bases-requires c =
-    record { well_formed = c.requires.accepted_stage.well_formed; sites_value = (c.requires.accepted_stage.sites_are, c.requires.accepted_stage.sites_few, owners_empty c.store_sites.ensures); }
+    record { well_formed = c.requires.accepted_stage.well_formed; sites_value = (c.requires.accepted_stage.sites_are, c.requires.accepted_stage.sites_few, owners_empty c.store_sites.ensures) }
 
 pub loop-i-init : goal.loop-i-init
 unfolding part
@@ -33,7 +33,7 @@ overflow_cast-i c =
 
 pub base_of-base-requires : goal.base_of-base-requires
 base_of-base-requires c =
-    record { well_formed = c.requires.accepted_stage.well_formed; sites_value = (c.requires.accepted_stage.sites_are, c.loop-i-test.true); }
+    record { well_formed = c.requires.accepted_stage.well_formed; sites_value = (c.requires.accepted_stage.sites_are, c.loop-i-test.true) }
 
 pub overflow_cast-i-in-loop-i : goal.overflow_cast-i-in-loop-i
 overflow_cast-i-in-loop-i c =
@@ -42,7 +42,7 @@ overflow_cast-i-in-loop-i c =
 pub propagate_pointers_and_mark_escapes-requires : goal.propagate_pointers_and_mark_escapes-requires
 propagate_pointers_and_mark_escapes-requires c =
     let most = c.requires.accepted_stage.sites_few in
-    record { links_len = (c.requires.pointer_rows.0.links_long, c.requires.pointer_rows.0.causes_long); pointer_room = (room_turned c.requires.accepted_stage c.requires.pointer_rows.0 c.loop-i.invariant.1, c.loop-i.invariant.1.none_left); base_bound = (omega (arith, c.base_of-base.ensures.1, c.requires.accepted_stage.well_formed.sized.locals_most), omega (arith, most)); }
+    record { links_len = (c.requires.pointer_rows.0.links_long, c.requires.pointer_rows.0.causes_long); pointer_room = (room_turned c.requires.accepted_stage c.requires.pointer_rows.0 c.loop-i.invariant.1, c.loop-i.invariant.1.none_left); base_bound = (omega (arith, c.base_of-base.ensures.1, c.requires.accepted_stage.well_formed.sized.locals_most), omega (arith, most)) }
 
 pub overflow_add-i : goal.overflow_add-i
 overflow_add-i c =

@@ -1,6 +1,6 @@
 -- `find_allocations` meets its contract. The invariant: the sites of the blocks left are to be written.
 use mathlib.Core.Path.{◌∙◌}
-use Prim.Native.Nat.{◌+◌, ◌-◌}
+use Prim.Native.Nat.{◌+◌}
 use native.Mathlib.Omega.{arith}
 use lib.ListN.{get_or, drop}
 use Rattle.plank_core.specs.Lists.{bind}
@@ -25,7 +25,7 @@ block_allocations-m-requires c =
     let w = c.args.words.now in
     let order = c.rpo-order.result.now in
     let b = get_or order L.i 0 in
-    record { well_formed = c.requires.well_formed; b_bound = (rpo_below w c.requires.well_formed (c.rpo-order.ensures ∙ c.requires.rpo_is) b (get_or_mem order L.i 0 c.loop-i-test.true), omega (arith, L.invariant.1)); }
+    record { well_formed = c.requires.well_formed; b_bound = (rpo_below w c.requires.well_formed (c.rpo-order.ensures ∙ c.requires.rpo_is) b (get_or_mem order L.i 0 c.loop-i-test.true), omega (arith, L.invariant.1)) }
 
 pub shape_of-sites-then-m-sites : goal.shape_of-sites-then-m-sites
 shape_of-sites-then-m-sites c =

@@ -1,7 +1,7 @@
 -- `follow_local` meets its contract. The invariant: the first i of what the local carries on are linked.
 use mathlib.Core.Path.{ap, ◌∙◌}
 use mathlib.Core.List.{List}
-use Prim.Native.Nat.{ℕ, ◌-◌, ◌≤◌, ◌<◌}
+use Prim.Native.Nat.{ℕ, ◌≤◌, ◌<◌}
 use lib.ListN.{length}
 use Rattle.plank_core.specs.inner.DenseIndexSet.{members, row_of}
 use Rattle.plank_core.specs.laws.DenseIndexSet.{length_row}
@@ -39,7 +39,7 @@ reach_local-requires c =
     let l = c.loop-i in
     let xs = links_in c.args.links.now c.args.local.0 in
     let i : l.i < length xs = omega (arith, l.invariant.1) in
-    record { pointer_room = room_after l.invariant.3; local_bound = (rw (l.invariant.2 l.i i) (member_is (row_of c.args.links.now c.args.local.0) _ (get_or_mem xs l.i 0 i)).0, c.requires.local_bound.1); }
+    record { pointer_room = room_after l.invariant.3; local_bound = (rw (l.invariant.2 l.i i) (member_is (row_of c.args.links.now c.args.local.0) _ (get_or_mem xs l.i 0 i)).0, c.requires.local_bound.1) }
 
 pub overflow_add-i : goal.overflow_add-i
 overflow_add-i c =
@@ -54,7 +54,7 @@ loop-i-preserved c =
 
 pub flag_uses-requires : goal.flag_uses-requires
 flag_uses-requires c =
-    record { causes_len = (c.requires.links_len.1, room_after c.loop-i.invariant.3); local_bound = c.requires.local_bound; }
+    record { causes_len = (c.requires.links_len.1, room_after c.loop-i.invariant.3); local_bound = c.requires.local_bound }
 
 pub returns : goal.returns
 returns c =

@@ -1,6 +1,5 @@
 -- `own_bases` meets its contract. The invariant: the first a allocations have their bases.
 use mathlib.Core.Path.{sym, ap, ◌∙◌}
-use Prim.Native.Nat.{◌-◌}
 use native.Mathlib.Omega.{arith}
 use lib.ListN.{length}
 use Rattle.sir_analyses.proofs.allocation_liveness.Discovery.{owned_none, owned_more, owned_all, sites_long}
@@ -17,7 +16,7 @@ overflow_cast-a c =
 
 pub base_of-base-requires : goal.base_of-base-requires
 base_of-base-requires c =
-    record { well_formed = c.requires.well_formed; sites_value = (c.requires.sites_value.0, c.loop-a-test.true); }
+    record { well_formed = c.requires.well_formed; sites_value = (c.requires.sites_value.0, c.loop-a-test.true) }
 
 pub overflow_add-a : goal.overflow_add-a
 overflow_add-a c =

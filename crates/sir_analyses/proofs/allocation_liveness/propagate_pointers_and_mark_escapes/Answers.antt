@@ -28,7 +28,7 @@ bounds-pointers-1-in-loop-pointers-3 c = omega (arith, c.loop-pointers.invariant
 
 pub follow_local-requires : goal.follow_local-requires
 follow_local-requires c =
-    record { links_len = c.requires.links_len; pointer_room = fewer_room c.loop-pointers.invariant c.loop-pointers-test.true; local_bound = (taken_less c.loop-pointers.invariant c.loop-pointers-test.true, c.requires.base_bound.1); }
+    record { links_len = c.requires.links_len; pointer_room = fewer_room c.loop-pointers.invariant c.loop-pointers-test.true; local_bound = (taken_less c.loop-pointers.invariant c.loop-pointers-test.true, c.requires.base_bound.1) }
 
 pub loop-pointers-smaller : goal.loop-pointers-smaller
 loop-pointers-smaller c =

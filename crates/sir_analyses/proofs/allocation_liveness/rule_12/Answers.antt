@@ -1,6 +1,5 @@
 -- `rule_12` meets its contract. The invariant: the bases of the allocations left decide.
 use mathlib.Core.Path.{refl, sym, ◌∙◌}
-use Prim.Native.Nat.{◌-◌}
 use native.Mathlib.Nat.{zero-add}
 use native.Mathlib.Omega.{arith}
 use borrow.Author.Tests.{not-true, not-false}
@@ -15,7 +14,7 @@ pub overflow_cast-a : goal.overflow_cast-a
 overflow_cast-a c = omega (arith, c.requires.sites_value.1)
 
 pub base_of-base-requires : goal.base_of-base-requires
-base_of-base-requires c = record { well_formed = c.requires.well_formed; sites_value = (c.requires.sites_value.0, c.loop-a-test.true); }
+base_of-base-requires c = record { well_formed = c.requires.well_formed; sites_value = (c.requires.sites_value.0, c.loop-a-test.true) }
 
 pub slice_bounds-row_add-end : goal.slice_bounds-row_add-end
 slice_bounds-row_add-end c = omega (arith, c.loop-a.invariant.1.long)

@@ -1,6 +1,6 @@
 -- `store_sites` meets its contract. The invariant: the first a sites are stored.
 use mathlib.Core.Path.{sym, ap, ◌∙◌}
-use Prim.Native.Nat.{ℕ, ◌-◌}
+use Prim.Native.Nat.{ℕ}
 use lib.ListN.{length, length-replicate}
 use Rattle.sir_analyses.proofs.allocation_liveness.PointerTables.{sites_none, sites_more, sites_all}
 use native.Mathlib.Omega.{arith}

@@ -1,7 +1,7 @@
 -- `put_words` meets its contract. The invariant: what is left of the words is to be put.
 use mathlib.Core.Path.{◌≡◌}
 use mathlib.Core.List.{◌∷◌, [], ◌++◌}
-use Prim.Native.Nat.{◌+◌, ◌-◌}
+use Prim.Native.Nat.{◌+◌}
 use native.Mathlib.Omega.{arith}
 use native.Mathlib.Numerals.{add-one}
 use lib.ListN.{get_or, drop, drop_of_length-le}

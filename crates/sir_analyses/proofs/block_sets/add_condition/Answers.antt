@@ -1,8 +1,7 @@
 -- `add_condition` meets its contract.
-use mathlib.Core.Path.{◌≡◌, sym, ap, ◌∙◌}
+use mathlib.Core.Path.{◌≡◌, sym}
 use mathlib.Core.List.{[], ◌∷◌}
 use Rattle.sir_data.specs.Records.{condition}
-use Rattle.sir_data.specs.inner.Cases.{tested_locals}
 use Rattle.sir_analyses.proofs.Tables.{adds_single, adds_nothing}
 use Rattle.sir_analyses.proofs.block_sets.BlockSets.{tested_small}
 use native.Mathlib.Omega.{arith}

@@ -1,6 +1,6 @@
 -- `add_run` meets its contract. The invariant: the first k of the run are added.
 use mathlib.Core.Bool.{◌&&◌, and-false}
-use Prim.Native.Nat.{◌-◌, ◌≤◌, ◌<◌}
+use Prim.Native.Nat.{◌≤◌, ◌<◌}
 use lib.ListN.{length, get_or}
 use lib.Dec.{eqb}
 use Rattle.plank_core.specs.laws.Lists.{get_or_mem}

@@ -1,6 +1,6 @@
 -- `add_to_successors` meets its contract. The invariant: p stands in the rows of its first i successors.
 use mathlib.Core.Bool.{◌&&◌, and_comm, and-false}
-use Prim.Native.Nat.{◌-◌, ◌≤◌, ◌<◌}
+use Prim.Native.Nat.{◌≤◌, ◌<◌}
 use lib.ListN.{length, get_or}
 use lib.Dec.{eqb}
 use Rattle.plank_core.specs.laws.Lists.{get_or_mem}
@@ -16,7 +16,7 @@ loop-i-init c = (omega arith, adds_none (λ r i h. and-false (eqb i c.args.p.0))
 
 pub successor-s-requires : goal.successor-s-requires
 successor-s-requires c =
-    record { sized = c.requires.well_formed.sized; in_range = c.requires.well_formed.in_range; b_bound = c.requires.p_bound.0; i_in_bounds = omega (arith, c.successor_count-count.ensures); }
+    record { sized = c.requires.well_formed.sized; in_range = c.requires.well_formed.in_range; b_bound = c.requires.p_bound.0; i_in_bounds = omega (arith, c.successor_count-count.ensures) }
 
 pub row_add-requires : goal.row_add-requires
 row_add-requires c =

@@ -11,7 +11,7 @@ use Rattle.sir_analyses.proofs.block_sets.block_rows.Goals as goal
 pub use_row-requires : goal.use_row-requires
 unfolding part
 use_row-requires c =
-    record { well_formed = c.requires.well_formed; b_bound = (c.requires.b_bound.0, length_part 16384 2048 c.args.live.now (omega (arith, c.requires.b_bound.1))); range_sets = c.requires.range_sets; by_index = c.requires.by_index; }
+    record { well_formed = c.requires.well_formed; b_bound = (c.requires.b_bound.0, length_part 16384 2048 c.args.live.now (omega (arith, c.requires.b_bound.1))); range_sets = c.requires.range_sets; by_index = c.requires.by_index }
 
 pub row_of-requires : goal.row_of-requires
 row_of-requires c =

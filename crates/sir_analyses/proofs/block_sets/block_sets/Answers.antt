@@ -1,7 +1,7 @@
 -- `block_sets` meets its contract. The invariant: the rows of the first b blocks are filled, and the two sets are those of the range
 -- `kept`.
 use mathlib.Core.Path.{refl, sym, ◌∙◌}
-use Prim.Native.Nat.{◌-◌, ◌<◌}
+use Prim.Native.Nat.{◌<◌}
 use Rattle.sir_data.specs.Records.{blocks}
 use Rattle.sir_analyses.specs.Liveness.{has, use_set}
 use Rattle.sir_analyses.specs.inner.Stages.{uses_in}
@@ -20,7 +20,7 @@ slice_bounds-update_range_sets-end c = omega (arith, c.loop-b.invariant.2.long)
 pub update_range_sets-kept-requires : goal.update_range_sets-kept-requires
 update_range_sets-kept-requires c =
     let p = c.requires in
-    record { well_formed = p.well_formed; live_len = (c.loop-b.invariant.1.long, blocks_operands c.loop-b.invariant.1 p.operand_rows.1.long p.operand_rows.0); b_bound = omega (arith, c.block_count-count.ensures); range_sets = c.loop-b.invariant.2; }
+    record { well_formed = p.well_formed; live_len = (c.loop-b.invariant.1.long, blocks_operands c.loop-b.invariant.1 p.operand_rows.1.long p.operand_rows.0); b_bound = omega (arith, c.block_count-count.ensures); range_sets = c.loop-b.invariant.2 }
 
 pub slice_bounds-block_rows-end : goal.slice_bounds-block_rows-end
 slice_bounds-block_rows-end c = omega (arith, c.update_range_sets-kept.ensures.range_sets_2.long)
@@ -31,7 +31,7 @@ block_rows-requires c =
     let l = c.loop-b in
     let h : l.b < blocks w = omega (arith, c.block_count-count.ensures) in
     let k : l.b < 256 = omega (arith, c.requires.well_formed.sized.blocks_most) in
-    record { well_formed = c.requires.well_formed; b_bound = (h, l.invariant.1.long); range_sets = c.update_range_sets-kept.ensures.range_sets_2; by_index = filled_not (uses_in l.live) 256 l.b (λ b v. has (use_set w b) v) k l.invariant.1.used; }
+    record { well_formed = c.requires.well_formed; b_bound = (h, l.invariant.1.long); range_sets = c.update_range_sets-kept.ensures.range_sets_2; by_index = filled_not (uses_in l.live) 256 l.b (λ b v. has (use_set w b) v) k l.invariant.1.used }
 
 pub loop-b-preserved : goal.loop-b-preserved
 loop-b-preserved c =

@@ -1,7 +1,7 @@
 -- `clear` meets its contract. The invariant: the first k words are 0, the others as they were.
 use mathlib.Core.Path.{◌≡◌, refl, ap, ◌∙◌}
 use mathlib.Core.List.{List, [], append-nil}
-use Prim.Native.Nat.{ℕ, ◌-◌}
+use Prim.Native.Nat.{ℕ}
 use native.Mathlib.Omega.{arith}
 use lib.ListN.{set, drop, replicate, length-set}
 use lib.Seq.{drop-length}

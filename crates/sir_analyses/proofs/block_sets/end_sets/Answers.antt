@@ -1,5 +1,4 @@
 -- `end_sets` meets its contract. The invariant: the rows of the first b blocks are filled.
-use Prim.Native.Nat.{◌-◌}
 use Rattle.plank_core.specs.Lists.{mem}
 use Rattle.sir_data.specs.Records.{blocks}
 use Rattle.sir_analyses.specs.Liveness.{end_reads}
@@ -15,7 +14,7 @@ loop-b-init c =
 
 pub add_end-requires : goal.add_end-requires
 add_end-requires c =
-    record { well_formed = c.requires.well_formed; b_bound = (omega (arith, c.block_count-count.ensures), c.loop-b.invariant.1); }
+    record { well_formed = c.requires.well_formed; b_bound = (omega (arith, c.block_count-count.ensures), c.loop-b.invariant.1) }
 
 pub loop-b-preserved : goal.loop-b-preserved
 loop-b-preserved c =

@@ -1,6 +1,5 @@
 -- `operand_sets` meets its contract. The invariant: the rows of the first o operations are filled.
 use mathlib.Core.Path.{sym, ◌∙◌}
-use Prim.Native.Nat.{◌-◌}
 use native.Mathlib.Numerals.{add-one}
 use Rattle.sir_analyses.proofs.Tables.{cleared_long}
 use Rattle.sir_analyses.proofs.local_liveness.LivenessTables.{operands_none, operands_more, operands_all}
@@ -13,7 +12,7 @@ loop-o-init c =
 
 pub operand_rows-requires : goal.operand_rows-requires
 operand_rows-requires c =
-    record { well_formed = c.requires.well_formed; o_bound = (omega (arith, c.operation_count-count.ensures), c.loop-o.invariant.1.long); }
+    record { well_formed = c.requires.well_formed; o_bound = (omega (arith, c.operation_count-count.ensures), c.loop-o.invariant.1.long) }
 
 pub loop-o-preserved : goal.loop-o-preserved
 loop-o-preserved c =

@@ -1,7 +1,7 @@
 -- `predecessor_sets` meets its contract. The invariant: the visited ones among the blocks below p stand in the rows of their successors.
 use mathlib.Core.Path.{◌≡◌, sym, ap, ◌∙◌}
 use mathlib.Core.Bool.{Bool, ◌&&◌, ◌||◌, and-false}
-use Prim.Native.Nat.{ℕ, ◌-◌, ◌<◌}
+use Prim.Native.Nat.{ℕ, ◌<◌}
 use lib.Dec.{eqb, ltb}
 use borrow.Author.Tests.{le-ltb}
 use Rattle.plank_core.specs.Lists.{mem}
@@ -30,7 +30,7 @@ is_visited-requires c =
 
 pub add_to_successors-requires : goal.add_to_successors-requires
 add_to_successors-requires c =
-    record { well_formed = c.requires.visit_stage.well_formed; p_bound = (omega (arith, c.block_count-count.ensures), c.loop-p.invariant.1); }
+    record { well_formed = c.requires.visit_stage.well_formed; p_bound = (omega (arith, c.block_count-count.ensures), c.loop-p.invariant.1) }
 
 pub loop-p-preserved : goal.loop-p-preserved
 loop-p-preserved c =

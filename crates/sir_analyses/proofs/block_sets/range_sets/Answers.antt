@@ -13,7 +13,7 @@ use Rattle.sir_analyses.proofs.block_sets.range_sets.Goals as goal
 
 pub block_operations-span-requires : goal.block_operations-span-requires
 block_operations-span-requires c =
-    let p = c.requires in record { sized = p.well_formed.sized; b_bound = p.b_bound.0; }
+    let p = c.requires in record { sized = p.well_formed.sized; b_bound = p.b_bound.0 }
 
 pub loop-o-init : goal.loop-o-init
 loop-o-init c =

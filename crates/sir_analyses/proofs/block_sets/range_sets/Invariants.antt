@@ -1,5 +1,5 @@
 -- `range_sets` meets its contract. The invariant: the sets are those of the operations from o on.
-use Prim.Native.Nat.{◌-◌, ◌≤◌}
+use Prim.Native.Nat.{◌≤◌}
 use Rattle.plank_core.specs.Lists.{range}
 use Rattle.sir_analyses.specs.inner.Tables.{RangeSets}
 use Rattle.sir_analyses.proofs.block_sets.range_sets.Given as goal

@@ -3,7 +3,6 @@ use mathlib.Core.Path.{◌≡◌, sym, ap₂, subst, ◌∙◌}
 use mathlib.Core.List.{List}
 use Prim.Native.Nat.{ℕ}
 use native.Mathlib.Omega.{arith}
-use borrow.Author.Tests.{eqb-true}
 use Rattle.plank_core.specs.Lists.{range}
 use Rattle.sir_data.specs.Records.{block_word, ops}
 use Rattle.sir_analyses.specs.inner.Tables.{RangeSets}
@@ -18,9 +17,9 @@ returns-then-span-kept-2 c =
     let first : a.kept.start ≡ block_word w b 4 = omega (arith, span.ensures) in
     let last : a.kept.end ≡ block_word w b 5 = sym c.if-span-kept-2.true ∙ span.ensures.1 in
     let e : range a.kept.start a.kept.end ≡ ops w b = ap₂ range first last in
-    record { end_value = e; range_sets_2 = subst (λ (os : List ℕ). RangeSets w os a.sets.now) e c.requires.range_sets; }
+    record { end_value = e; range_sets_2 = subst (λ (os : List ℕ). RangeSets w os a.sets.now) e c.requires.range_sets }
 
 pub returns : goal.returns
 returns c =
     let span = c.block_operations-span.ensures in
-    record { end_value = ap₂ range span.0 span.1; range_sets_2 = c.range_sets.ensures; }
+    record { end_value = ap₂ range span.0 span.1; range_sets_2 = c.range_sets.ensures }

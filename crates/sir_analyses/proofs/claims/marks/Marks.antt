@@ -16,7 +16,7 @@ use Rattle.sir_data.specs.inner.WellFormed.{WellFormed}
 use Rattle.sir_analyses.specs.Order.{blocks_rpo}
 use Rattle.sir_analyses.specs.Liveness.{Use, uses_in, uses, positions, Set, has, add_all, members}
 use Rattle.sir_analyses.specs.Allocation.{Alloc, allocs, no_alloc, alloc_at, base, carried, next, next_of, closure, spread, reach, escapes, is_returned, reached_by_other, marked}
-use Rattle.sir_analyses.specs.Claims.{block, Reached, itself, linked, Marked, escaped, returned, met, MarkRule}
+use Rattle.sir_analyses.specs.Claims.{Reached, itself, linked, Marked, escaped, returned, met, MarkRule}
 use Rattle.plank_core.specs.laws.Lists.{and_true_left, and_true_right, both_true, or_true_left, or_true_right, or_cases, none, any_out, any_mem, keep_out, bind_out, bind_mem, elem_mem, elem_less, mem_elem, get_or_mem, upto_mem, mem_upto}
 use Rattle.sir_analyses.proofs.SetLaws.{has_less, none_in, set_ext, members_in, members_out, length_add_all, add_keeps, add_in, add_out, card, card_full, add_card}
 use Rattle.sir_analyses.proofs.Positions.{positions_in, positions_out}

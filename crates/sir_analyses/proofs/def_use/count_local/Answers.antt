@@ -1,6 +1,5 @@
 -- `count_local` meets its contract. The invariant: the places left are still to be counted.
 use mathlib.Core.Path.{ap}
-use Prim.Native.Nat.{◌-◌}
 use native.Mathlib.Omega.{arith}
 use lib.ListN.{length}
 use Rattle.sir_analyses.proofs.def_use.UseWords.{place_here, place_other, places_end}

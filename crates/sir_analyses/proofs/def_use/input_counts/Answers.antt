@@ -1,7 +1,7 @@
 -- `input_counts` meets its contract. The invariant: the operations before o are counted.
 use mathlib.Core.Path.{◌≡◌, sym, ap, ◌∙◌}
 use mathlib.Core.List.{List}
-use Prim.Native.Nat.{ℕ, ◌-◌, ◌<◌}
+use Prim.Native.Nat.{ℕ, ◌<◌}
 use native.Mathlib.Omega.{arith}
 use lib.ListN.{length, get_or, set, length-set}
 use lib.Seq.{get_or-set_same, get_or-set_other}
@@ -18,7 +18,7 @@ pub op_inputs-requires : goal.op_inputs-requires
 op_inputs-requires c =
     let L = c.loop-o in
     let h : L.o < operations c.args.words.now = omega (arith, c.operation_count-last.ensures, c.loop-o-test.true) in
-    record { sized = c.requires.well_formed.sized; in_range = c.requires.well_formed.in_range; o_bound = h; }
+    record { sized = c.requires.well_formed.sized; in_range = c.requires.well_formed.in_range; o_bound = h }
 
 pub count_local-requires : goal.count_local-requires
 count_local-requires c =

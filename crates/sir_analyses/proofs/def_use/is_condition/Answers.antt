@@ -4,7 +4,6 @@ use mathlib.Core.Bool.{or-false}
 use mathlib.Core.List.{[], ◌∷◌}
 use Rattle.plank_core.specs.Lists.{mem}
 use Rattle.sir_data.specs.Records.{condition}
-use Rattle.sir_data.specs.inner.Cases.{tested_locals}
 use Rattle.sir_analyses.proofs.def_use.is_condition.Goals as goal
 
 pub returns-in_default : goal.returns-in_default

@@ -16,7 +16,7 @@ put_operation_uses-m-requires c =
     let d = condition_uses w c.args.local.0 b in
     let t = output_uses w c.args.local.0 b in
     let l : length (block_uses w c.args.counts.now c.args.local.0 b) ≡ length o + length d + length t = length-append (o ++ d) t ∙ ap (λ (x : ℕ). x + length t) (length-append o d) in
-    record { well_formed = c.requires.well_formed; b_bound = c.requires.b_bound; b_bound_2 = omega (arith, c.requires.b_bound_2, l); }
+    record { well_formed = c.requires.well_formed; b_bound = c.requires.b_bound; b_bound_2 = omega (arith, c.requires.b_bound_2, l) }
 
 pub put_condition_use-k-requires : goal.put_condition_use-k-requires
 put_condition_use-k-requires c =
@@ -26,7 +26,7 @@ put_condition_use-k-requires c =
     let d = condition_uses w c.args.local.0 b in
     let t = output_uses w c.args.local.0 b in
     let l : length (block_uses w c.args.counts.now c.args.local.0 b) ≡ length o + length d + length t = length-append (o ++ d) t ∙ ap (λ (x : ℕ). x + length t) (length-append o d) in
-    record { well_formed = c.requires.well_formed; b_bound = c.requires.b_bound.0; n_bound = omega (arith, c.requires.b_bound_2, l, c.put_operation_uses-m.ensures.next); }
+    record { well_formed = c.requires.well_formed; b_bound = c.requires.b_bound.0; n_bound = omega (arith, c.requires.b_bound_2, l, c.put_operation_uses-m.ensures.next) }
 
 pub put_output_uses-requires : goal.put_output_uses-requires
 put_output_uses-requires c =
@@ -36,7 +36,7 @@ put_output_uses-requires c =
     let d = condition_uses w c.args.local.0 b in
     let t = output_uses w c.args.local.0 b in
     let l : length (block_uses w c.args.counts.now c.args.local.0 b) ≡ length o + length d + length t = length-append (o ++ d) t ∙ ap (λ (x : ℕ). x + length t) (length-append o d) in
-    record { well_formed = c.requires.well_formed; b_bound = c.requires.b_bound.0; b_bound_2 = omega (arith, c.requires.b_bound_2, l, c.put_operation_uses-m.ensures.next, c.put_condition_use-k.ensures.next); }
+    record { well_formed = c.requires.well_formed; b_bound = c.requires.b_bound.0; b_bound_2 = omega (arith, c.requires.b_bound_2, l, c.put_operation_uses-m.ensures.next, c.put_condition_use-k.ensures.next) }
 
 pub returns : goal.returns
 returns c =

@@ -1,6 +1,6 @@
 -- `put_operation_uses` meets its contract. The invariant: the operations left are to be put.
 use mathlib.Core.Path.{ap}
-use Prim.Native.Nat.{◌+◌, ◌-◌, ◌^◌}
+use Prim.Native.Nat.{◌+◌, ◌^◌}
 use native.Mathlib.Omega.{arith}
 use lib.ListN.{length, get_or}
 use Rattle.sir_analyses.specs.inner.Uses.{repeated_uses}

@@ -1,6 +1,6 @@
 -- `put_repeated` meets its contract. The invariant: the uses left are to be put.
 use mathlib.Core.List.{[], ◌∷◌}
-use Prim.Native.Nat.{◌+◌, ◌-◌, ◌^◌}
+use Prim.Native.Nat.{◌+◌, ◌^◌}
 use native.Mathlib.Omega.{arith}
 use Rattle.sir_analyses.proofs.answers.Writing.{putting_none, putting_as, putting_count, putting_more, putting_all, putting_past}
 use Rattle.sir_analyses.proofs.def_use.UseWords.{same_left, same_start, same_next, same_end, repeated_uses_length}

@@ -28,7 +28,7 @@ put_block_uses-m-requires c =
     let g = block_uses w c.args.counts.now c.args.local.0 in
     let e = bind_drop_step g order L.i c.loop-i-test.true in
     let q = putting_count (g (get_or order L.i 0)) (bind (drop (L.i + 1) order) g) {k = 2 ^ 59 - 3} (omega (arith, c.requires.counts_len.1)) (putting_as e L.invariant.1) in
-    record { well_formed = c.requires.visit_stage.well_formed; b_bound = (rpo_below w c.requires.visit_stage.well_formed (c.rpo-order.ensures ∙ c.requires.visit_stage.rpo_is) (get_or order L.i 0) (get_or_mem order L.i 0 c.loop-i-test.true), c.requires.counts_len.0); b_bound_2 = omega (arith, q); }
+    record { well_formed = c.requires.visit_stage.well_formed; b_bound = (rpo_below w c.requires.visit_stage.well_formed (c.rpo-order.ensures ∙ c.requires.visit_stage.rpo_is) (get_or order L.i 0) (get_or_mem order L.i 0 c.loop-i-test.true), c.requires.counts_len.0); b_bound_2 = omega (arith, q) }
 
 pub loop-i-preserved : goal.loop-i-preserved
 loop-i-preserved c =

@@ -18,7 +18,7 @@ slice_bounds-load_visit-end-2 c =
 
 pub load_visit-requires : goal.load_visit-requires
 load_visit-requires c =
-    record { well_formed = (front_good c.read_image-number.ensures c.if-number-ne0.false, c.requires.words_len.1); visit_value = c.requires.visit_value; }
+    record { well_formed = (front_good c.read_image-number.ensures c.if-number-ne0.false, c.requires.words_len.1); visit_value = c.requires.visit_value }
 
 pub returns : goal.returns
 returns c =

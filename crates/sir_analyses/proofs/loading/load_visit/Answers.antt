@@ -7,7 +7,7 @@ use Rattle.sir_analyses.proofs.loading.load_visit.Goals as goal
 
 pub compute_visit-finished-requires : goal.compute_visit-finished-requires
 compute_visit-finished-requires c =
-    record { well_formed = c.requires.well_formed.0; postorder_len = (c.requires.well_formed.1, c.requires.visit_value.0); }
+    record { well_formed = c.requires.well_formed.0; postorder_len = (c.requires.well_formed.1, c.requires.visit_value.0) }
 
 pub find_allocations-allocations-requires : goal.find_allocations-allocations-requires
 find_allocations-allocations-requires c =
@@ -23,7 +23,7 @@ slice_bounds-rule_12-end-2 c =
 
 pub rule_12-requires : goal.rule_12-requires
 rule_12-requires c =
-    record { well_formed = c.requires.well_formed.0; sites_value = found_few c.args.words.now c.requires.visit_value.1 (omega (arith, c.if-allocations-sites.false)) c.find_allocations-allocations.ensures; }
+    record { well_formed = c.requires.well_formed.0; sites_value = found_few c.args.words.now c.requires.visit_value.1 (omega (arith, c.if-allocations-sites.false)) c.find_allocations-allocations.ensures }
 
 pub returns-then-rule_12 : goal.returns-then-rule_12
 returns-then-rule_12 c =

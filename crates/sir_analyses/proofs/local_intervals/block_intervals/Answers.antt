@@ -10,7 +10,7 @@ use native.Mathlib.Omega.{arith}
 use Rattle.sir_analyses.proofs.local_intervals.block_intervals.Goals as goal
 
 pub block_operations-span-requires : goal.block_operations-span-requires
-block_operations-span-requires c = record { sized = c.requires.liveness_stage.well_formed.sized; b_bound = c.requires.b_bound.0; }
+block_operations-span-requires c = record { sized = c.requires.liveness_stage.well_formed.sized; b_bound = c.requires.b_bound.0 }
 
 pub loop-o-init : goal.loop-o-init
 loop-o-init c =

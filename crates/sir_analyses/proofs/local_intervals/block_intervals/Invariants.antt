@@ -1,6 +1,6 @@
 -- `block_intervals` meets its contract. The invariant: the operations from o on are done, and their intervals written.
 use mathlib.Core.Path.{◌≡◌}
-use Prim.Native.Nat.{◌+◌, ◌-◌, ◌*◌, ◌≤◌}
+use Prim.Native.Nat.{◌+◌, ◌*◌, ◌≤◌}
 use lib.ListN.{length}
 use Rattle.plank_core.specs.Lists.{range}
 use Rattle.sir_analyses.proofs.local_intervals.Scanning.{Scanning}

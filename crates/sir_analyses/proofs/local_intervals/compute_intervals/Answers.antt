@@ -2,7 +2,7 @@
 use Rattle.sir_analyses.specs.inner.Stages.{exits_in}
 use mathlib.Core.Path.{sym, ap, ◌∙◌}
 use mathlib.Core.List.{List, [], ◌∷◌}
-use Prim.Native.Nat.{ℕ, ◌-◌, ◌<◌}
+use Prim.Native.Nat.{ℕ, ◌<◌}
 use native.Mathlib.Omega.{arith}
 use lib.ListN.{length, get_or}
 use Rattle.plank_core.specs.Lists.{bind}
@@ -51,7 +51,7 @@ block_intervals-n-requires c =
     let b = get_or order L.i 0 in
     let below = rpo_below w c.requires.visit_stage.well_formed (c.rpo-order.ensures ∙ c.requires.visit_stage.rpo_is) b (get_or_mem order L.i 0 t) in
     let v : c.args.v.0 < 512 = omega (arith, c.requires.v_bound, c.requires.visit_stage.well_formed.sized.locals_most) in
-    record { liveness_stage = c.requires.liveness_stage; b_bound = (below, v, omega (arith, L.invariant.1)); }
+    record { liveness_stage = c.requires.liveness_stage; b_bound = (below, v, omega (arith, L.invariant.1)) }
 
 pub slice_bounds-run-end : goal.slice_bounds-run-end
 slice_bounds-run-end c =

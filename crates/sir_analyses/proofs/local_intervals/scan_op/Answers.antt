@@ -16,8 +16,8 @@ row_contains-requires c = (omega (arith, ap length c.writes.ensures ∙ length_p
 
 pub returns-then-row_contains : goal.returns-then-row_contains
 returns-then-row_contains c =
-    record { till_value = rw (sym (c.row_contains.ensures ∙ ap (λ (t : List ℕ). contains t (512 * c.args.o.0 + c.args.v.0)) c.writes.ensures) ∙ c.if-row_contains.true) c.opened.ensures; closed_value = rw (sym (c.row_contains.ensures ∙ ap (λ (t : List ℕ). contains t (512 * c.args.o.0 + c.args.v.0)) c.writes.ensures) ∙ c.if-row_contains.true); }
+    record { till_value = rw (sym (c.row_contains.ensures ∙ ap (λ (t : List ℕ). contains t (512 * c.args.o.0 + c.args.v.0)) c.writes.ensures) ∙ c.if-row_contains.true) c.opened.ensures; closed_value = rw (sym (c.row_contains.ensures ∙ ap (λ (t : List ℕ). contains t (512 * c.args.o.0 + c.args.v.0)) c.writes.ensures) ∙ c.if-row_contains.true) }
 
 pub returns : goal.returns
 returns c =
-    record { till_value = rw (sym (c.row_contains.ensures ∙ ap (λ (t : List ℕ). contains t (512 * c.args.o.0 + c.args.v.0)) c.writes.ensures) ∙ c.if-row_contains.false) c.opened-2.ensures; closed_value = rw (sym (c.row_contains.ensures ∙ ap (λ (t : List ℕ). contains t (512 * c.args.o.0 + c.args.v.0)) c.writes.ensures) ∙ c.if-row_contains.false); }
+    record { till_value = rw (sym (c.row_contains.ensures ∙ ap (λ (t : List ℕ). contains t (512 * c.args.o.0 + c.args.v.0)) c.writes.ensures) ∙ c.if-row_contains.false) c.opened-2.ensures; closed_value = rw (sym (c.row_contains.ensures ∙ ap (λ (t : List ℕ). contains t (512 * c.args.o.0 + c.args.v.0)) c.writes.ensures) ∙ c.if-row_contains.false) }

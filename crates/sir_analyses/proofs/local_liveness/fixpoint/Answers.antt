@@ -1,6 +1,5 @@
 -- `fixpoint` meets its contract. The invariant: so many passes are done, and the definition goes on from the sets that the exits show.
 use mathlib.Core.Path.{refl, sym, ◌∙◌}
-use Prim.Native.Nat.{◌-◌}
 use Rattle.sir_analyses.proofs.local_liveness.Passes.{settling_more, settling_ends, settling_few, settling_small}
 use Rattle.sir_analyses.proofs.local_liveness.LivenessTables.{passing_starts, passing_on}
 use native.Mathlib.Omega.{arith}
@@ -8,7 +7,7 @@ use Rattle.sir_analyses.proofs.local_liveness.fixpoint.Goals as goal
 
 pub predecessor_sets-requires : goal.predecessor_sets-requires
 predecessor_sets-requires c =
-    record { visit_stage = c.requires.visit_stage; preds_value = refl; }
+    record { visit_stage = c.requires.visit_stage; preds_value = refl }
 
 pub loop-preds-init : goal.loop-preds-init
 loop-preds-init c =
@@ -20,7 +19,7 @@ slice_bounds-pass_back-end-in-loop-preds c =
 
 pub pass_back-grew-requires : goal.pass_back-grew-requires
 pass_back-grew-requires c =
-    record { visit_stage = c.requires.visit_stage; passing = c.loop-preds.invariant.0; }
+    record { visit_stage = c.requires.visit_stage; passing = c.loop-preds.invariant.0 }
 
 pub overflow_add-done : goal.overflow_add-done
 overflow_add-done c =

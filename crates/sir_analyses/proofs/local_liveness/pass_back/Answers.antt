@@ -29,7 +29,7 @@ propagate_liveness_to_predecessors-requires c =
     let b : ℕ = get_or order (l.k - 1) 0 in
     let m : b ∈ order = get_or_mem order (l.k - 1) 0 (omega arith) in
     let good = c.requires.visit_stage.well_formed in
-    record { well_formed = good; b_bound = blocks_below c.args.words.now good b (subst (λ (bs : List ℕ). b ∈ bs) is m); passing = passing_on c.requires.passing l.invariant.1; }
+    record { well_formed = good; b_bound = blocks_below c.args.words.now good b (subst (λ (bs : List ℕ). b ∈ bs) is m); passing = passing_on c.requires.passing l.invariant.1 }
 
 pub loop-k-preserved-then-propagate_liveness_to_predecessors : goal.loop-k-preserved-then-propagate_liveness_to_predecessors
 loop-k-preserved-then-propagate_liveness_to_predecessors c =

@@ -1,5 +1,5 @@
 -- `pass_back` meets its contract. The invariant: the blocks from place k of the order on are done.
-use Prim.Native.Nat.{◌-◌, ◌≤◌}
+use Prim.Native.Nat.{◌≤◌}
 use lib.ListN.{length}
 use Rattle.sir_analyses.specs.inner.Stages.{PassStep}
 use Rattle.sir_analyses.proofs.local_liveness.Passes.{from}

@@ -28,7 +28,7 @@ row_union_with-requires c =
 
 pub send_to_predecessors-requires : goal.send_to_predecessors-requires
 send_to_predecessors-requires c =
-    record { well_formed = (c.requires.well_formed, c.requires.passing.preds_rows); b_bound = (c.requires.b_bound, c.unsent-new.ensures.0, exits_lent c.requires.passing); }
+    record { well_formed = (c.requires.well_formed, c.requires.passing.preds_rows); b_bound = (c.requires.b_bound, c.unsent-new.ensures.0, exits_lent c.requires.passing) }
 
 pub returns : goal.returns
 returns c =

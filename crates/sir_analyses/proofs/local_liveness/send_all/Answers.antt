@@ -2,7 +2,7 @@
 use mathlib.Core.Path.{◌≡◌, refl, ap}
 use mathlib.Core.Bool.{◌&&◌, ◌||◌}
 use mathlib.Core.List.{List}
-use Prim.Native.Nat.{ℕ, ◌-◌, ◌*◌, ◌≤◌, ◌<◌}
+use Prim.Native.Nat.{ℕ, ◌*◌, ◌≤◌, ◌<◌}
 use lib.ListN.{length, get_or}
 use lib.Seq.{take_all}
 use Rattle.plank_core.specs.Lists.{mem, ◌∈◌}
@@ -24,7 +24,7 @@ send_to-requires c =
     let l = c.loop-k in
     let i : l.k < length c.args.ids.now = omega arith in
     let m : get_or c.args.ids.now l.k 0 ∈ c.args.ids.now = get_or_mem c.args.ids.now l.k 0 i in
-    record { well_formed = c.requires.well_formed; p_bound = (c.requires.by_index _ m, c.requires.set_len.0, omega (arith, l.invariant.1.adds.long, c.requires.set_len)); by_index = λ k n. c.requires.by_index_2 _ k m n; }
+    record { well_formed = c.requires.well_formed; p_bound = (c.requires.by_index _ m, c.requires.set_len.0, omega (arith, l.invariant.1.adds.long, c.requires.set_len)); by_index = λ k n. c.requires.by_index_2 _ k m n }
 
 pub loop-k-preserved : goal.loop-k-preserved
 loop-k-preserved c =

@@ -18,7 +18,7 @@ row_union_with-passed-requires c =
 
 pub send_moved-requires : goal.send_moved-requires
 send_moved-requires c =
-    record { well_formed = c.requires.well_formed; p_bound = (c.requires.p_bound.0, omega (arith, c.row_union_with-passed.auto, c.requires.p_bound)); by_index = c.requires.by_index; }
+    record { well_formed = c.requires.well_formed; p_bound = (c.requires.p_bound.0, omega (arith, c.row_union_with-passed.auto, c.requires.p_bound)); by_index = c.requires.by_index }
 
 pub shape_of-exits-then-send_moved : goal.shape_of-exits-then-send_moved
 shape_of-exits-then-send_moved c =

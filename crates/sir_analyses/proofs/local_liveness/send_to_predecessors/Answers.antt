@@ -14,7 +14,7 @@ use Rattle.sir_analyses.proofs.local_liveness.send_to_predecessors.Goals as goal
 
 pub take_block_inputs-n-requires : goal.take_block_inputs-n-requires
 take_block_inputs-n-requires c =
-    record { well_formed = c.requires.well_formed.0; b_bound = (c.requires.b_bound.0, omega (arith, c.requires.b_bound.1), omega arith); }
+    record { well_formed = c.requires.well_formed.0; b_bound = (c.requires.b_bound.0, omega (arith, c.requires.b_bound.1), omega arith) }
 
 pub row_of-requires : goal.row_of-requires
 row_of-requires c =
@@ -44,7 +44,7 @@ send_all-requires c =
     let good = c.requires.well_formed.0 in
     let k = c.list-count in
     let p = c.take_block_inputs-n in
-    let ids : take k.result k.new.out ≡ members (row_of c.args.preds.now b) = front_members c.row_of.result.now (replicate 512 0) k.ensures.0 k.ensures.1 ∙ ap members c.row_of.ensures in record { well_formed = good; set_len = (omega (arith, p.auto, c.requires.b_bound.1), c.requires.b_bound.2); by_index = λ q m. listed_below good b c.requires.b_bound.0 c.requires.well_formed.1 q (subst (λ (xs : List ℕ). q ∈ xs) ids m); by_index_2 = λ q i m n. moved_below good b c.requires.b_bound.0 c.requires.well_formed.1 q (subst (λ (xs : List ℕ). q ∈ xs) ids m) p.ensures.1 i n; }
+    let ids : take k.result k.new.out ≡ members (row_of c.args.preds.now b) = front_members c.row_of.result.now (replicate 512 0) k.ensures.0 k.ensures.1 ∙ ap members c.row_of.ensures in record { well_formed = good; set_len = (omega (arith, p.auto, c.requires.b_bound.1), c.requires.b_bound.2); by_index = λ q m. listed_below good b c.requires.b_bound.0 c.requires.well_formed.1 q (subst (λ (xs : List ℕ). q ∈ xs) ids m); by_index_2 = λ q i m n. moved_below good b c.requires.b_bound.0 c.requires.well_formed.1 q (subst (λ (xs : List ℕ). q ∈ xs) ids m) p.ensures.1 i n }
 
 pub returns : goal.returns
 returns c =

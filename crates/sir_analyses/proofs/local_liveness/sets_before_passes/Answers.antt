@@ -10,11 +10,11 @@ operand_sets-requires c =
 
 pub block_sets-requires : goal.block_sets-requires
 block_sets-requires c =
-    record { well_formed = c.requires.well_formed; operand_rows = c.operand_sets.ensures; }
+    record { well_formed = c.requires.well_formed; operand_rows = c.operand_sets.ensures }
 
 pub end_sets-requires : goal.end_sets-requires
 end_sets-requires c =
-    record { well_formed = c.requires.well_formed; ends_value = ends_empty c.block_sets.ensures.1; }
+    record { well_formed = c.requires.well_formed; ends_value = ends_empty c.block_sets.ensures.1 }
 
 pub shape_of-live : goal.shape_of-live
 shape_of-live c =

@@ -1,6 +1,6 @@
 -- `take_block_inputs` meets its contract. The invariant: the first i inputs are gone from the set, and the positions of those that it had are found.
 use mathlib.Core.Path.{◌≡◌, sym, ◌∙◌}
-use Prim.Native.Nat.{◌-◌, ◌<◌}
+use Prim.Native.Nat.{◌<◌}
 use native.Mathlib.Nat.{zero-add}
 use lib.ListN.{length, get_or}
 use Rattle.plank_core.specs.inner.DenseIndexSet.{contains, removed}
@@ -11,7 +11,7 @@ use Rattle.sir_analyses.proofs.local_liveness.take_block_inputs.Goals.{else-row_
 
 pub block_inputs-inputs-requires : goal.block_inputs-inputs-requires
 block_inputs-inputs-requires c =
-    record { sized = c.requires.well_formed.sized; in_range = c.requires.well_formed.in_range; b_bound = c.requires.b_bound.0; }
+    record { sized = c.requires.well_formed.sized; in_range = c.requires.well_formed.in_range; b_bound = c.requires.b_bound.0 }
 
 pub loop-i-init : goal.loop-i-init
 loop-i-init c = taking_starts _ _ _

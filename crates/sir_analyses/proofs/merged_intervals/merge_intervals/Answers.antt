@@ -19,7 +19,7 @@ live_after-requires c =
 
 pub block_operations-span-requires : goal.block_operations-span-requires
 block_operations-span-requires c =
-    record { sized = c.requires.liveness_stage.well_formed.sized; b_bound = c.requires.b_bound.0; }
+    record { sized = c.requires.liveness_stage.well_formed.sized; b_bound = c.requires.b_bound.0 }
 
 pub slice_bounds-end_after-end : goal.slice_bounds-end_after-end
 slice_bounds-end_after-end c = omega (arith, c.live_after.auto)

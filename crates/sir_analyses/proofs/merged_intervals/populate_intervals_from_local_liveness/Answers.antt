@@ -1,6 +1,6 @@
 -- `populate_intervals_from_local_liveness` meets its contract. The invariant: the blocks from b on are to be put.
 use mathlib.Core.Path.{◌≡◌, refl, sym, ◌∙◌}
-use Prim.Native.Nat.{◌+◌, ◌-◌, ◌<◌}
+use Prim.Native.Nat.{◌+◌, ◌<◌}
 use native.Mathlib.Omega.{arith}
 use lib.ListN.{length}
 use Rattle.sir_data.specs.Records.{blocks}
@@ -26,7 +26,7 @@ slice_bounds-merge_intervals-end c =
 
 pub merge_intervals-from-requires : goal.merge_intervals-from-requires
 merge_intervals-from-requires c =
-    record { liveness_stage = c.requires.liveness_stage; b_bound = (omega (arith, c.loop-b-test.true, c.block_count-count.ensures), c.requires.reach_len.0, c.loop-b.invariant.1); }
+    record { liveness_stage = c.requires.liveness_stage; b_bound = (omega (arith, c.loop-b-test.true, c.block_count-count.ensures), c.requires.reach_len.0, c.loop-b.invariant.1) }
 
 pub offset_bounds-run-from : goal.offset_bounds-run-from
 offset_bounds-run-from c = omega (arith, c.merge_intervals-from.ensures.0)
@@ -48,10 +48,13 @@ loop-b-preserved c =
     let h : L.b < blocks w = omega (arith, c.loop-b-test.true, c.block_count-count.ensures) in
     let seen : c.is_visited.result ≡ is_visited w L.b = c.is_visited.ensures ∙ c.requires.visit_stage.visited_is L.b h in
     let g : (length c.if-is_visited.run ≡ 3075) × Populating w c.args.reach.now c.args.n c.args.out.now (L.b + 1) c.if-is_visited.out c.if-is_visited.m =
-    elim c.if-is_visited.branch [ then-is_visited x ↦ 
-    let run = x.merge_intervals-from.new.run in
-    let k : length run ≡ 3075 = omega (arith, x.merge_intervals-from.auto, L.invariant.1) in
-    rw (x.out-is, x.run-is, x.m-is) (k, populating_more L.invariant.2 h (sym seen ∙ x.if-is_visited.true) run x.merge_intervals-from.result k x.merge_intervals-from.ensures.1 x.put_words-m.ensures) | else-is_visited x ↦ rw (x.out-is, x.run-is, x.m-is) (L.invariant.1, populating_on L.invariant.2 h (sym seen ∙ x.if-is_visited.false)) ] in
+    elim c.if-is_visited.branch [
+      | then-is_visited x ↦
+          let run = x.merge_intervals-from.new.run in
+          let k : length run ≡ 3075 = omega (arith, x.merge_intervals-from.auto, L.invariant.1) in
+          rw (x.out-is, x.run-is, x.m-is) (k, populating_more L.invariant.2 h (sym seen ∙ x.if-is_visited.true) run x.merge_intervals-from.result k x.merge_intervals-from.ensures.1 x.put_words-m.ensures)
+      | else-is_visited x ↦ rw (x.out-is, x.run-is, x.m-is) (L.invariant.1, populating_on L.invariant.2 h (sym seen ∙ x.if-is_visited.false))
+    ] in
     (omega arith, g.0, g.1)
 
 pub shape_of-out : goal.shape_of-out

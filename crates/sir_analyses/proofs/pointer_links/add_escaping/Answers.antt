@@ -1,7 +1,6 @@
 -- `add_escaping` meets its contract. The invariant: of the first k inputs, those that escape are added.
 use mathlib.Core.Path.{◌≡◌, refl, sym, ◌∙◌}
 use mathlib.Core.Bool.{true, false}
-use Prim.Native.Nat.{◌-◌}
 use lib.ListN.{length, get_or}
 use Rattle.sir_data.specs.Records.{code, ins}
 use Rattle.sir_data.specs.Codes.{escaping}
@@ -14,11 +13,11 @@ use Rattle.sir_analyses.proofs.pointer_links.add_escaping.Goals.{else-operation_
 
 pub op_word-code-requires : goal.op_word-code-requires
 op_word-code-requires c =
-    record { sized = c.requires.well_formed.sized; o_bound = c.requires.o_bound.0; k_bound = omega arith; }
+    record { sized = c.requires.well_formed.sized; o_bound = c.requires.o_bound.0; k_bound = omega arith }
 
 pub op_inputs-inputs-requires : goal.op_inputs-inputs-requires
 op_inputs-inputs-requires c =
-    record { sized = c.requires.well_formed.sized; in_range = c.requires.well_formed.in_range; o_bound = c.requires.o_bound.0; }
+    record { sized = c.requires.well_formed.sized; in_range = c.requires.well_formed.in_range; o_bound = c.requires.o_bound.0 }
 
 pub loop-k-init : goal.loop-k-init
 loop-k-init c = (omega arith, adds_none (λ r v h. refl))

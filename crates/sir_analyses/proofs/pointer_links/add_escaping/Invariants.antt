@@ -2,7 +2,6 @@
 use Prim.Native.Nat.{◌-◌, ◌≤◌}
 use lib.ListN.{length}
 use Rattle.plank_core.specs.Lists.{upto, any}
-use Rattle.sir_data.specs.Records.{code}
 use Rattle.sir_analyses.specs.inner.Tables.{Adds}
 use Rattle.sir_analyses.proofs.pointer_links.PointerLinks.{escaping_at}
 use Rattle.sir_analyses.proofs.pointer_links.add_escaping.Given as goal

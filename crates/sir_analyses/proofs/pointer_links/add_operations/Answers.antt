@@ -1,6 +1,6 @@
 -- `add_operations` meets its contract. The invariant: the operations below o are added.
 use mathlib.Core.Path.{◌≡◌, ap, ap₂}
-use Prim.Native.Nat.{◌+◌, ◌-◌, ◌*◌, ◌/◌, ◌%◌, ◌<◌}
+use Prim.Native.Nat.{◌+◌, ◌*◌, ◌/◌, ◌%◌, ◌<◌}
 use lib.Dec.{eqb}
 use Rattle.plank_core.specs.Lists.{range, mem}
 use Rattle.plank_core.specs.laws.Loops.{range_none}
@@ -14,10 +14,10 @@ use Rattle.sir_analyses.proofs.pointer_links.add_operations.Goals as goal
 
 pub loop-o-init : goal.loop-o-init
 loop-o-init c = let first = c.operations-span.result.start in (
-      omega arith,
-      omega (arith, c.requires.well_formed.in_range.ops_range c.args.b.0 c.requires.b_bound.0, c.operations-span.ensures),
-      adds_none (λ r i h. ap (mem (512 * r + i)) (range_none first first (omega arith))),
-    )
+  omega arith,
+  omega (arith, c.requires.well_formed.in_range.ops_range c.args.b.0 c.requires.b_bound.0, c.operations-span.ensures),
+  adds_none (λ r i h. ap (mem (512 * r + i)) (range_none first first (omega arith))),
+)
 
 pub row_add-requires : goal.row_add-requires
 row_add-requires c =

@@ -1,7 +1,7 @@
 -- `link_blocks` meets its contract. The invariant: the edges of the first i blocks are linked, and what these return is added.
 use mathlib.Core.Path.{◌∙◌, refl}
 use mathlib.Core.Bool.{◌&&◌}
-use Prim.Native.Nat.{◌-◌, ◌<◌}
+use Prim.Native.Nat.{◌<◌}
 use lib.ListN.{get_or}
 use lib.Dec.{eqb}
 use Rattle.plank_core.specs.Lists.{any, mem}
@@ -27,13 +27,13 @@ pub link_edges-requires : goal.link_edges-requires
 link_edges-requires c =
     let l = c.loop-i in
     let order = c.rpo-order.result.now in
-    record { well_formed = c.requires.visit_stage.well_formed; b_bound = (rpo_below c.args.words.now c.requires.visit_stage.well_formed (c.rpo-order.ensures ∙ c.requires.visit_stage.rpo_is) (get_or order l.i 0) (get_or_mem order l.i 0 c.loop-i-test.true), l.invariant.1.long ∙ c.requires.links_len.0); }
+    record { well_formed = c.requires.visit_stage.well_formed; b_bound = (rpo_below c.args.words.now c.requires.visit_stage.well_formed (c.rpo-order.ensures ∙ c.requires.visit_stage.rpo_is) (get_or order l.i 0) (get_or_mem order l.i 0 c.loop-i-test.true), l.invariant.1.long ∙ c.requires.links_len.0) }
 
 pub returned_outputs-requires : goal.returned_outputs-requires
 returned_outputs-requires c =
     let l = c.loop-i in
     let order = c.rpo-order.result.now in
-    record { sized = c.requires.visit_stage.well_formed.sized; in_range = c.requires.visit_stage.well_formed.in_range; b_bound = rpo_below c.args.words.now c.requires.visit_stage.well_formed (c.rpo-order.ensures ∙ c.requires.visit_stage.rpo_is) (get_or order l.i 0) (get_or_mem order l.i 0 c.loop-i-test.true); }
+    record { sized = c.requires.visit_stage.well_formed.sized; in_range = c.requires.visit_stage.well_formed.in_range; b_bound = rpo_below c.args.words.now c.requires.visit_stage.well_formed (c.rpo-order.ensures ∙ c.requires.visit_stage.rpo_is) (get_or order l.i 0) (get_or_mem order l.i 0 c.loop-i-test.true) }
 
 pub add_run-requires : goal.add_run-requires
 add_run-requires c =
@@ -41,7 +41,7 @@ add_run-requires c =
     let w = c.args.words.now in
     let order = c.rpo-order.result.now in
     let h : get_or order l.i 0 < blocks w = rpo_below w c.requires.visit_stage.well_formed (c.rpo-order.ensures ∙ c.requires.visit_stage.rpo_is) (get_or order l.i 0) (get_or_mem order l.i 0 c.loop-i-test.true) in
-    record { row_in_bounds = omega (arith, l.invariant.2.long, c.requires.links_len.1); by_index = λ v m. small c.requires.visit_stage.well_formed (returned_below c.args.words.now c.requires.visit_stage.well_formed (get_or order l.i 0) v h (rw c.returned_outputs.ensures at m)); }
+    record { row_in_bounds = omega (arith, l.invariant.2.long, c.requires.links_len.1); by_index = λ v m. small c.requires.visit_stage.well_formed (returned_below c.args.words.now c.requires.visit_stage.well_formed (get_or order l.i 0) v h (rw c.returned_outputs.ensures at m)) }
 
 pub loop-i-preserved : goal.loop-i-preserved
 loop-i-preserved c =
@@ -63,4 +63,4 @@ pub returns : goal.returns
 returns c =
     let l = c.loop-i in
     let w = c.args.words.now in
-    let order = c.rpo-order.result.now in record { adds = rw (c.rpo-order.ensures ∙ c.requires.visit_stage.rpo_is) at (adds_all (λ b v u. any (λ t. passes_by w b t v u) (successors w b)) order l.i c.loop-i-test.false l.invariant.1); adds_2 = rw (c.rpo-order.ensures ∙ c.requires.visit_stage.rpo_is) at (adds_all (λ b r v. eqb r 1 && mem v (returned w b)) order l.i c.loop-i-test.false l.invariant.2); }
+    let order = c.rpo-order.result.now in record { adds = rw (c.rpo-order.ensures ∙ c.requires.visit_stage.rpo_is) at (adds_all (λ b v u. any (λ t. passes_by w b t v u) (successors w b)) order l.i c.loop-i-test.false l.invariant.1); adds_2 = rw (c.rpo-order.ensures ∙ c.requires.visit_stage.rpo_is) at (adds_all (λ b r v. eqb r 1 && mem v (returned w b)) order l.i c.loop-i-test.false l.invariant.2) }

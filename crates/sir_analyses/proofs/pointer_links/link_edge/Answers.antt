@@ -1,6 +1,5 @@
 -- `link_edge` meets its contract. The invariant: the first k outputs are linked.
 use mathlib.Core.Path.{◌≡◌, refl}
-use Prim.Native.Nat.{◌-◌}
 use lib.ListN.{length, get_or}
 use Rattle.sir_analyses.specs.inner.Tables.{Adds}
 use Rattle.sir_analyses.proofs.Tables.{adds_none, adds_one}
@@ -9,7 +8,7 @@ use native.Mathlib.Omega.{arith}
 use Rattle.sir_analyses.proofs.pointer_links.link_edge.Goals as goal
 
 pub inputs-taken-requires : goal.inputs-taken-requires
-inputs-taken-requires c = record { sized = c.requires.well_formed.sized; in_range = c.requires.well_formed.in_range; b_bound = c.requires.well_formed.in_range.successor c.args.b.0 c.args.s.0 c.requires.b_bound.0 c.requires.b_bound.1; }
+inputs-taken-requires c = record { sized = c.requires.well_formed.sized; in_range = c.requires.well_formed.in_range; b_bound = c.requires.well_formed.in_range.successor c.args.b.0 c.args.s.0 c.requires.b_bound.0 c.requires.b_bound.1 }
 
 pub loop-k-init : goal.loop-k-init
 loop-k-init c = (omega arith, adds_none (λ v u h. refl))

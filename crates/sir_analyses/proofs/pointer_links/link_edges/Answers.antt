@@ -1,6 +1,6 @@
 -- `link_edges` meets its contract. The invariant: the edges to the first i successors are linked.
 use mathlib.Core.Path.{refl, ◌∙◌}
-use Prim.Native.Nat.{◌-◌, ◌≤◌, ◌<◌}
+use Prim.Native.Nat.{◌≤◌, ◌<◌}
 use lib.ListN.{length}
 use Rattle.plank_core.specs.laws.Lists.{get_or_mem}
 use Rattle.sir_data.specs.Records.{successors}
@@ -15,14 +15,14 @@ loop-i-init c = (omega arith, adds_none (λ v u h. refl))
 
 pub successor-s-requires : goal.successor-s-requires
 successor-s-requires c =
-    record { sized = c.requires.well_formed.sized; in_range = c.requires.well_formed.in_range; b_bound = c.requires.b_bound.0; i_in_bounds = omega (arith, c.successor_count-count.ensures); }
+    record { sized = c.requires.well_formed.sized; in_range = c.requires.well_formed.in_range; b_bound = c.requires.b_bound.0; i_in_bounds = omega (arith, c.successor_count-count.ensures) }
 
 pub link_edge-requires : goal.link_edge-requires
 link_edge-requires c =
     let l = c.loop-i in
     let ss = successors c.args.words.now c.args.b.0 in
     let i : l.i < length ss = omega (arith, c.successor_count-count.ensures) in
-    record { well_formed = c.requires.well_formed; b_bound = (c.requires.b_bound.0, rw c.successor-s.ensures (get_or_mem ss l.i 0 i), l.invariant.1.long ∙ c.requires.b_bound.1); }
+    record { well_formed = c.requires.well_formed; b_bound = (c.requires.b_bound.0, rw c.successor-s.ensures (get_or_mem ss l.i 0 i), l.invariant.1.long ∙ c.requires.b_bound.1) }
 
 pub loop-i-preserved : goal.loop-i-preserved
 loop-i-preserved c =

@@ -1,7 +1,6 @@
 -- `link_operation` meets its contract. The invariant: the first k inputs are linked to the outputs.
 use mathlib.Core.Path.{◌≡◌, sym, ap, ◌∙◌}
 use mathlib.Core.Bool.{true, false, ◌&&◌, and_comm, and-false}
-use Prim.Native.Nat.{◌-◌}
 use lib.ListN.{get_or}
 use lib.Dec.{eqb}
 use Rattle.plank_core.specs.Lists.{mem}
@@ -17,7 +16,7 @@ use Rattle.sir_analyses.proofs.pointer_links.link_operation.Goals as goal
 
 pub op_word-requires : goal.op_word-requires
 op_word-requires c =
-    record { sized = c.requires.well_formed.sized; o_bound = c.requires.o_bound.0; k_bound = omega arith; }
+    record { sized = c.requires.well_formed.sized; o_bound = c.requires.o_bound.0; k_bound = omega arith }
 
 pub can_derive_pointer-requires : goal.can_derive_pointer-requires
 can_derive_pointer-requires c =
@@ -30,11 +29,11 @@ returns-then-not-can_derive_pointer c =
 
 pub op_inputs-inputs-requires : goal.op_inputs-inputs-requires
 op_inputs-inputs-requires c =
-    record { sized = c.requires.well_formed.sized; in_range = c.requires.well_formed.in_range; o_bound = c.requires.o_bound.0; }
+    record { sized = c.requires.well_formed.sized; in_range = c.requires.well_formed.in_range; o_bound = c.requires.o_bound.0 }
 
 pub op_outputs-outputs-requires : goal.op_outputs-outputs-requires
 op_outputs-outputs-requires c =
-    record { sized = c.requires.well_formed.sized; in_range = c.requires.well_formed.in_range; o_bound = c.requires.o_bound.0; }
+    record { sized = c.requires.well_formed.sized; in_range = c.requires.well_formed.in_range; o_bound = c.requires.o_bound.0 }
 
 pub loop-k-init : goal.loop-k-init
 loop-k-init c = (omega arith, adds_none (λ v u h. and-false (mem u c.op_outputs-outputs.result.now)))
@@ -47,7 +46,7 @@ add_run-requires c =
     let in_range = c.requires.o_bound.0 in
     let l = c.loop-k in
     let h = read_places c.requires.well_formed c.args.o.0 l.k c.op_inputs-inputs.ensures in_range c.loop-k-test.true in
-    record { row_in_bounds = omega (arith, l.invariant.1.long, h); by_index = λ v m. small c.requires.well_formed (c.requires.well_formed.in_range.written c.args.o.0 v in_range (rw c.op_outputs-outputs.ensures at m)); }
+    record { row_in_bounds = omega (arith, l.invariant.1.long, h); by_index = λ v m. small c.requires.well_formed (c.requires.well_formed.in_range.written c.args.o.0 v in_range (rw c.op_outputs-outputs.ensures at m)) }
 
 pub loop-k-preserved : goal.loop-k-preserved
 loop-k-preserved c =

@@ -1,7 +1,7 @@
 -- `link_operations` meets its contract. The invariant: the visited operations below o are linked, and their escaping locals added.
 use mathlib.Core.Path.{◌≡◌, refl, sym, ap, ◌∙◌}
 use mathlib.Core.Bool.{◌&&◌}
-use Prim.Native.Nat.{◌+◌, ◌-◌, ◌*◌, ◌/◌, ◌%◌, ◌<◌}
+use Prim.Native.Nat.{◌+◌, ◌*◌, ◌/◌, ◌%◌, ◌<◌}
 use lib.Dec.{eqb}
 use Rattle.plank_core.specs.inner.DenseIndexSet.{contains}
 use Rattle.sir_data.specs.Records.{operations}
@@ -23,11 +23,11 @@ row_contains-requires c =
 
 pub link_operation-requires : goal.link_operation-requires
 link_operation-requires c =
-    record { well_formed = c.requires.well_formed; o_bound = (omega (arith, c.operation_count-count.ensures), c.loop-o.invariant.1.long ∙ c.requires.links_len.0); }
+    record { well_formed = c.requires.well_formed; o_bound = (omega (arith, c.operation_count-count.ensures), c.loop-o.invariant.1.long ∙ c.requires.links_len.0) }
 
 pub add_escaping-requires : goal.add_escaping-requires
 add_escaping-requires c =
-    record { well_formed = c.requires.well_formed; o_bound = (omega (arith, c.operation_count-count.ensures), c.loop-o.invariant.2.long ∙ c.requires.links_len.1); }
+    record { well_formed = c.requires.well_formed; o_bound = (omega (arith, c.operation_count-count.ensures), c.loop-o.invariant.2.long ∙ c.requires.links_len.1) }
 
 pub loop-o-preserved : goal.loop-o-preserved
 loop-o-preserved c =
@@ -52,4 +52,4 @@ pub returns : goal.returns
 returns c =
     let l = c.loop-o in
     let e : l.o ≡ operations c.args.words.now = omega (arith, c.operation_count-count.ensures) in
-    record { adds = rw e at l.invariant.1; adds_2 = rw e at l.invariant.2; }
+    record { adds = rw e at l.invariant.1; adds_2 = rw e at l.invariant.2 }

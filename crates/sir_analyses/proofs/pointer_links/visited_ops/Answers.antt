@@ -1,6 +1,6 @@
 -- `visited_ops` meets its contract. The invariant: the operations of the first i blocks are added.
 use mathlib.Core.Path.{◌∙◌, refl}
-use Prim.Native.Nat.{◌+◌, ◌-◌, ◌*◌}
+use Prim.Native.Nat.{◌+◌, ◌*◌}
 use lib.ListN.{get_or}
 use Rattle.plank_core.specs.Lists.{mem}
 use Rattle.plank_core.specs.laws.Lists.{get_or_mem}
@@ -21,7 +21,7 @@ pub add_operations-requires : goal.add_operations-requires
 add_operations-requires c =
     let l = c.loop-i in
     let order = c.rpo-order.result.now in
-    record { well_formed = c.requires.visit_stage.well_formed; b_bound = (rpo_below c.args.words.now c.requires.visit_stage.well_formed (c.rpo-order.ensures ∙ c.requires.visit_stage.rpo_is) (get_or order l.i 0) (get_or_mem order l.i 0 c.loop-i-test.true), l.invariant.1.long ∙ cleared_long c.args.visited.now 16 c.requires.visited_value); }
+    record { well_formed = c.requires.visit_stage.well_formed; b_bound = (rpo_below c.args.words.now c.requires.visit_stage.well_formed (c.rpo-order.ensures ∙ c.requires.visit_stage.rpo_is) (get_or order l.i 0) (get_or_mem order l.i 0 c.loop-i-test.true), l.invariant.1.long ∙ cleared_long c.args.visited.now 16 c.requires.visited_value) }
 
 pub loop-i-preserved : goal.loop-i-preserved
 loop-i-preserved c =

@@ -1,7 +1,7 @@
 -- `put_edges` meets its contract. The invariant: the edges of the successors left are to be put.
 use mathlib.Core.Path.{sym, ◌∙◌}
 use mathlib.Core.List.{◌∷◌, []}
-use Prim.Native.Nat.{◌+◌, ◌-◌, ◌<◌}
+use Prim.Native.Nat.{◌+◌, ◌<◌}
 use native.Mathlib.Omega.{arith}
 use lib.ListN.{length}
 use Rattle.sir_data.specs.Records.{successors}
@@ -14,7 +14,7 @@ loop-i-init c = (omega arith, putting_none)
 
 pub successor-s-requires : goal.successor-s-requires
 successor-s-requires c =
-    record { sized = c.requires.well_formed.sized; in_range = c.requires.well_formed.in_range; b_bound = c.requires.p_bound; i_in_bounds = omega (arith, c.successor_count-count.ensures, c.loop-i-test.true); }
+    record { sized = c.requires.well_formed.sized; in_range = c.requires.well_formed.in_range; b_bound = c.requires.p_bound; i_in_bounds = omega (arith, c.successor_count-count.ensures, c.loop-i-test.true) }
 
 pub put_word-m-requires : goal.put_word-m-requires
 put_word-m-requires c =

@@ -1,7 +1,7 @@
 -- `put_predecessors` meets its contract. The invariant: the predecessors from block p on are to be put.
 use mathlib.Core.Path.{◌≡◌, sym, ◌∙◌}
 use mathlib.Core.Bool.{true, false}
-use Prim.Native.Nat.{◌+◌, ◌-◌, ◌<◌}
+use Prim.Native.Nat.{◌+◌, ◌<◌}
 use native.Mathlib.Omega.{arith}
 use Rattle.plank_core.specs.laws.Loops.{range_all}
 use Rattle.sir_data.specs.Records.{blocks}
@@ -28,7 +28,7 @@ put_edges-m-requires c =
     let n = c.block_count-count.result in
     let t : is_visited w L.p ≡ true = sym (c.requires.visited_is L.p h) ∙ sym c.is_visited.ensures ∙ c.if-is_visited.true in
     let e = visited_step w (λ q. edges_from w q c.args.b.0) L.p n c.loop-p-test.true t in
-    record { well_formed = c.requires.well_formed; p_bound = h; b_bound = putting_count (edges_from w L.p c.args.b.0) (predecessors_left w c.args.b.0 (L.p + 1) n) (omega (arith, predecessors_most w c.requires.well_formed c.args.b.0)) (putting_as e L.invariant.1); }
+    record { well_formed = c.requires.well_formed; p_bound = h; b_bound = putting_count (edges_from w L.p c.args.b.0) (predecessors_left w c.args.b.0 (L.p + 1) n) (omega (arith, predecessors_most w c.requires.well_formed c.args.b.0)) (putting_as e L.invariant.1) }
 
 pub loop-p-preserved-then-is_visited : goal.loop-p-preserved-then-is_visited
 loop-p-preserved-then-is_visited c =

@@ -62,12 +62,11 @@ visit_block-calls-preserved t c =
     let o = c.calls.o in
     let last = c.block_operations-span.result.end in
     let turn = c.calls-test.true in
-    let e = c.callee_plus_one-c.ensures in
-    (
+    let e = c.callee_plus_one-c.ensures in (
       omega (arith, c.calls.invariant.0),
       elim c.if-c-ne0.branch [
-        visit_block-then-c-ne0 x ↦ rw (x.seen-is, x.postorder-is, x.m-is) (going_more (going_as (calls_call w o last _ turn e x.if-c-ne0.true) c.calls.invariant.1) x.visit_function-m.ensures)
-      | visit_block-else-c-ne0 x ↦ rw (x.seen-is, x.postorder-is, x.m-is) (going_as (calls_skip w o last _ turn e x.if-c-ne0.false) c.calls.invariant.1)
+        | visit_block-then-c-ne0 x ↦ rw (x.seen-is, x.postorder-is, x.m-is) (going_more (going_as (calls_call w o last _ turn e x.if-c-ne0.true) c.calls.invariant.1) x.visit_function-m.ensures)
+        | visit_block-else-c-ne0 x ↦ rw (x.seen-is, x.postorder-is, x.m-is) (going_as (calls_skip w o last _ turn e x.if-c-ne0.false) c.calls.invariant.1)
       ],
     )
 
@@ -76,8 +75,7 @@ visit_block-visit_block-m-requires t c =
     let ok = c.requires.well_formed in
     let L = c.successors in
     let entered = block_entered ok c.requires.held c.args.b.0 c.requires.b_bound c.row_add.ensures c.if-not-row_add.false in
-    let below = successor_below ok c.args.b.0 L.i c.requires.b_bound (omega (arith, c.successor_count-count.ensures, c.successors-test.true)) in
-    (
+    let below = successor_below ok c.args.b.0 L.i c.requires.b_bound (omega (arith, c.successor_count-count.ensures, c.successors-test.true)) in (
       omega (arith, entered.fewer, c.decreases, L.invariant.down, c.calls.invariant.1.down),
       (ok, (c.requires.f_bound, (omega (arith, c.successor.ensures, below), L.invariant.held))),
     )

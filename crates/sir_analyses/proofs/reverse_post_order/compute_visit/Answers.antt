@@ -8,7 +8,7 @@ use Rattle.sir_analyses.proofs.reverse_post_order.compute_visit.Goals as goal
 
 pub visit-finished-requires : goal.visit-finished-requires
 visit-finished-requires c =
-    record { well_formed = c.requires.well_formed; seen_value = (refl, c.requires.postorder_len.0); }
+    record { well_formed = c.requires.well_formed; seen_value = (refl, c.requires.postorder_len.0) }
 
 pub slice_bounds-blocks_rpo-end : goal.slice_bounds-blocks_rpo-end
 slice_bounds-blocks_rpo-end c =
@@ -30,7 +30,7 @@ slice_bounds-flag_visited-end c =
 pub flag_visited-requires : goal.flag_visited-requires
 unfolding part
 flag_visited-requires c =
-    record { well_formed = c.requires.well_formed; seen_len = (c.visit-finished.ensures.held.wide, flags_empty c.requires.well_formed c.visit-finished.ensures c.requires.postorder_len.1 c.blocks_rpo-count.ensures); }
+    record { well_formed = c.requires.well_formed; seen_len = (c.visit-finished.ensures.held.wide, flags_empty c.requires.well_formed c.visit-finished.ensures c.requires.postorder_len.1 c.blocks_rpo-count.ensures) }
 
 pub overflow_cast-table : goal.overflow_cast-table
 unfolding part

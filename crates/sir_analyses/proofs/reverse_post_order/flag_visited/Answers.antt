@@ -1,6 +1,6 @@
 -- `flag_visited` meets its contract. The invariant: those below b are told.
 use mathlib.Core.Path.{sym, ap, ◌∙◌}
-use Prim.Native.Nat.{ℕ, ◌-◌, ◌<◌}
+use Prim.Native.Nat.{ℕ, ◌<◌}
 use lib.ListN.{length, length-replicate}
 use Rattle.sir_analyses.proofs.reverse_post_order.VisitTables.{flags_none, flags_seen, flags_unseen, flags_all}
 use native.Mathlib.Omega.{arith}

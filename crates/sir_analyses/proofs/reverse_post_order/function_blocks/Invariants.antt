@@ -1,6 +1,6 @@
 -- `function_blocks` meets its contract. The invariant: the keys before i are still to be read.
 use mathlib.Core.List.{reverse}
-use Prim.Native.Nat.{◌-◌, ◌≤◌}
+use Prim.Native.Nat.{◌≤◌}
 use lib.ListN.{length, take}
 use Rattle.plank_core.specs.Lists.{bind}
 use Rattle.sir_analyses.specs.inner.Visiting.{block_of, blocks_of}

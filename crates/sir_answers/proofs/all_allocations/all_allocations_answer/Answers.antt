@@ -39,4 +39,4 @@ fill_allocations-requires c =
     let e : n ≡ length (allocs c.args.words.now) = ap length (sites.ensures ∙ stage.sites_are) ∙ sites_long c.args.words.now in
     let h : n ≤ 512 = omega (arith, e, allocations_few stage) in
     let long = fixed_long n 512 (2 ^ 59) h in
-    record { visit_stage = c.requires.visit_stage; liveness_stage = c.requires.liveness_stage; pointer_stage = stage; cursors_len = (long ∙ e, λ a l. fixed_at n 512 (2 ^ 59) a h (omega (arith, l, long))); }
+    record { visit_stage = c.requires.visit_stage; liveness_stage = c.requires.liveness_stage; pointer_stage = stage; cursors_len = (long ∙ e, λ a l. fixed_at n 512 (2 ^ 59) a h (omega (arith, l, long))) }

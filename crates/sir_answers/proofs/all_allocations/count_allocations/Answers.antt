@@ -11,7 +11,7 @@ scan_allocations-requires c =
     let stage = c.requires.pointer_stage in
     let wide = c.requires.cursors_len.0 in
     let top = c.requires.cursors_len.1 in
-    record { visit_stage = c.requires.visit_stage; liveness_stage = c.requires.liveness_stage; pointer_stage = stage; cursors_len = (wide, top_fits wide top (records_counted stage) (records_small stage)); }
+    record { visit_stage = c.requires.visit_stage; liveness_stage = c.requires.liveness_stage; pointer_stage = stage; cursors_len = (wide, top_fits wide top (records_counted stage) (records_small stage)) }
 
 pub passed_words-requires : goal.passed_words-requires
 passed_words-requires c =

@@ -34,7 +34,7 @@ slice_bounds-write_allocations-end-2 c =
 
 pub write_allocations-requires : goal.write_allocations-requires
 write_allocations-requires c =
-    record { visit_stage = c.requires.visit_stage; liveness_stage = c.requires.liveness_stage; pointer_stage = c.requires.pointer_stage; counts = c.count_allocations.ensures; out_len = lent_words c.count_allocations.ensures c.args.out.now c.total_words.ensures c.finish-answer.ensures c.if-answer-ne0.false; }
+    record { visit_stage = c.requires.visit_stage; liveness_stage = c.requires.liveness_stage; pointer_stage = c.requires.pointer_stage; counts = c.count_allocations.ensures; out_len = lent_words c.count_allocations.ensures c.args.out.now c.total_words.ensures c.finish-answer.ensures c.if-answer-ne0.false }
 
 pub shape_of-cursors : goal.shape_of-cursors
 shape_of-cursors c =

@@ -20,7 +20,7 @@ slice_bounds-split_owners-end-2 c =
 
 pub split_owners-requires : goal.split_owners-requires
 split_owners-requires c =
-    record { by_index = c.list_owned-n.ensures.1.small; by_index_2 = c.requires.by_index; set_len = (c.requires.set_len.0, refl); }
+    record { by_index = c.list_owned-n.ensures.1.small; by_index_2 = c.requires.by_index; set_len = (c.requires.set_len.0, refl) }
 
 pub list_row-requires : goal.list_row-requires
 list_row-requires c =

@@ -72,7 +72,7 @@ record_head-head-requires c =
     let L = c.loop-a in
     let h = c.loop-a-test.true in
     let l : L.a < length (allocs w) = omega (arith, h, L.invariant.1.wide, c.requires.cursors_len.0) in
-    record { pointer_stage = stage; a_in_bounds = l; }
+    record { pointer_stage = stage; a_in_bounds = l }
 
 pub prepend-requires : goal.prepend-requires
 prepend-requires c =

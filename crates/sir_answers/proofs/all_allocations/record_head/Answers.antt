@@ -23,7 +23,7 @@ flags_of-requires c =
 pub alloc_head-requires : goal.alloc_head-requires
 alloc_head-requires c =
     let x = c.site_of-site.ensures c.args.words.now c.requires.pointer_stage.well_formed (c.alloc_sites.ensures ∙ c.requires.pointer_stage.sites_are) in
-    record { well_formed = c.requires.pointer_stage.well_formed; op_bound = site_known c.args.words.now c.requires.pointer_stage.well_formed x; }
+    record { well_formed = c.requires.pointer_stage.well_formed; op_bound = site_known c.args.words.now c.requires.pointer_stage.well_formed x }
 
 pub returns : goal.returns
 returns c =

@@ -13,7 +13,7 @@ slice_bounds-owned_tables-end c = refl
 
 pub owned_tables-requires : goal.owned_tables-requires
 owned_tables-requires c =
-    record { pointer_stage = c.requires.pointer_stage; owned_value = refl; }
+    record { pointer_stage = c.requires.pointer_stage; owned_value = refl }
 
 pub slice_bounds-copy_numbers-end : goal.slice_bounds-copy_numbers-end
 slice_bounds-copy_numbers-end c = refl
@@ -31,7 +31,7 @@ sweep_blocks-requires c =
     let w = c.args.words.now in
     let wide = c.requires.cursors_len.0 in
     let fits = fits_first (visited_pieces w) (head_pieces w) c.requires.cursors_len.1 in
-    record { visit_stage = c.requires.visit_stage; liveness_stage = c.requires.liveness_stage; owned_tables = c.owned_tables.ensures; cursors_len = (wide, fits); }
+    record { visit_stage = c.requires.visit_stage; liveness_stage = c.requires.liveness_stage; owned_tables = c.owned_tables.ensures; cursors_len = (wide, fits) }
 
 pub slice_bounds-put_heads-end : goal.slice_bounds-put_heads-end
 slice_bounds-put_heads-end c =
@@ -44,7 +44,7 @@ put_heads-requires c =
     let fits = fits_first (visited_pieces w) (head_pieces w) c.requires.cursors_len.1 in
     let s = c.sweep_blocks in
     let kept : length s.new.cursors ≡ length c.args.cursors.now = omega (arith, s.auto) in
-    record { pointer_stage = c.requires.pointer_stage; cursors_len = (kept ∙ wide, fits_rest (head_pieces w) c.requires.cursors_len.1 s.ensures); cursors_in_bounds = (omega (arith, kept, wide, allocations_few c.requires.pointer_stage, c.copy_numbers.auto), λ a h. c.copy_numbers.ensures a (omega (arith, kept)) ∙ tops_are c.requires.pointer_stage a wide fits s.ensures (omega (arith, kept))); }
+    record { pointer_stage = c.requires.pointer_stage; cursors_len = (kept ∙ wide, fits_rest (head_pieces w) c.requires.cursors_len.1 s.ensures); cursors_in_bounds = (omega (arith, kept, wide, allocations_few c.requires.pointer_stage, c.copy_numbers.auto), λ a h. c.copy_numbers.ensures a (omega (arith, kept)) ∙ tops_are c.requires.pointer_stage a wide fits s.ensures (omega (arith, kept))) }
 
 pub shape_of-cursors : goal.shape_of-cursors
 shape_of-cursors c =

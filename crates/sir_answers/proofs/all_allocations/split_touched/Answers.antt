@@ -37,7 +37,7 @@ slice_bounds-list_owned-end c =
 
 pub list_owned-n-requires : goal.list_owned-n-requires
 list_owned-n-requires c =
-    record { by_index = c.requires.by_index; set_len = (omega (arith, c.row_union_with-2.auto, c.row_union_with.auto), c.requires.set_len.1); }
+    record { by_index = c.requires.by_index; set_len = (omega (arith, c.row_union_with-2.auto, c.row_union_with.auto), c.requires.set_len.1) }
 
 pub slice_bounds-split_owners-end : goal.slice_bounds-split_owners-end
 slice_bounds-split_owners-end c =
@@ -49,7 +49,7 @@ slice_bounds-split_owners-end-2 c =
 
 pub split_owners-requires : goal.split_owners-requires
 split_owners-requires c =
-    record { by_index = c.list_owned-n.ensures.1.small; by_index_2 = c.requires.by_index; set_len = (c.requires.set_len.0, refl); }
+    record { by_index = c.list_owned-n.ensures.1.small; by_index_2 = c.requires.by_index; set_len = (c.requires.set_len.0, refl) }
 
 pub shape_of-ids : goal.shape_of-ids
 shape_of-ids c =

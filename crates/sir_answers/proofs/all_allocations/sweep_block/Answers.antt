@@ -36,7 +36,7 @@ slice_bounds-live_owners-end-2 c = refl
 
 pub live_owners-n-requires : goal.live_owners-n-requires
 live_owners-n-requires c =
-    record { by_index = (c.args.words.now, c.requires.owned_tables); set_len = (omega (arith, c.live_after.auto), refl); }
+    record { by_index = (c.args.words.now, c.requires.owned_tables); set_len = (omega (arith, c.live_after.auto), refl) }
 
 pub slice_bounds-ids-end : goal.slice_bounds-ids-end
 slice_bounds-ids-end c =
@@ -56,7 +56,7 @@ set_ends-requires c =
 
 pub block_operations-span-requires : goal.block_operations-span-requires
 block_operations-span-requires c =
-    record { sized = c.requires.liveness_stage.well_formed.sized; b_bound = c.requires.b_bound; }
+    record { sized = c.requires.liveness_stage.well_formed.sized; b_bound = c.requires.b_bound }
 
 pub loop-o-init : goal.loop-o-init
 loop-o-init c =
@@ -94,7 +94,7 @@ slice_bounds-split_touched-end-in-loop-o c =
 
 pub split_touched-split-requires : goal.split_touched-split-requires
 split_touched-split-requires c =
-    record { live_len = (c.requires.liveness_stage.long, omega (arith, c.loop-o-test.true, c.loop-o.invariant.1, c.requires.liveness_stage.well_formed.sized.operations_most)); by_index = (c.args.words.now, c.requires.owned_tables); set_len = (omega (arith, c.live_before.auto, c.loop-o.invariant.4.long), c.loop-o.invariant.3); }
+    record { live_len = (c.requires.liveness_stage.long, omega (arith, c.loop-o-test.true, c.loop-o.invariant.1, c.requires.liveness_stage.well_formed.sized.operations_most)); by_index = (c.args.words.now, c.requires.owned_tables); set_len = (omega (arith, c.live_before.auto, c.loop-o.invariant.4.long), c.loop-o.invariant.3) }
 
 pub slice_bounds-list_row-end-in-loop-o : goal.slice_bounds-list_row-end-in-loop-o
 slice_bounds-list_row-end-in-loop-o c =
@@ -139,7 +139,7 @@ close_before-requires c =
     let closed = ap (closed_pieces b (o + 1) (number_at L.till)) c.list_row-dead.ensures.1 ∙ swept_closed stage c.requires.owned_tables below L.invariant.4 L.invariant.5 m c.live_before.ensures long split os in
     let k = scattering_as (swept_next w b span.result.start L.o h) L.invariant.6 in
     let ready = close_ready closed (L.invariant.6.wide ∙ c.requires.cursors_len.0) (swept_below w stage.well_formed b o below) (scattering_fits (swept_pieces w b o) (swept_left w b span.result.start o) k) in
-    record { by_index = listed_below (row_of c.split_touched-split.result.words 1) L.till c.list_row-dead.ensures.1 L.invariant.5.long; below = ready.0; fits = ready.1; }
+    record { by_index = listed_below (row_of c.split_touched-split.result.words 1) L.till c.list_row-dead.ensures.1 L.invariant.5.long; below = ready.0; fits = ready.1 }
 
 pub slice_bounds-ids-end-in-loop-o-2 : goal.slice_bounds-ids-end-in-loop-o-2
 slice_bounds-ids-end-in-loop-o-2 c =
@@ -226,7 +226,7 @@ slice_bounds-live_owners-end-4 c =
 
 pub live_owners-m-requires : goal.live_owners-m-requires
 live_owners-m-requires c =
-    record { by_index = (c.args.words.now, c.requires.owned_tables); set_len = (c.loop-o.invariant.4.long, c.loop-o.invariant.3); }
+    record { by_index = (c.args.words.now, c.requires.owned_tables); set_len = (c.loop-o.invariant.4.long, c.loop-o.invariant.3) }
 
 pub slice_bounds-ids-end-2 : goal.slice_bounds-ids-end-2
 slice_bounds-ids-end-2 c =
@@ -253,7 +253,7 @@ close_before-requires-2 c =
     let k = scattering_as (swept_last w b span.result.start L.o c.loop-o-test.false) L.invariant.6 in
     let x = c.live_owners-m.ensures.1 in
     let ready = close_ready e (L.invariant.6.wide ∙ c.requires.cursors_len.0) (open_below w c.requires.liveness_stage.well_formed b c.requires.b_bound) (scattering_fits (open_pieces w b) [] k) in
-    record { by_index = listed_below x.owners L.till x.listed L.invariant.5.long; below = ready.0; fits = ready.1; }
+    record { by_index = listed_below x.owners L.till x.listed L.invariant.5.long; below = ready.0; fits = ready.1 }
 
 pub shape_of-cursors : goal.shape_of-cursors
 shape_of-cursors c =

@@ -1,6 +1,6 @@
 -- `sweep_block` meets its contract. The invariant: the pieces of the operations before o, and of the start, are to be put.
 use mathlib.Core.Path.{◌≡◌}
-use Prim.Native.Nat.{◌-◌, ◌≤◌}
+use Prim.Native.Nat.{◌≤◌}
 use lib.ListN.{length}
 use Rattle.plank_core.specs.Lists.{range}
 use Rattle.sir_data.specs.Records.{operations}

@@ -34,7 +34,7 @@ sweep_block-requires c =
     let below : b < blocks w = omega (arith, h, L.invariant.0) in
     let t = sym (c.requires.visit_stage.visited_is b below) ∙ sym c.is_visited.ensures ∙ c.if-is_visited.true in
     let k = scattering_as (visited_next w L.b h t) L.invariant.1 in
-    record { liveness_stage = c.requires.liveness_stage; owned_tables = c.requires.owned_tables; b_bound = below; cursors_len = (L.invariant.1.wide ∙ c.requires.cursors_len.0, scattering_fits (sweep_pieces w b) (visited_to w b) k); }
+    record { liveness_stage = c.requires.liveness_stage; owned_tables = c.requires.owned_tables; b_bound = below; cursors_len = (L.invariant.1.wide ∙ c.requires.cursors_len.0, scattering_fits (sweep_pieces w b) (visited_to w b) k) }
 
 pub loop-b-smaller-then-is_visited : goal.loop-b-smaller-then-is_visited
 loop-b-smaller-then-is_visited c =

@@ -1,5 +1,5 @@
 -- `sweep_blocks` meets its contract. The invariant: the pieces of the visited blocks below b are to be put.
-use Prim.Native.Nat.{◌-◌, ◌≤◌}
+use Prim.Native.Nat.{◌≤◌}
 use Rattle.sir_data.specs.Records.{blocks}
 use Rattle.sir_answers.specs.inner.Scatter.{backward}
 use Rattle.sir_answers.specs.inner.AllocationPieces.{visited_pieces}

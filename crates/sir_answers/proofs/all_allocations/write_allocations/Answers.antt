@@ -13,14 +13,14 @@ put_lengths-requires c =
     let stage = c.requires.pointer_stage in
     let counts = c.requires.counts in
     let fit = lengths_fit counts (records_small stage) c.requires.out_len in
-    record { cursors_bound = fit.0; cursors_in_bounds = fit.1.0; by_index = fit.1.1; }
+    record { cursors_bound = fit.0; cursors_in_bounds = fit.1.0; by_index = fit.1.1 }
 
 pub scan_allocations-requires : goal.scan_allocations-requires
 scan_allocations-requires c =
     let stage = c.requires.pointer_stage in
     let counts = c.requires.counts in
     let wide : length c.put_lengths.new.cursors ≡ length (allocs c.args.words.now) = omega (arith, c.put_lengths.auto, counts.wide) in
-    record { visit_stage = c.requires.visit_stage; liveness_stage = c.requires.liveness_stage; pointer_stage = stage; cursors_len = (wide, placed_fits counts backward (records_are stage) wide c.put_lengths.ensures (records_small stage)); }
+    record { visit_stage = c.requires.visit_stage; liveness_stage = c.requires.liveness_stage; pointer_stage = stage; cursors_len = (wide, placed_fits counts backward (records_are stage) wide c.put_lengths.ensures (records_small stage)) }
 
 pub shape_of-cursors : goal.shape_of-cursors
 shape_of-cursors c =

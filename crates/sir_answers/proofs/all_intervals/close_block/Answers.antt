@@ -36,7 +36,7 @@ close_ends-requires c =
     let ends = c.requires.b_bound.1 in
     let e = ap (closed_pieces a.b.0 0 (number_at a.till.now)) listed ∙ start_closed c.requires.liveness_stage c.requires.b_bound.0 ws ends c.compute_liveness_at_block_entry-set.ensures.1 in
     let ready = close_ready e c.requires.cursors_len.0 (start_below c.requires.liveness_stage.well_formed c.requires.b_bound.0) c.requires.cursors_len.1 in
-    record { by_index = listed_below ws a.till.now listed ends.long; below = ready.0; fits = ready.1; }
+    record { by_index = listed_below ws a.till.now listed ends.long; below = ready.0; fits = ready.1 }
 
 pub returns : goal.returns
 returns c =

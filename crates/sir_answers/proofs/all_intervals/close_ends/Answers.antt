@@ -1,5 +1,4 @@
 -- `close_ends` meets its contract. The invariant: the pieces of the ids left are to be put.
-use Prim.Native.Nat.{◌-◌}
 use native.Mathlib.Omega.{arith}
 use lib.ListN.{get_or}
 use Rattle.plank_core.specs.laws.Lists.{get_or_mem}

@@ -10,7 +10,7 @@ pub scan_intervals-requires : goal.scan_intervals-requires
 scan_intervals-requires c =
     let good = c.requires.visit_stage.well_formed in
     let wide = c.requires.cursors_len.0 in
-    record { visit_stage = c.requires.visit_stage; liveness_stage = c.requires.liveness_stage; cursors_len = (wide, zero_fits wide c.requires.cursors_len.1 (λ v h. ap length (intervals_are good v h)) (intervals_small good)); }
+    record { visit_stage = c.requires.visit_stage; liveness_stage = c.requires.liveness_stage; cursors_len = (wide, zero_fits wide c.requires.cursors_len.1 (λ v h. ap length (intervals_are good v h)) (intervals_small good)) }
 
 pub shape_of-cursors : goal.shape_of-cursors
 shape_of-cursors c =

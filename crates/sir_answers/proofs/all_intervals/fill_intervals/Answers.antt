@@ -34,7 +34,7 @@ slice_bounds-write_intervals-end-2 c =
 
 pub write_intervals-requires : goal.write_intervals-requires
 write_intervals-requires c =
-    record { visit_stage = c.requires.visit_stage; liveness_stage = c.requires.liveness_stage; counts = c.count_intervals.ensures; out_len = lent_words c.count_intervals.ensures c.args.out.now c.total_words.ensures c.finish-answer.ensures c.if-answer-ne0.false; }
+    record { visit_stage = c.requires.visit_stage; liveness_stage = c.requires.liveness_stage; counts = c.count_intervals.ensures; out_len = lent_words c.count_intervals.ensures c.args.out.now c.total_words.ensures c.finish-answer.ensures c.if-answer-ne0.false }
 
 pub shape_of-cursors : goal.shape_of-cursors
 shape_of-cursors c =

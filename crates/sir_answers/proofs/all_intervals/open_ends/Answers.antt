@@ -1,6 +1,6 @@
 -- `open_ends` meets its contract. The invariant: what is left decides.
 use mathlib.Core.Path.{refl, sym, ◌∙◌}
-use Prim.Native.Nat.{◌-◌, ◌<◌}
+use Prim.Native.Nat.{◌<◌}
 use native.Mathlib.Omega.{arith}
 use lib.ListN.{length, get_or, length-set}
 use Rattle.plank_core.specs.laws.Lists.{get_or_mem}

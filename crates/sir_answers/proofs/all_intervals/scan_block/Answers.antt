@@ -12,7 +12,7 @@ use Rattle.sir_answers.proofs.all_intervals.scan_block.Goals as goal
 
 pub open_block-requires : goal.open_block-requires
 open_block-requires c =
-    record { live_len = (c.requires.liveness_stage.long, omega (arith, c.requires.b_bound, c.requires.liveness_stage.well_formed.sized.blocks_most)); till_len = (refl, λ v. zero_at 512 v); }
+    record { live_len = (c.requires.liveness_stage.long, omega (arith, c.requires.b_bound, c.requires.liveness_stage.well_formed.sized.blocks_most)); till_len = (refl, λ v. zero_at 512 v) }
 
 pub slice_bounds-scan_operations-end : goal.slice_bounds-scan_operations-end
 slice_bounds-scan_operations-end c =
@@ -24,7 +24,7 @@ scan_operations-requires c =
     let w = a.words.now in
     let b = a.b.0 in
     let opened : OpenEnds w b [] c.open_block.new.till = ends_none c.requires.liveness_stage c.requires.b_bound c.open_block.auto.till c.open_block.ensures in
-    record { liveness_stage = c.requires.liveness_stage; b_bound = (c.requires.b_bound, opened); cursors_len = (c.requires.cursors_len.0, room_first forward (operations_pieces w b) (start_pieces w b) c.requires.cursors_len.1); }
+    record { liveness_stage = c.requires.liveness_stage; b_bound = (c.requires.b_bound, opened); cursors_len = (c.requires.cursors_len.0, room_first forward (operations_pieces w b) (start_pieces w b) c.requires.cursors_len.1) }
 
 pub slice_bounds-close_block-end : goal.slice_bounds-close_block-end
 slice_bounds-close_block-end c =
@@ -36,7 +36,7 @@ close_block-requires c =
     let w = a.words.now in
     let b = a.b.0 in
     let k = scattering_more (start_pieces w b) (scattering_none c.requires.cursors_len.1) c.scan_operations.ensures.scatters in
-    record { liveness_stage = c.requires.liveness_stage; b_bound = (c.requires.b_bound, c.scan_operations.ensures.open_ends); cursors_len = (k.wide ∙ c.requires.cursors_len.0, k.fits); }
+    record { liveness_stage = c.requires.liveness_stage; b_bound = (c.requires.b_bound, c.scan_operations.ensures.open_ends); cursors_len = (k.wide ∙ c.requires.cursors_len.0, k.fits) }
 
 pub shape_of-cursors : goal.shape_of-cursors
 shape_of-cursors c =

@@ -1,7 +1,7 @@
 -- `scan_intervals` meets its contract. The invariant: the pieces of the blocks left are to be put.
 use mathlib.Core.Path.{sym, ap, ◌∙◌}
 use mathlib.Core.List.{List}
-use Prim.Native.Nat.{ℕ, ◌+◌, ◌-◌}
+use Prim.Native.Nat.{ℕ, ◌+◌}
 use native.Mathlib.Omega.{arith}
 use lib.ListN.{length, get_or, drop}
 use Rattle.plank_core.specs.Lists.{bind}
@@ -39,7 +39,7 @@ scan_block-requires c =
     let h = c.loop-i-test.true in
     let in_order = c.rpo-order.ensures ∙ c.requires.visit_stage.rpo_is in
     let k = scattering_as (bind_drop_step (block_pieces w) order L.i h) L.invariant.1 in
-    record { liveness_stage = c.requires.liveness_stage; b_bound = rpo_below w c.requires.visit_stage.well_formed in_order b (get_or_mem order L.i 0 h); cursors_len = (L.invariant.1.wide ∙ c.requires.cursors_len.0, scattering_fits (block_pieces w b) (bind (drop (L.i + 1) order) (block_pieces w)) k); }
+    record { liveness_stage = c.requires.liveness_stage; b_bound = rpo_below w c.requires.visit_stage.well_formed in_order b (get_or_mem order L.i 0 h); cursors_len = (L.invariant.1.wide ∙ c.requires.cursors_len.0, scattering_fits (block_pieces w b) (bind (drop (L.i + 1) order) (block_pieces w)) k) }
 
 pub overflow_add-i : goal.overflow_add-i
 overflow_add-i c =

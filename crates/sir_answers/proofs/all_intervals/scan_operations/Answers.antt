@@ -20,7 +20,7 @@ use Rattle.sir_answers.proofs.all_intervals.scan_operations.Goals as goal
 
 pub block_operations-span-requires : goal.block_operations-span-requires
 block_operations-span-requires c =
-    record { sized = c.requires.liveness_stage.well_formed.sized; b_bound = c.requires.b_bound.0; }
+    record { sized = c.requires.liveness_stage.well_formed.sized; b_bound = c.requires.b_bound.0 }
 
 pub loop-o-init : goal.loop-o-init
 loop-o-init c =
@@ -81,7 +81,7 @@ close_ends-requires c =
     let e = ap (closed_pieces b (o + 1) (number_at L.till)) listed ∙ operation_closed c.requires.liveness_stage c.requires.b_bound.0 L.invariant.4 m os in
     let k = scattering_as (bind_back_step (operation_pieces w b) span.result.start L.o c.loop-o-test.true) L.invariant.5 in
     let ready = close_ready e (L.invariant.5.wide ∙ c.requires.cursors_len.0) (operation_below c.requires.liveness_stage.well_formed c.requires.b_bound.0 o) (scattering_fits (operation_pieces w b o) (bind (reverse (range span.result.start o)) (operation_pieces w b)) k) in
-    record { by_index = listed_below (row_of (writes_in a.live.now) o) L.till listed L.invariant.4.long; below = ready.0; fits = ready.1; }
+    record { by_index = listed_below (row_of (writes_in a.live.now) o) L.till listed L.invariant.4.long; below = ready.0; fits = ready.1 }
 
 pub slice_bounds-ids-end-in-loop-o : goal.slice_bounds-ids-end-in-loop-o
 slice_bounds-ids-end-in-loop-o c =
@@ -166,4 +166,4 @@ returns c =
     let span = c.block_operations-span in
     let first : L.o ≡ block_word w b 4 = omega (arith, span.ensures, c.loop-o-test.false, L.invariant.0) in
     let os : range L.o span.result.end ≡ ops w b = ap₂ range first span.ensures.1 in
-    record { open_ends = rw os at L.invariant.4; scatters = scattering_all (bind_back_end (operation_pieces w b) span.result.start L.o c.loop-o-test.false) L.invariant.5; }
+    record { open_ends = rw os at L.invariant.4; scatters = scattering_all (bind_back_end (operation_pieces w b) span.result.start L.o c.loop-o-test.false) L.invariant.5 }

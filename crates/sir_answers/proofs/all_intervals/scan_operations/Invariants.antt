@@ -1,7 +1,7 @@
 -- `scan_operations` meets its contract. The invariant: the pieces of the operations before o are to be put.
 use mathlib.Core.Path.{◌≡◌}
 use mathlib.Core.List.{reverse}
-use Prim.Native.Nat.{◌-◌, ◌≤◌}
+use Prim.Native.Nat.{◌≤◌}
 use lib.ListN.{length}
 use Rattle.plank_core.specs.Lists.{bind, range}
 use Rattle.sir_data.specs.Records.{operations}

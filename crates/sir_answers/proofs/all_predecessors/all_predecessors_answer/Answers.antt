@@ -13,4 +13,4 @@ pub fill_predecessors-requires : goal.fill_predecessors-requires
 fill_predecessors-requires c =
     let n = c.block_count-n.result in
     let h : n ≤ 256 = omega (arith, c.requires.well_formed.sized.blocks_most) in
-    record { visit_stage = c.requires; cursors_len = (zero_long n 256 h ∙ c.block_count-n.ensures, λ v. zero_prefix n 256 v); }
+    record { visit_stage = c.requires; cursors_len = (zero_long n 256 h ∙ c.block_count-n.ensures, λ v. zero_prefix n 256 v) }

@@ -26,7 +26,7 @@ slice_bounds-write_predecessors-end-2 c =
 
 pub write_predecessors-requires : goal.write_predecessors-requires
 write_predecessors-requires c =
-    record { visit_stage = c.requires.visit_stage; counts = c.count_predecessors.ensures; out_len = lent_words c.count_predecessors.ensures c.args.out.now c.total_words.ensures c.finish-answer.ensures c.if-answer-ne0.false; }
+    record { visit_stage = c.requires.visit_stage; counts = c.count_predecessors.ensures; out_len = lent_words c.count_predecessors.ensures c.args.out.now c.total_words.ensures c.finish-answer.ensures c.if-answer-ne0.false }
 
 pub returns : goal.returns
 returns c =

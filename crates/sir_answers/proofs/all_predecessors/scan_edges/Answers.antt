@@ -1,6 +1,6 @@
 -- `scan_edges` meets its contract. The invariant: the pieces of the successors left are to be put.
 use mathlib.Core.List.{◌∷◌, []}
-use Prim.Native.Nat.{◌-◌, ◌<◌}
+use Prim.Native.Nat.{◌<◌}
 use native.Mathlib.Omega.{arith}
 use lib.ListN.{length, get_or}
 use Rattle.plank_core.specs.laws.Lists.{get_or_mem}
@@ -14,7 +14,7 @@ loop-i-init c = (omega arith, scattering_none c.requires.fits)
 
 pub successor-s-requires : goal.successor-s-requires
 successor-s-requires c =
-    record { sized = c.requires.well_formed.sized; in_range = c.requires.well_formed.in_range; b_bound = c.requires.p_bound.0; i_in_bounds = omega (arith, c.successor_count-count.ensures); }
+    record { sized = c.requires.well_formed.sized; in_range = c.requires.well_formed.in_range; b_bound = c.requires.p_bound.0; i_in_bounds = omega (arith, c.successor_count-count.ensures) }
 
 pub append-requires : goal.append-requires
 append-requires c =

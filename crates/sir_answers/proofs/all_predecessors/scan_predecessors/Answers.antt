@@ -1,7 +1,7 @@
 -- `scan_predecessors` meets its contract. The invariant: the pieces of the visited blocks from p on are to be put.
 use mathlib.Core.Path.{◌≡◌, sym, ◌∙◌}
 use mathlib.Core.Bool.{true, false}
-use Prim.Native.Nat.{◌+◌, ◌-◌, ◌<◌}
+use Prim.Native.Nat.{◌+◌, ◌<◌}
 use native.Mathlib.Omega.{arith}
 use Rattle.plank_core.specs.laws.Loops.{range_all}
 use Rattle.sir_data.specs.Records.{blocks}
@@ -26,7 +26,7 @@ scan_edges-requires c =
     let h : p < blocks w = omega (arith, c.block_count-count.ensures, c.loop-p-test.true) in
     let t : is_visited w p ≡ true = sym (c.requires.visit_stage.visited_is p h) ∙ sym c.is_visited.ensures ∙ c.if-is_visited.true in
     let e = visited_step w (edge_pieces w) p n c.loop-p-test.true t in
-    record { well_formed = c.requires.visit_stage.well_formed; p_bound = (h, c.loop-p.invariant.1.wide ∙ c.requires.cursors_len.0); fits = scattering_fits (edge_pieces w p) (visited_left w (edge_pieces w) (p + 1) n) (scattering_as e c.loop-p.invariant.1); }
+    record { well_formed = c.requires.visit_stage.well_formed; p_bound = (h, c.loop-p.invariant.1.wide ∙ c.requires.cursors_len.0); fits = scattering_fits (edge_pieces w p) (visited_left w (edge_pieces w) (p + 1) n) (scattering_as e c.loop-p.invariant.1) }
 
 pub loop-p-preserved-then-is_visited : goal.loop-p-preserved-then-is_visited
 loop-p-preserved-then-is_visited c =

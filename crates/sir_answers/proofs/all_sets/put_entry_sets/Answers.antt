@@ -1,7 +1,7 @@
 -- `put_entry_sets` meets its contract. The invariant: the answers from id b on are to be put.
 use mathlib.Core.Path.{sym, ap, ◌∙◌}
 use mathlib.Core.List.{◌∷◌}
-use Prim.Native.Nat.{ℕ, ◌-◌}
+use Prim.Native.Nat.{ℕ}
 use lib.ListN.{length}
 use Rattle.plank_core.specs.Lists.{bind, upto}
 use Rattle.sir_analyses.specs.Answers.{entry_answer}
@@ -20,7 +20,7 @@ loop-b-init c =
 
 pub put_entry_set-m-requires : goal.put_entry_set-m-requires
 put_entry_set-m-requires c =
-    record { visit_stage = c.requires.visit_stage; liveness_stage = (c.requires.liveness_stage, omega (arith, c.loop-b-test.true, c.block_count-count.ensures), omega (arith, c.loop-b.invariant.1, c.loop-b-test.true, c.block_count-count.ensures, c.requires.visit_stage.well_formed.sized.blocks_most)); }
+    record { visit_stage = c.requires.visit_stage; liveness_stage = (c.requires.liveness_stage, omega (arith, c.loop-b-test.true, c.block_count-count.ensures), omega (arith, c.loop-b.invariant.1, c.loop-b-test.true, c.block_count-count.ensures, c.requires.visit_stage.well_formed.sized.blocks_most)) }
 
 pub overflow_add-b : goal.overflow_add-b
 overflow_add-b c =

@@ -1,7 +1,7 @@
 -- `put_exit_sets` meets its contract. The invariant: the answers from id b on are to be put.
 use mathlib.Core.Path.{sym, ap, ◌∙◌}
 use mathlib.Core.List.{List, ◌∷◌}
-use Prim.Native.Nat.{ℕ, ◌-◌}
+use Prim.Native.Nat.{ℕ}
 use lib.ListN.{length}
 use Rattle.plank_core.specs.Lists.{bind, upto}
 use Rattle.plank_core.specs.inner.DenseIndexSet.{members, row_of}

@@ -1,7 +1,7 @@
 -- `put_owners` meets its contract. The invariant: the answers from id v on are to be put.
 use mathlib.Core.Path.{sym, ap, ◌∙◌}
 use mathlib.Core.List.{[], ◌∷◌}
-use Prim.Native.Nat.{ℕ, ◌-◌}
+use Prim.Native.Nat.{ℕ}
 use lib.ListN.{length}
 use Rattle.plank_core.specs.Lists.{bind, upto}
 use Rattle.sir_analyses.specs.Answers.{owner_answer}

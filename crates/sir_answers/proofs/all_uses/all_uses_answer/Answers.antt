@@ -13,4 +13,4 @@ pub fill_uses-requires : goal.fill_uses-requires
 fill_uses-requires c =
     let n = c.local_count-n.result in
     let h : n ≤ 512 = omega (arith, c.requires.well_formed.sized.locals_most) in
-    record { visit_stage = c.requires; cursors_len = (zero_long n 512 h ∙ c.local_count-n.ensures, λ v. zero_prefix n 512 v); }
+    record { visit_stage = c.requires; cursors_len = (zero_long n 512 h ∙ c.local_count-n.ensures, λ v. zero_prefix n 512 v) }

@@ -1,7 +1,7 @@
 -- `count_inputs` meets its contract. The invariant: the inputs of the operations left are to be counted.
 use mathlib.Core.Path.{sym, ap}
 use mathlib.Core.List.{List}
-use Prim.Native.Nat.{ℕ, ◌+◌, ◌-◌, ◌*◌, ◌<◌}
+use Prim.Native.Nat.{ℕ, ◌+◌, ◌*◌, ◌<◌}
 use native.Mathlib.Omega.{arith}
 use lib.ListN.{get_or}
 use Rattle.plank_core.specs.Lists.{bind, range}
@@ -19,7 +19,7 @@ loop-o-init c =
 
 pub op_inputs-requires : goal.op_inputs-requires
 op_inputs-requires c =
-    record { sized = c.requires.well_formed.sized; in_range = c.requires.well_formed.in_range; o_bound = omega (arith, c.operation_count-last.ensures, c.loop-o-test.true); }
+    record { sized = c.requires.well_formed.sized; in_range = c.requires.well_formed.in_range; o_bound = omega (arith, c.operation_count-last.ensures, c.loop-o-test.true) }
 
 pub bounds-times-o : goal.bounds-times-o
 bounds-times-o c =
@@ -38,7 +38,7 @@ advance_each-requires c =
     let n = 3 * get_or c.args.times.now o 0 in
     let last = c.operation_count-last.result in
     let g : ℕ → Pieces = λ o. pieces_at (λ k. blanks (3 * get_or c.args.times.now o 0)) (ins w o) 0 in
-    let h : o < operations w = omega (arith, c.operation_count-last.ensures, c.loop-o-test.true) in record { known = λ v m. omega (arith, c.requires.operation_times.1, c.loop-o.invariant.1.wide, c.requires.well_formed.in_range.read o v h (rw is at m)); fits = fits_as (ap (λ (l : List ℕ). pieces_at (λ k. blanks n) l 0) (sym is)) (scattering_fits (g o) (bind (range (o + 1) last) g) (scattering_as (bind_step g o last c.loop-o-test.true) c.loop-o.invariant.1)); }
+    let h : o < operations w = omega (arith, c.operation_count-last.ensures, c.loop-o-test.true) in record { known = λ v m. omega (arith, c.requires.operation_times.1, c.loop-o.invariant.1.wide, c.requires.well_formed.in_range.read o v h (rw is at m)); fits = fits_as (ap (λ (l : List ℕ). pieces_at (λ k. blanks n) l 0) (sym is)) (scattering_fits (g o) (bind (range (o + 1) last) g) (scattering_as (bind_step g o last c.loop-o-test.true) c.loop-o.invariant.1)) }
 
 pub loop-o-preserved : goal.loop-o-preserved
 loop-o-preserved c =

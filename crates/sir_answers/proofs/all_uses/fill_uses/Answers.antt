@@ -26,7 +26,7 @@ slice_bounds-write_uses-end-2 c =
 
 pub write_uses-requires : goal.write_uses-requires
 write_uses-requires c =
-    record { visit_stage = c.requires.visit_stage; counts = c.count_uses.ensures; out_len = lent_words c.count_uses.ensures c.args.out.now c.total_words.ensures c.finish-answer.ensures c.if-answer-ne0.false; }
+    record { visit_stage = c.requires.visit_stage; counts = c.count_uses.ensures; out_len = lent_words c.count_uses.ensures c.args.out.now c.total_words.ensures c.finish-answer.ensures c.if-answer-ne0.false }
 
 pub returns : goal.returns
 returns c =

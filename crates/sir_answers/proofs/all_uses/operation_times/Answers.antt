@@ -1,7 +1,7 @@
 -- `operation_times` meets its contract. The invariant: the operations of the blocks left are to be counted.
 use mathlib.Core.Path.{sym, ap, ◌∙◌}
 use mathlib.Core.List.{List}
-use Prim.Native.Nat.{ℕ, ◌+◌, ◌-◌}
+use Prim.Native.Nat.{ℕ, ◌+◌}
 use native.Mathlib.Omega.{arith}
 use lib.ListN.{get_or, drop}
 use Rattle.plank_core.specs.Lists.{bind}
@@ -31,7 +31,7 @@ count_operations-requires c =
     let i = c.loop-i.i in
     let b = get_or order i 0 in
     let h = c.loop-i-test.true in
-    record { well_formed = good; b_bound = (rpo_below w good (c.rpo-order.ensures ∙ c.requires.visit_stage.rpo_is) b (get_or_mem order i 0 h), c.loop-i.invariant.1.wide ∙ c.requires.times_len.0); fits = scattering_fits (one_pieces w b) (bind (drop (i + 1) order) (one_pieces w)) (scattering_as (bind_drop_step (one_pieces w) order i h) c.loop-i.invariant.1); }
+    record { well_formed = good; b_bound = (rpo_below w good (c.rpo-order.ensures ∙ c.requires.visit_stage.rpo_is) b (get_or_mem order i 0 h), c.loop-i.invariant.1.wide ∙ c.requires.times_len.0); fits = scattering_fits (one_pieces w b) (bind (drop (i + 1) order) (one_pieces w)) (scattering_as (bind_drop_step (one_pieces w) order i h) c.loop-i.invariant.1) }
 
 pub loop-i-preserved : goal.loop-i-preserved
 loop-i-preserved c =

@@ -1,10 +1,9 @@
 -- `scan_condition` meets its contract.
-use mathlib.Core.Path.{◌≡◌, refl, sym, ap, ◌∙◌}
+use mathlib.Core.Path.{◌≡◌, refl, sym, ap}
 use mathlib.Core.List.Memᴰ
 use mathlib.Core.List.{List, ◌∷◌, []}
 use Prim.Native.Nat.{ℕ}
 use native.Mathlib.Omega.{arith}
-use Rattle.sir_data.specs.inner.Cases.{tested_locals}
 use Rattle.sir_data.specs.Records.{condition}
 use Rattle.sir_answers.specs.inner.Pieces.{pieces_at}
 use Rattle.sir_answers.proofs.scatter.Scattering.{scatters_nothing, scatters_as, fits_as}

@@ -1,7 +1,7 @@
 -- `scan_operations` meets its contract. The invariant: the pieces of the operations left are to be put.
 use mathlib.Core.Path.{sym, ap}
 use mathlib.Core.List.{List, ◌∷◌, []}
-use Prim.Native.Nat.{ℕ, ◌+◌, ◌-◌, ◌<◌}
+use Prim.Native.Nat.{ℕ, ◌+◌, ◌<◌}
 use native.Mathlib.Omega.{arith}
 use Rattle.plank_core.specs.Lists.{bind, range}
 use Rattle.plank_core.specs.laws.Loops.{bind_step, bind_end}
@@ -19,7 +19,7 @@ pub op_inputs-requires : goal.op_inputs-requires
 op_inputs-requires c =
     let span = c.operations-span in
     let r = c.requires.well_formed.in_range.ops_range c.args.b.0 c.requires.b_bound.0 in
-    record { sized = c.requires.well_formed.sized; in_range = c.requires.well_formed.in_range; o_bound = omega (arith, r.1, span.ensures.1, c.loop-o-test.true); }
+    record { sized = c.requires.well_formed.sized; in_range = c.requires.well_formed.in_range; o_bound = omega (arith, r.1, span.ensures.1, c.loop-o-test.true) }
 
 pub append_each-requires : goal.append_each-requires
 append_each-requires c =
@@ -30,7 +30,7 @@ append_each-requires c =
     let o = c.loop-o.o in
     let g : ℕ → Pieces = λ o. pieces_at (λ k. b ∷ 0 ∷ o ∷ []) (ins w o) 0 in
     let r = c.requires.well_formed.in_range.ops_range b c.requires.b_bound.0 in
-    let h : o < operations w = omega (arith, r.1, span.ensures.1, c.loop-o-test.true) in record { known = λ v m. omega (arith, c.requires.b_bound.1, c.loop-o.invariant.wide, c.requires.well_formed.in_range.read o v h (rw is at m)); fits = fits_as (ap (λ (l : List ℕ). pieces_at (λ k. b ∷ 0 ∷ o ∷ []) l 0) (sym is)) (scattering_fits (g o) (bind (range (o + 1) span.result.end) g) (scattering_as (bind_step g o span.result.end c.loop-o-test.true) c.loop-o.invariant)); }
+    let h : o < operations w = omega (arith, r.1, span.ensures.1, c.loop-o-test.true) in record { known = λ v m. omega (arith, c.requires.b_bound.1, c.loop-o.invariant.wide, c.requires.well_formed.in_range.read o v h (rw is at m)); fits = fits_as (ap (λ (l : List ℕ). pieces_at (λ k. b ∷ 0 ∷ o ∷ []) l 0) (sym is)) (scattering_fits (g o) (bind (range (o + 1) span.result.end) g) (scattering_as (bind_step g o span.result.end c.loop-o-test.true) c.loop-o.invariant)) }
 
 pub loop-o-preserved : goal.loop-o-preserved
 loop-o-preserved c =

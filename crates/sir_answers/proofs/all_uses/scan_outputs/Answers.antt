@@ -1,7 +1,7 @@
 -- `scan_outputs` meets its contract. The invariant: the pieces of the outputs left are to be put.
 use mathlib.Core.Path.{refl, sym, ap, subst}
 use mathlib.Core.List.{List, ◌∷◌, []}
-use Prim.Native.Nat.{ℕ, ◌-◌, ◌<◌}
+use Prim.Native.Nat.{ℕ, ◌<◌}
 use native.Mathlib.Omega.{arith}
 use lib.ListN.{length, get_or}
 use Rattle.plank_core.specs.Lists.{◌∈◌}

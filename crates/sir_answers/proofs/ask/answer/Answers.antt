@@ -7,7 +7,7 @@ use Rattle.sir_answers.proofs.ask.answer.Goals as goal
 
 pub own_refusal-number-requires : goal.own_refusal-number-requires
 own_refusal-number-requires c =
-    let r = c.requires.2 in record { well_formed = r.well_formed; sites_value = (r.sites_are, r.sites_few); }
+    let r = c.requires.2 in record { well_formed = r.well_formed; sites_value = (r.sites_are, r.sites_few) }
 
 pub returns-then-number-ne0 : goal.returns-then-number-ne0
 returns-then-number-ne0 c =
@@ -16,15 +16,15 @@ returns-then-number-ne0 c =
 
 pub order_answer-requires : goal.order_answer-requires
 order_answer-requires c =
-    record { order_stage = c.requires.0; visit_stage = c.requires.1; }
+    record { order_stage = c.requires.0; visit_stage = c.requires.1 }
 
 pub live_answer-requires : goal.live_answer-requires
 live_answer-requires c =
-    record { visit_stage = c.requires.1; words_value = own_as (λ q. q) c.args.words.now c.in-OfLiveness.is (sym c.own_refusal-number.ensures ∙ c.if-number-ne0.false); }
+    record { visit_stage = c.requires.1; words_value = own_as (λ q. q) c.args.words.now c.in-OfLiveness.is (sym c.own_refusal-number.ensures ∙ c.if-number-ne0.false) }
 
 pub pointer_answer-requires : goal.pointer_answer-requires
 pointer_answer-requires c =
-    record { visit_stage = c.requires.1; accepted_stage = (c.requires.2, own_as (λ q. q) c.args.words.now c.in-OfPointers.is (sym c.own_refusal-number.ensures ∙ c.if-number-ne0.false)); }
+    record { visit_stage = c.requires.1; accepted_stage = (c.requires.2, own_as (λ q. q) c.args.words.now c.in-OfPointers.is (sym c.own_refusal-number.ensures ∙ c.if-number-ne0.false)) }
 
 pub returns-in-OfOrder : goal.returns-in-OfOrder
 returns-in-OfOrder c =

@@ -13,7 +13,7 @@ pub returns-then-number-ne0 : goal.returns-then-number-ne0
 returns-then-number-ne0 c =
     let a = c.args in
     let image = a.image.now in
-    record { out_after = image_refused (own_rules a.question) (answer_bytes a.question) image a.out.now (λ z. c.if-number-ne0.true (c.load-sizes.ensures.number_is ∙ z)) (c.refuse.ensures.0 ∙ c.load-sizes.ensures.number_is) c.refuse.ensures.1; promise = promise image; }
+    record { out_after = image_refused (own_rules a.question) (answer_bytes a.question) image a.out.now (λ z. c.if-number-ne0.true (c.load-sizes.ensures.number_is ∙ z)) (c.refuse.ensures.0 ∙ c.load-sizes.ensures.number_is) c.refuse.ensures.1; promise = promise image }
 
 pub slice_bounds-words-end : goal.slice_bounds-words-end
 slice_bounds-words-end c =
@@ -57,4 +57,4 @@ returns c =
     let z : refusal image ≡ 0 = sym c.load-sizes.ensures.number_is ∙ c.if-number-ne0.false in
     let own = own_rules a.question in
     let bytes = answer_bytes a.question in
-    record { out_after = c.answer.ensures ∙ ap (λ (w : List ℕ). call (own w) (bytes w) a.out.now) (c.load-sizes.ensures.prepared z).words_are ∙ image_accepted own bytes image a.out.now z; promise = promise image; }
+    record { out_after = c.answer.ensures ∙ ap (λ (w : List ℕ). call (own w) (bytes w) a.out.now) (c.load-sizes.ensures.prepared z).words_are ∙ image_accepted own bytes image a.out.now z; promise = promise image }

@@ -34,7 +34,7 @@ put_chart-requires c =
     let bytes : 73 * c.on_sheets-bytes.result ≡ 73 * on_sheets (lines_of w (blocks_rpo w)) = ap (λ (n : ℕ). 73 * n) (c.on_sheets-bytes.ensures ∙ ap on_sheets c.series_lines.ensures.0) in
     let count : c.series_count.result ≡ series_count w = c.series_count.ensures ∙ series_is c.requires.accepted_stage in
     let n : 73 * c.on_sheets-bytes.result * c.series_count.result ≡ length (chart_text w) = ap₂ (λ (x y : ℕ). x * y) bytes count ∙ sym (chart_length c.requires.accepted_stage) in
-    record { visit_stage = c.requires.visit_stage; liveness_stage = c.compute_liveness.ensures.1; pointer_stage = c.compute_pointers.ensures; bytes_value = (bytes, length-take-le _ c.args.out.now c.if-out-n.false ∙ ap (λ (k : ℕ). 73 * c.on_sheets-bytes.result * k) count); }
+    record { visit_stage = c.requires.visit_stage; liveness_stage = c.compute_liveness.ensures.1; pointer_stage = c.compute_pointers.ensures; bytes_value = (bytes, length-take-le _ c.args.out.now c.if-out-n.false ∙ ap (λ (k : ℕ). 73 * c.on_sheets-bytes.result * k) count) }
 
 pub returns : goal.returns
 returns c =

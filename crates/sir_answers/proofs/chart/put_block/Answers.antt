@@ -43,12 +43,12 @@ slice_bounds-closed_columns-end c = refl
 
 pub closed_columns-requires : goal.closed_columns-requires
 closed_columns-requires c =
-    record { by_index = (c.args.words.now, c.requires.pointer_stage); series_bound = (c.requires.series_bound.0, refl); }
+    record { by_index = (c.args.words.now, c.requires.pointer_stage); series_bound = (c.requires.series_bound.0, refl) }
 
 pub block_operations-span-requires : goal.block_operations-span-requires
 block_operations-span-requires c =
     let good = c.requires.liveness_stage.well_formed in
-    record { sized = good.sized; b_bound = blocks_below c.args.words.now good c.args.b.0 c.requires.fact.0; }
+    record { sized = good.sized; b_bound = blocks_below c.args.words.now good c.args.b.0 c.requires.fact.0 }
 
 pub loop-o-init : goal.loop-o-init
 loop-o-init c =
@@ -97,7 +97,7 @@ slice_bounds-update_columns-end c =
 pub update_columns-shown-requires : goal.update_columns-shown-requires
 update_columns-shown-requires c =
     let x = c.requires.series_bound in
-    record { by_index = (c.args.words.now, c.requires.pointer_stage); series_bound = (x.0, c.loop-o.invariant.6); by_index_2 = met_owned x.1 c.live_around.new.set c.of_series.result.words c.of_series.ensures; }
+    record { by_index = (c.args.words.now, c.requires.pointer_stage); series_bound = (x.0, c.loop-o.invariant.6); by_index_2 = met_owned x.1 c.live_around.new.set c.of_series.result.words c.of_series.ensures }
 
 pub slice_bounds-put_op_line-end : goal.slice_bounds-put_op_line-end
 slice_bounds-put_op_line-end c =
@@ -108,7 +108,7 @@ put_op_line-requires c =
     let good = c.requires.liveness_stage.well_formed in
     let below = blocks_below c.args.words.now good c.args.b.0 c.requires.fact.0 in
     let l = c.loop-o in
-    record { well_formed = good; o_bound = (omega (arith, c.loop-o-test.true, l.invariant.1, c.block_operations-span.ensures, good.in_range.ops_range c.args.b.0 below), c.update_columns-shown.ensures.columns.long, omega (arith, l.invariant.3, l.invariant.4, l.invariant.5)); }
+    record { well_formed = good; o_bound = (omega (arith, c.loop-o-test.true, l.invariant.1, c.block_operations-span.ensures, good.in_range.ops_range c.args.b.0 below), c.update_columns-shown.ensures.columns.long, omega (arith, l.invariant.3, l.invariant.4, l.invariant.5)) }
 
 pub slice_bounds-live_before-end : goal.slice_bounds-live_before-end
 slice_bounds-live_before-end c =

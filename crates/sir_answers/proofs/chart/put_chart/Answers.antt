@@ -62,7 +62,7 @@ put_series-requires c =
     let more : l.series < series_count w = omega (arith, count, c.loop-series-test.true) in
     let room : c.args.bytes * suc l.series ≤ c.args.bytes * series_count w = mul-le-mul_left c.args.bytes more in
     let next = mul-suc c.args.bytes l.series in
-    record { visit_stage = c.requires.visit_stage; liveness_stage = c.requires.liveness_stage; pointer_stage = c.requires.pointer_stage; series_bound = (omega (arith, more, series_most (length (allocs w)) (allocations_few c.requires.pointer_stage)), omega (arith, room, next, l.invariant.1, l.invariant.2, c.requires.bytes_value.1, c.requires.bytes_value.0)); }
+    record { visit_stage = c.requires.visit_stage; liveness_stage = c.requires.liveness_stage; pointer_stage = c.requires.pointer_stage; series_bound = (omega (arith, more, series_most (length (allocs w)) (allocations_few c.requires.pointer_stage)), omega (arith, room, next, l.invariant.1, l.invariant.2, c.requires.bytes_value.1, c.requires.bytes_value.0)) }
 
 pub overflow_add-series : goal.overflow_add-series
 overflow_add-series c =

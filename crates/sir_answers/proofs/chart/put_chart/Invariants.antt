@@ -1,7 +1,7 @@
 -- `put_chart` meets its contract. The invariant: the series before this one stand before `at`, and the rest is as it was.
 use mathlib.Core.List.{◌++◌}
 use mathlib.Core.Path.{◌≡◌}
-use Prim.Native.Nat.{◌+◌, ◌-◌, ◌*◌, ◌≤◌}
+use Prim.Native.Nat.{◌-◌, ◌*◌, ◌≤◌}
 use lib.ListN.{length, drop}
 use Rattle.sir_answers.proofs.chart.ChartTexts.{series_to}
 use Rattle.sir_answers.proofs.chart.put_chart.Given as goal

@@ -21,7 +21,7 @@ slice_bounds-other_locals-end c = refl
 
 pub other_locals-requires : goal.other_locals-requires
 other_locals-requires c =
-    record { by_index = (c.args.words.now, c.requires.pointer_stage); series_bound = (c.requires.series_bound.0, refl); }
+    record { by_index = (c.args.words.now, c.requires.pointer_stage); series_bound = (c.requires.series_bound.0, refl) }
 
 pub rpo-order-requires : goal.rpo-order-requires
 rpo-order-requires c =
@@ -44,7 +44,7 @@ block_lines-requires c =
     let same : order ≡ blocks_rpo c.args.words.now = c.rpo-order.ensures ∙ c.requires.visit_stage.rpo_is in
     let member = subst (λ (bs : List ℕ). get_or order i 0 ∈ bs) same (get_or_mem order i 0 c.loop-i-test.true) in
     let good = c.requires.visit_stage.well_formed in
-    record { well_formed = good; b_bound = blocks_below c.args.words.now good (get_or order i 0) member; }
+    record { well_formed = good; b_bound = blocks_below c.args.words.now good (get_or order i 0) member }
 
 pub overflow_mul-end : goal.overflow_mul-end
 overflow_mul-end c = omega (arith, c.block_lines.ensures.1)
@@ -81,7 +81,7 @@ put_block-requires c =
     let same : order ≡ blocks_rpo w = c.rpo-order.ensures ∙ c.requires.visit_stage.rpo_is in
     let room : 73 * lines_of w (take (l.i + 1) order) ≤ length c.args.out.now = omega (arith, lines_within w order (l.i + 1), ap (lines_of w) same, sheets_hold (lines_of w (blocks_rpo w)), c.requires.series_bound.1) in
     let member = subst (λ (bs : List ℕ). get_or order l.i 0 ∈ bs) same (get_or_mem order l.i 0 h) in
-    record { liveness_stage = c.requires.liveness_stage; pointer_stage = c.requires.pointer_stage; series_bound = (c.requires.series_bound.0, c.other_locals.ensures); fact = (member, omega (arith, room, l.invariant.1, l.invariant.2, lines_next w order l.i h, c.block_lines.ensures.0)); }
+    record { liveness_stage = c.requires.liveness_stage; pointer_stage = c.requires.pointer_stage; series_bound = (c.requires.series_bound.0, c.other_locals.ensures); fact = (member, omega (arith, room, l.invariant.1, l.invariant.2, lines_next w order l.i h, c.block_lines.ensures.0)) }
 
 pub overflow_add-i : goal.overflow_add-i
 overflow_add-i c =

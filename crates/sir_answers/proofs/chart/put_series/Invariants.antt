@@ -1,7 +1,7 @@
 -- `put_series` meets its contract. The invariant: the blocks before i stand before `at`, and the rest is as it was.
 use mathlib.Core.List.{◌++◌}
 use mathlib.Core.Path.{◌≡◌}
-use Prim.Native.Nat.{◌+◌, ◌-◌, ◌*◌, ◌≤◌}
+use Prim.Native.Nat.{◌-◌, ◌*◌, ◌≤◌}
 use lib.ListN.{length, take, drop}
 use Rattle.plank_core.specs.Lists.{bind}
 use Rattle.sir_analyses.specs.Chart.{block_lines, text_of, lines_of}

@@ -1,7 +1,7 @@
 -- `series_lines` meets its contract. The invariant: the lines of the blocks before i are counted.
 use mathlib.Core.List.{List}
 use mathlib.Core.Path.{subst, ◌≡◌, refl, ap, ◌∙◌}
-use Prim.Native.Nat.{ℕ, ◌-◌}
+use Prim.Native.Nat.{ℕ}
 use native.Mathlib.Omega.{arith}
 use lib.ListN.{get_or, take}
 use lib.Seq.{take_all}
@@ -28,7 +28,7 @@ block_lines-n-requires c =
     let order = c.rpo-order.result.now in
     let i = c.loop-i.i in
     let m = get_or_mem order i 0 c.loop-i-test.true in
-    record { well_formed = stage.well_formed; b_bound = blocks_below c.args.words.now stage.well_formed (get_or order i 0) (subst (λ (bs : List ℕ). get_or order i 0 ∈ bs) (c.rpo-order.ensures ∙ stage.rpo_is) m); }
+    record { well_formed = stage.well_formed; b_bound = blocks_below c.args.words.now stage.well_formed (get_or order i 0) (subst (λ (bs : List ℕ). get_or order i 0 ∈ bs) (c.rpo-order.ensures ∙ stage.rpo_is) m) }
 
 pub overflow_add-n : goal.overflow_add-n
 overflow_add-n c =

@@ -1,6 +1,5 @@
 -- `closed_columns` meets its contract. The invariant: the columns before k are filled.
 use mathlib.Core.Path.{sym, ◌∙◌}
-use Prim.Native.Nat.{◌-◌}
 use native.Mathlib.Omega.{arith}
 use lib.ListN.{length-set}
 use Rattle.sir_answers.proofs.chart_columns.ColumnLaws.{closed_next, columns_closed}

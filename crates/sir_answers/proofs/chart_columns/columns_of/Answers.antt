@@ -19,7 +19,7 @@ pub open_columns-requires : goal.open_columns-requires
 open_columns-requires c =
     let set = c.args.set.now in
     let front = front_members set (replicate 512 0) c.list-n.ensures.0 c.list-n.ensures.1 in
-    record { by_index = c.requires.by_index; by_index_2 = λ v m. let i = member_is set v (rw front at m) in (i.0, c.requires.by_index_2 v i.0 i.1); series_bound = (c.requires.series_bound.0, omega (arith, c.closed_columns.auto, c.requires.series_bound.2)); }
+    record { by_index = c.requires.by_index; by_index_2 = λ v m. let i = member_is set v (rw front at m) in (i.0, c.requires.by_index_2 v i.0 i.1); series_bound = (c.requires.series_bound.0, omega (arith, c.closed_columns.auto, c.requires.series_bound.2)) }
 
 pub returns : goal.returns
 returns c =

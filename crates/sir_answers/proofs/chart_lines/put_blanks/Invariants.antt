@@ -1,7 +1,7 @@
 -- `put_blanks` meets its contract. The invariant: blank lines stand before `at`, and the rest is as it was.
 use mathlib.Core.List.{◌++◌}
 use mathlib.Core.Path.{◌≡◌}
-use Prim.Native.Nat.{◌+◌, ◌-◌, ◌*◌, ◌/◌, ◌≤◌}
+use Prim.Native.Nat.{◌-◌, ◌*◌, ◌/◌, ◌≤◌}
 use lib.ListN.{length, drop, replicate}
 use Rattle.sir_analyses.specs.Chart.{blank_line, text_of}
 use Rattle.sir_answers.proofs.chart_lines.put_blanks.Given as goal

@@ -1,6 +1,6 @@
 -- `put_spaces` meets its contract. The invariant: k spaces are put.
 use mathlib.Core.Path.{◌≡◌}
-use Prim.Native.Nat.{ℕ, ◌-◌}
+use Prim.Native.Nat.{ℕ}
 use native.Mathlib.Omega.{arith}
 use lib.ListN.{length-replicate}
 use Rattle.plank_core.specs.laws.Putting.{put_as, put_nothing, put_then}

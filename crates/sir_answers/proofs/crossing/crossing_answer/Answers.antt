@@ -34,7 +34,7 @@ returns-then-is_marked c =
     let known = c.requires.one_in_bounds in
     let either : (marked w a || marked w d) ≡ true =
     elim c.then-is_marked.branch [
-      then-is_marked-via-then-is_marked x ↦ or_true_left (marked w a) (marked w d) (mark_told found known.0 c.is_marked.ensures x.if-is_marked.true)
+      | then-is_marked-via-then-is_marked x ↦ or_true_left (marked w a) (marked w d) (mark_told found known.0 c.is_marked.ensures x.if-is_marked.true)
       | then-is_marked-via-else-is_marked+then-is_marked-2 x ↦ or_true_right (marked w a) (marked w d) (mark_told found known.1 x.is_marked-else-is_marked.ensures x.if-is_marked-2.true)
     ] in
     c.words_answer.ensures ∙ ap (λ (l : List ℕ). answered (bind l bytes_of) c.args.out.now) (crossing_marked w a d either)
@@ -43,7 +43,7 @@ pub unmarked_crossing-told-requires : goal.unmarked_crossing-told-requires
 unmarked_crossing-told-requires c =
     let found = c.requires.pointer_stage.discovered in
     let known = c.requires.one_in_bounds in
-    record { visit_stage = c.requires.visit_stage; pointer_stage = c.requires.pointer_stage; one_in_bounds = known; one_value = (mark_told found known.0 c.is_marked.ensures c.if-is_marked.false, mark_told found known.1 c.is_marked-else-is_marked.ensures c.if-is_marked-2.false); }
+    record { visit_stage = c.requires.visit_stage; pointer_stage = c.requires.pointer_stage; one_in_bounds = known; one_value = (mark_told found known.0 c.is_marked.ensures c.if-is_marked.false, mark_told found known.1 c.is_marked-else-is_marked.ensures c.if-is_marked-2.false) }
 
 pub returns : goal.returns
 returns c =

@@ -1,6 +1,6 @@
 -- `crossing_of_reaches` meets its contract. The invariant: the blocks from b on decide.
 use mathlib.Core.Path.{◌≡◌, sym, ◌∙◌}
-use Prim.Native.Nat.{◌-◌, ◌<◌}
+use Prim.Native.Nat.{◌<◌}
 use native.Mathlib.Omega.{arith}
 use Rattle.sir_data.specs.Records.{blocks, ops}
 use Rattle.sir_analyses.specs.Order.{is_visited}
@@ -26,7 +26,7 @@ pub first_common-found-requires : goal.first_common-found-requires
 first_common-found-requires c =
     let b = c.loop-b.b in
     let h : b < blocks c.args.words.now = omega (arith, c.loop-b-test.true, c.block_count-count.ensures) in
-    record { liveness_stage = c.requires.liveness_stage; b_bound = (h, sym (c.is_visited.ensures ∙ c.requires.visit_stage.visited_is b h) ∙ c.if-is_visited.true, c.requires.one_len.0, c.requires.one_len.1); }
+    record { liveness_stage = c.requires.liveness_stage; b_bound = (h, sym (c.is_visited.ensures ∙ c.requires.visit_stage.visited_is b h) ∙ c.if-is_visited.true, c.requires.one_len.0, c.requires.one_len.1) }
 
 pub overflow_add-result : goal.overflow_add-result
 overflow_add-result c =
@@ -57,7 +57,7 @@ loop-b-preserved c =
     c.loop-b.invariant a d x y
     ∙ crossing_on w a d b h
     (elim c.if-is_visited.branch [
-      then-is_visited+else-found-ne0 p ↦ none_passes (is_common (merged w a) (merged w d)) b (ops w b) (sym (p.first_common-found.ensures a d x y) ∙ p.if-found-ne0.false)
+      | then-is_visited+else-found-ne0 p ↦ none_passes (is_common (merged w a) (merged w d)) b (ops w b) (sym (p.first_common-found.ensures a d x y) ∙ p.if-found-ne0.false)
       | else-is_visited p ↦ unvisited_apart w a d b h x.unmarked (sym seen ∙ p.if-is_visited.false)
     ])
 

@@ -20,7 +20,7 @@ live_after-requires c =
 
 pub block_operations-span-requires : goal.block_operations-span-requires
 block_operations-span-requires c =
-    record { sized = c.requires.liveness_stage.well_formed.sized; b_bound = c.requires.b_bound.0; }
+    record { sized = c.requires.liveness_stage.well_formed.sized; b_bound = c.requires.b_bound.0 }
 
 pub loop-o-init : goal.loop-o-init
 loop-o-init c =

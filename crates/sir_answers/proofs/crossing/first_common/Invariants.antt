@@ -1,6 +1,6 @@
 -- `first_common` meets its contract. The invariant: whatever block the scan started in, the operations from o on are passed.
 use mathlib.Core.Path.{◌≡◌}
-use Prim.Native.Nat.{ℕ, ◌-◌, ◌≤◌}
+use Prim.Native.Nat.{ℕ, ◌≤◌}
 use lib.ListN.{length}
 use Rattle.plank_core.specs.Lists.{range}
 use Rattle.sir_answers.proofs.LiveSets.{ScanStart}

@@ -9,13 +9,13 @@ pub owned_locals-requires : goal.owned_locals-requires
 owned_locals-requires c =
     let pointers = c.requires.pointer_stage in
     let known = c.requires.one_in_bounds in
-    record { well_formed = c.requires.visit_stage.well_formed; pointers_len = (pointers.long, omega (arith, known.0, allocations_few pointers), refl); }
+    record { well_formed = c.requires.visit_stage.well_formed; pointers_len = (pointers.long, omega (arith, known.0, allocations_few pointers), refl) }
 
 pub owned_locals-requires-2 : goal.owned_locals-requires-2
 owned_locals-requires-2 c =
     let pointers = c.requires.pointer_stage in
     let known = c.requires.one_in_bounds in
-    record { well_formed = c.requires.visit_stage.well_formed; pointers_len = (pointers.long, omega (arith, known.1, allocations_few pointers), refl); }
+    record { well_formed = c.requires.visit_stage.well_formed; pointers_len = (pointers.long, omega (arith, known.1, allocations_few pointers), refl) }
 
 pub returns : goal.returns
 returns c =

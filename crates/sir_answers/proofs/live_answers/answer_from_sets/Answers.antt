@@ -14,7 +14,7 @@ use Rattle.sir_answers.proofs.live_answers.answer_from_sets.Goals as goal
 
 pub entry_answer-requires : goal.entry_answer-requires
 entry_answer-requires c =
-    record { visit_stage = c.requires.visit_stage; liveness_stage = (c.requires.liveness_stage.0, known_below blocks _ c.args.words.now (own_as Question.OfLiveness c.args.words.now c.in-EntrySet.is c.requires.words_value)); }
+    record { visit_stage = c.requires.visit_stage; liveness_stage = (c.requires.liveness_stage.0, known_below blocks _ c.args.words.now (own_as Question.OfLiveness c.args.words.now c.in-EntrySet.is c.requires.words_value)) }
 
 pub exits-requires : goal.exits-requires
 exits-requires c =
@@ -30,11 +30,11 @@ set_answer-requires c =
 
 pub intervals_answer-requires : goal.intervals_answer-requires
 intervals_answer-requires c =
-    record { visit_stage = c.requires.visit_stage; liveness_stage = (c.requires.liveness_stage.0, known_below locals _ c.args.words.now (own_as Question.OfLiveness c.args.words.now c.in-Intervals.is c.requires.words_value)); }
+    record { visit_stage = c.requires.visit_stage; liveness_stage = (c.requires.liveness_stage.0, known_below locals _ c.args.words.now (own_as Question.OfLiveness c.args.words.now c.in-Intervals.is c.requires.words_value)) }
 
 pub all_entry_sets_answer-requires : goal.all_entry_sets_answer-requires
 all_entry_sets_answer-requires c =
-    record { visit_stage = c.requires.visit_stage; liveness_stage = c.requires.liveness_stage.0; }
+    record { visit_stage = c.requires.visit_stage; liveness_stage = c.requires.liveness_stage.0 }
 
 pub all_exit_sets_answer-requires : goal.all_exit_sets_answer-requires
 all_exit_sets_answer-requires c =
@@ -42,7 +42,7 @@ all_exit_sets_answer-requires c =
 
 pub all_intervals_answer-requires : goal.all_intervals_answer-requires
 all_intervals_answer-requires c =
-    record { visit_stage = c.requires.visit_stage; liveness_stage = c.requires.liveness_stage.0; }
+    record { visit_stage = c.requires.visit_stage; liveness_stage = c.requires.liveness_stage.0 }
 
 pub returns-in-EntrySet : goal.returns-in-EntrySet
 returns-in-EntrySet c =

@@ -7,7 +7,7 @@ use native.Mathlib.Omega.{arith}
 use Rattle.sir_answers.proofs.live_answers.intervals_answer.Goals as goal
 
 pub compute_intervals-n-requires : goal.compute_intervals-n-requires
-compute_intervals-n-requires c = record { visit_stage = c.requires.visit_stage; liveness_stage = c.requires.liveness_stage.0; v_bound = c.requires.liveness_stage.1; }
+compute_intervals-n-requires c = record { visit_stage = c.requires.visit_stage; liveness_stage = c.requires.liveness_stage.0; v_bound = c.requires.liveness_stage.1 }
 
 pub finish-answer-requires : goal.finish-answer-requires
 finish-answer-requires c = omega (arith, c.compute_intervals-n.ensures.0)
@@ -19,7 +19,7 @@ pub slice_bounds-compute_intervals-end-3 : goal.slice_bounds-compute_intervals-e
 slice_bounds-compute_intervals-end-3 c = sym (length-take-le _ _ (finish_fits c.finish-answer.ensures))
 
 pub compute_intervals-requires : goal.compute_intervals-requires
-compute_intervals-requires c = record { visit_stage = c.requires.visit_stage; liveness_stage = c.requires.liveness_stage.0; v_bound = c.requires.liveness_stage.1; }
+compute_intervals-requires c = record { visit_stage = c.requires.visit_stage; liveness_stage = c.requires.liveness_stage.0; v_bound = c.requires.liveness_stage.1 }
 
 pub returns : goal.returns
 returns c =

@@ -1,6 +1,5 @@
 -- `add_owners` meets its contract. The invariant: the owners of the locals before i are in the set.
 use mathlib.Core.Path.{refl, sym, ◌∙◌}
-use Prim.Native.Nat.{◌-◌}
 use native.Mathlib.Omega.{arith}
 use lib.ListN.{get_or}
 use Rattle.plank_core.specs.laws.Lists.{get_or_mem}

@@ -24,4 +24,4 @@ pub open_in_visited-requires : goal.open_in_visited-requires
 open_in_visited-requires c =
     let b = c.args.b.0 in
     let seen = sym (c.requires.visit_stage.visited_is b c.requires.b_bound.0) ∙ sym c.is_visited.ensures ∙ c.if-not-is_visited.false in
-    record { liveness_stage = c.compute_liveness.ensures.1; pointer_stage = c.requires.pointer_stage; b_bound = (c.requires.b_bound.0, c.requires.b_bound.1, seen); }
+    record { liveness_stage = c.compute_liveness.ensures.1; pointer_stage = c.requires.pointer_stage; b_bound = (c.requires.b_bound.0, c.requires.b_bound.1, seen) }

@@ -24,7 +24,7 @@ pub add_owners-requires : goal.add_owners-requires
 add_owners-requires c =
     let set = c.args.set.now in
     let front = front_members set c.args.ids.now c.list-n.ensures.0 c.list-n.ensures.1 in
-    record { by_index = c.requires.by_index; by_index_2 = λ v m. (member_is set v (rw front at m)).0; owners_len = refl; }
+    record { by_index = c.requires.by_index; by_index_2 = λ v m. (member_is set v (rw front at m)).0; owners_len = refl }
 
 pub list-requires : goal.list-requires
 list-requires c =

@@ -16,7 +16,7 @@ live_after-requires c =
 
 pub block_operations-span-requires : goal.block_operations-span-requires
 block_operations-span-requires c =
-    record { sized = c.requires.liveness_stage.well_formed.sized; b_bound = c.requires.b_bound.0; }
+    record { sized = c.requires.liveness_stage.well_formed.sized; b_bound = c.requires.b_bound.0 }
 
 pub overflow_add-last : goal.overflow_add-last
 overflow_add-last c =

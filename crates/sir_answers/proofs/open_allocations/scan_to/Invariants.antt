@@ -1,7 +1,7 @@
 -- `scan_to` meets its contract. The invariant: whatever block the scan started in, the operations from p on are passed.
 use mathlib.Core.Path.{◌≡◌}
 use mathlib.Core.List.{[]}
-use Prim.Native.Nat.{ℕ, ◌-◌, ◌≤◌, ◌<◌}
+use Prim.Native.Nat.{ℕ, ◌≤◌, ◌<◌}
 use lib.ListN.{length}
 use Rattle.plank_core.specs.Lists.{range}
 use Rattle.sir_data.specs.Records.{blocks, block_word}

@@ -10,12 +10,12 @@ use Rattle.sir_answers.proofs.order_answers.uses_answer.Goals as goal
 
 pub input_counts-requires : goal.input_counts-requires
 input_counts-requires c =
-    record { well_formed = c.requires.well_formed; counts_len = omega arith; }
+    record { well_formed = c.requires.well_formed; counts_len = omega arith }
 
 pub put_uses-n-requires : goal.put_uses-n-requires
 put_uses-n-requires c =
     let k = c.input_counts.ensures in
-    record { visit_stage = c.requires; counts_len = (k.wide, omega (arith, uses_most c.args.words.now c.requires.well_formed c.args.v.0 k)); }
+    record { visit_stage = c.requires; counts_len = (k.wide, omega (arith, uses_most c.args.words.now c.requires.well_formed c.args.v.0 k)) }
 
 pub finish-answer-requires : goal.finish-answer-requires
 finish-answer-requires c =
@@ -31,7 +31,7 @@ slice_bounds-put_uses-end-5 c = sym (length-take-le _ _ (finish_fits c.finish-an
 pub put_uses-requires : goal.put_uses-requires
 put_uses-requires c =
     let k = c.input_counts.ensures in
-    record { visit_stage = c.requires; counts_len = (k.wide, omega (arith, uses_most c.args.words.now c.requires.well_formed c.args.v.0 k)); }
+    record { visit_stage = c.requires; counts_len = (k.wide, omega (arith, uses_most c.args.words.now c.requires.well_formed c.args.v.0 k)) }
 
 pub returns : goal.returns
 returns c =

@@ -1,6 +1,6 @@
 -- `own_rows` meets its contract. The invariant: the locals below v are in their rows.
 use mathlib.Core.Path.{◌≡◌, refl}
-use Prim.Native.Nat.{◌-◌, ◌<◌}
+use Prim.Native.Nat.{◌<◌}
 use native.Mathlib.Omega.{arith}
 use Rattle.sir_data.specs.Records.{locals}
 use Rattle.sir_answers.specs.inner.AllocationPieces.{unmarked_owner}

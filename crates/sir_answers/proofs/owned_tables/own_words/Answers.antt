@@ -1,6 +1,6 @@
 -- `own_words` meets its contract. The invariant: the owners of the locals below v are stored.
 use mathlib.Core.Path.{◌≡◌, refl, ◌∙◌}
-use Prim.Native.Nat.{◌-◌, ◌<◌}
+use Prim.Native.Nat.{◌<◌}
 use native.Mathlib.Omega.{arith}
 use lib.ListN.{length, length-set}
 use Rattle.sir_data.specs.Records.{locals}

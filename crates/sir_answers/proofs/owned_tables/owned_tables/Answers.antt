@@ -10,7 +10,7 @@ use Rattle.sir_answers.proofs.owned_tables.owned_tables.Goals as goal
 pub own_rows-requires : goal.own_rows-requires
 unfolding part
 own_rows-requires c =
-    record { pointer_stage = c.requires.pointer_stage; rows_len = length_part 0 4104 c.args.owned.now (omega (arith, cleared_long c.args.owned.now 4616 c.requires.owned_value)); }
+    record { pointer_stage = c.requires.pointer_stage; rows_len = length_part 0 4104 c.args.owned.now (omega (arith, cleared_long c.args.owned.now 4616 c.requires.owned_value)) }
 
 pub own_words-requires : goal.own_words-requires
 unfolding part
@@ -20,7 +20,7 @@ own_words-requires c =
     let rows = c.own_rows.new.rows in
     let adds = c.own_rows.ensures in
     let put = put_long 0 4104 owned rows (adds.long ∙ length_part 0 4104 owned (omega (arith, long))) (omega (arith, long)) ∙ long in
-    record { pointer_stage = c.requires.pointer_stage; owners_len = length_part 4104 512 (put_back 0 4104 owned rows) (omega (arith, put)); }
+    record { pointer_stage = c.requires.pointer_stage; owners_len = length_part 4104 512 (put_back 0 4104 owned rows) (omega (arith, put)) }
 
 pub shape_of-owned : goal.shape_of-owned
 unfolding part

@@ -70,7 +70,7 @@ side_of-requires c =
     let n = rw read at c.if-owner-ne0.true in
     let under : o - 1 < 512 = omega (arith, most, n) in
     let owns : o ≡ (o - 1) + 1 = omega (arith, n) in
-    record { owned_len = (tables.long, c.requires.set_len.0, omega (arith, read, under), small); v_value = rw read (tables.row_is (o - 1) v under small ∙ eq-eqb o ((o - 1) + 1) owns); }
+    record { owned_len = (tables.long, c.requires.set_len.0, omega (arith, read, under), small); v_value = rw read (tables.row_is (o - 1) v under small ∙ eq-eqb o ((o - 1) + 1) owns) }
 
 pub overflow_cast-a : goal.overflow_cast-a
 overflow_cast-a c =

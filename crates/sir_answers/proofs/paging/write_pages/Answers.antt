@@ -1,6 +1,6 @@
 -- `write_pages` meets its contract. The loop's invariant: p pages are written, and the rest is as it was.
 use mathlib.Core.Path.{◌≡◌, refl, ◌∙◌}
-use Prim.Native.Nat.{◌*◌, ◌-◌, ◌/◌}
+use Prim.Native.Nat.{◌*◌, ◌/◌}
 use native.Mathlib.Omega.{arith}
 use lib.ListN.{length}
 use Rattle.sir_answers.proofs.paging.WrittenPages.{page_more}

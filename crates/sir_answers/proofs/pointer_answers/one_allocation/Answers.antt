@@ -25,7 +25,7 @@ flags_of-requires c =
 
 pub marked_answer-requires : goal.marked_answer-requires
 marked_answer-requires c =
-    record { well_formed = c.requires.visit_stage.well_formed; by_index = (c.args.a.0, c.site_of-site.ensures c.args.words.now c.requires.visit_stage.well_formed (c.alloc_sites.ensures ∙ c.requires.pointer_stage.0.sites_are)); }
+    record { well_formed = c.requires.visit_stage.well_formed; by_index = (c.args.a.0, c.site_of-site.ensures c.args.words.now c.requires.visit_stage.well_formed (c.alloc_sites.ensures ∙ c.requires.pointer_stage.0.sites_are)) }
 
 pub returns-then-is_marked : goal.returns-then-is_marked
 returns-then-is_marked c =
@@ -35,11 +35,11 @@ returns-then-is_marked c =
 
 pub compute_liveness-requires : goal.compute_liveness-requires
 compute_liveness-requires c =
-    record { visit_stage = c.requires.visit_stage; live_value = refl; }
+    record { visit_stage = c.requires.visit_stage; live_value = refl }
 
 pub allocation_answer-requires : goal.allocation_answer-requires
 allocation_answer-requires c =
-    record { visit_stage = c.requires.visit_stage; liveness_stage = c.compute_liveness.ensures.1; pointer_stage = c.requires.pointer_stage; }
+    record { visit_stage = c.requires.visit_stage; liveness_stage = c.compute_liveness.ensures.1; pointer_stage = c.requires.pointer_stage }
 
 pub returns : goal.returns
 returns c = c.allocation_answer.ensures

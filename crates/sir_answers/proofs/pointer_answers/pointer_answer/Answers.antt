@@ -17,12 +17,12 @@ use Rattle.sir_answers.proofs.pointer_answers.pointer_answer.Goals as goal
 
 pub compute_pointers-requires : goal.compute_pointers-requires
 compute_pointers-requires c =
-    record { visit_stage = c.requires.visit_stage; accepted_stage = (c.requires.accepted_stage.0, refl); }
+    record { visit_stage = c.requires.visit_stage; accepted_stage = (c.requires.accepted_stage.0, refl) }
 
 pub one_allocation-requires : goal.one_allocation-requires
 one_allocation-requires c =
     let w = c.args.words.now in
-    record { visit_stage = c.requires.visit_stage; pointer_stage = (c.compute_pointers.ensures, known_below (λ x. length (allocs x)) _ w (own_as Question.OfPointers w c.in-Allocation.is c.requires.accepted_stage.1)); }
+    record { visit_stage = c.requires.visit_stage; pointer_stage = (c.compute_pointers.ensures, known_below (λ x. length (allocs x)) _ w (own_as Question.OfPointers w c.in-Allocation.is c.requires.accepted_stage.1)) }
 
 pub owner_of-requires : goal.owner_of-requires
 owner_of-requires c =
@@ -31,7 +31,7 @@ owner_of-requires c =
 
 pub every_allocation-requires : goal.every_allocation-requires
 every_allocation-requires c =
-    record { visit_stage = c.requires.visit_stage; pointer_stage = c.compute_pointers.ensures; }
+    record { visit_stage = c.requires.visit_stage; pointer_stage = c.compute_pointers.ensures }
 
 pub all_owners_answer-requires : goal.all_owners_answer-requires
 all_owners_answer-requires c =
@@ -40,12 +40,12 @@ all_owners_answer-requires c =
 pub open_answer-requires : goal.open_answer-requires
 open_answer-requires c =
     let w = c.args.words.now in
-    record { visit_stage = c.requires.visit_stage; pointer_stage = c.compute_pointers.ensures; b_bound = open_held _ _ w (own_as Question.OfPointers w c.in-Open.is c.requires.accepted_stage.1); }
+    record { visit_stage = c.requires.visit_stage; pointer_stage = c.compute_pointers.ensures; b_bound = open_held _ _ w (own_as Question.OfPointers w c.in-Open.is c.requires.accepted_stage.1) }
 
 pub crossing_answer-requires : goal.crossing_answer-requires
 crossing_answer-requires c =
     let w = c.args.words.now in
-    record { visit_stage = c.requires.visit_stage; pointer_stage = c.compute_pointers.ensures; one_in_bounds = crossing_known _ _ w (own_as Question.OfPointers w c.in-Crossing.is c.requires.accepted_stage.1); }
+    record { visit_stage = c.requires.visit_stage; pointer_stage = c.compute_pointers.ensures; one_in_bounds = crossing_known _ _ w (own_as Question.OfPointers w c.in-Crossing.is c.requires.accepted_stage.1) }
 
 pub returns-in-Allocation : goal.returns-in-Allocation
 returns-in-Allocation c =

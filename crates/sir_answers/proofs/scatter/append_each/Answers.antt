@@ -1,7 +1,7 @@
 -- `append_each` meets its contract. The invariant: the pieces of the ids left are to be put.
 use mathlib.Core.Path.{refl}
 use mathlib.Core.List.{List}
-use Prim.Native.Nat.{ℕ, ◌-◌, ◌<◌}
+use Prim.Native.Nat.{ℕ, ◌<◌}
 use native.Mathlib.Omega.{arith}
 use lib.ListN.{length, get_or}
 use Rattle.plank_core.specs.laws.Lists.{get_or_mem}

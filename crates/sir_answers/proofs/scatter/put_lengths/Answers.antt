@@ -1,6 +1,5 @@
 -- `put_lengths` meets its contract. The invariant: the first segments have their lengths and their cursors.
 use mathlib.Core.Path.{◌≡◌, refl, sym, ap, ◌∙◌}
-use Prim.Native.Nat.{◌-◌}
 use native.Mathlib.Omega.{arith}
 use lib.ListN.{length, set, length-set}
 use Rattle.sir_answers.specs.inner.Scatter.{number_at, origin, toward}

@@ -1,6 +1,5 @@
 -- `total_words` meets its contract. The invariant: so many words do the first segments take.
 use mathlib.Core.Path.{◌≡◌, refl, ap, ◌∙◌}
-use Prim.Native.Nat.{◌-◌}
 use native.Mathlib.Omega.{arith}
 use lib.ListN.{length}
 use Rattle.sir_answers.specs.inner.Scatter.{number_at, base}

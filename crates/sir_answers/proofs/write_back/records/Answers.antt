@@ -19,7 +19,7 @@ returns-then-number-ne0 c =
     let a = c.args in
     let image = a.image.now in
     let bytes : Bytes image = λ i l. omega (arith, c.type_inv.image i) in
-    record { out_after = image_refused no_rules (in_words records_of) image a.out.now (λ z. c.if-number-ne0.true (c.load-sizes.ensures.number_is ∙ z)) (c.refuse.ensures.0 ∙ c.load-sizes.ensures.number_is) c.refuse.ensures.1; written_back = written_back image bytes; page_rule = page_rule image bytes; }
+    record { out_after = image_refused no_rules (in_words records_of) image a.out.now (λ z. c.if-number-ne0.true (c.load-sizes.ensures.number_is ∙ z)) (c.refuse.ensures.0 ∙ c.load-sizes.ensures.number_is) c.refuse.ensures.1; written_back = written_back image bytes; page_rule = page_rule image bytes }
 
 pub slice_bounds-words-end : goal.slice_bounds-words-end
 slice_bounds-words-end c =
@@ -43,4 +43,4 @@ returns c =
     let bytes : Bytes image = λ i l. omega (arith, c.type_inv.image i) in
     let accepted : refusal image ≡ 0 = sym c.load-sizes.ensures.number_is ∙ c.if-number-ne0.false in
     let front = records_front (c.load-sizes.ensures.prepared accepted) c.word_count-n.ensures in
-    record { out_after = c.words_answer.ensures ∙ ap (λ (ws : List ℕ). answered (bind ws bytes_of) a.out.now) front ∙ image_accepted no_rules (in_words records_of) image a.out.now accepted; written_back = written_back image bytes; page_rule = page_rule image bytes; }
+    record { out_after = c.words_answer.ensures ∙ ap (λ (ws : List ℕ). answered (bind ws bytes_of) a.out.now) front ∙ image_accepted no_rules (in_words records_of) image a.out.now accepted; written_back = written_back image bytes; page_rule = page_rule image bytes }

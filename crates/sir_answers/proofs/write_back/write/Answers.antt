@@ -12,7 +12,7 @@ returns-then-number-ne0 c =
     let a = c.args in
     let r = a.records.now in
     let bytes : Bytes r = λ i l. omega (arith, c.type_inv.records i) in
-    record { out_after = lent_refused c.read_records-number.ensures a.out.now c.if-number-ne0.true c.refuse.ensures.0 c.refuse.ensures.1; read_back = read_back r bytes; readers_number = readers_number r bytes; }
+    record { out_after = lent_refused c.read_records-number.ensures a.out.now c.if-number-ne0.true c.refuse.ensures.0 c.refuse.ensures.1; read_back = read_back r bytes; readers_number = readers_number r bytes }
 
 pub pages_for-n-requires : goal.pages_for-n-requires
 pages_for-n-requires c = omega (arith, c.read_records-number.ensures.few c.if-number-ne0.false)
@@ -28,11 +28,11 @@ pub write_words-requires : goal.write_words-requires
 write_words-requires c =
     let k = c.read_records-number.ensures in
     let z = c.if-number-ne0.false in
-    rw c.pages_for-n.ensures (record { well_formed = front_formed k z; words_len = front_paged k z; })
+    rw c.pages_for-n.ensures (record { well_formed = front_formed k z; words_len = front_paged k z })
 
 pub returns : goal.returns
 returns c =
     let a = c.args in
     let r = a.records.now in
     let bytes : Bytes r = λ i l. omega (arith, c.type_inv.records i) in
-    record { out_after = rw c.pages_for-n.ensures at c.write_words.ensures ∙ lent_written c.read_records-number.ensures c.if-number-ne0.false a.out.now; read_back = read_back r bytes; readers_number = readers_number r bytes; }
+    record { out_after = rw c.pages_for-n.ensures at c.write_words.ensures ∙ lent_written c.read_records-number.ensures c.if-number-ne0.false a.out.now; read_back = read_back r bytes; readers_number = readers_number r bytes }
