@@ -1,6 +1,6 @@
 /* Prints the allocations of an image, from C:
  *
- *     rt staticlib sir_capi
+ *     tools/staticlib
  *     cc -Iinclude examples/call.c target/staticlib/libsir_capi.a -o target/call
  *     target/call IMAGE
  *

@@ -1,5 +1,5 @@
 //! Links the proved library where it has been built: `libsir_capi.a` in the folder `SIR_ANALYSES_LIB`, absolute or from the
-//! root of the repository, or in `target/staticlib`, where `rt staticlib sir_capi` puts it. The cfg `sir_linked` says that
+//! root of the repository, or in `target/staticlib`, where `tools/staticlib` puts it. The cfg `sir_linked` says that
 //! it is there, and `SIR_LIBRARY` tells where. A folder that is named and has no such library is an error, and so is a library
 //! that lacks a function.
 
@@ -21,7 +21,7 @@ fn main() {
     match read {
         Ok(bytes) => match function_names().find(|name| !has(&bytes, name)) {
             Some(missing) => {
-                println!("cargo::error={library} has no sir_{missing}: build it anew (run rt staticlib sir_capi)")
+                println!("cargo::error={library} has no sir_{missing}: build it anew (run tools/staticlib)")
             }
             None => {
                 println!("cargo::rustc-cfg=sir_linked");
@@ -31,7 +31,7 @@ fn main() {
             }
         },
         Err(error) if named.is_some() => println!("cargo::error=SIR_ANALYSES_LIB names no library: {library}: {error}"),
-        Err(_) => println!("cargo::warning=no {library}: built without it (run rt staticlib sir_capi)"),
+        Err(_) => println!("cargo::warning=no {library}: built without it (run tools/staticlib)"),
     }
 }
 

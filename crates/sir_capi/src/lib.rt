@@ -1,4 +1,5 @@
-// The exported functions, and with their contracts the whole of what a caller relies on. Nothing is required of a caller.
+// The exported functions, and with their contracts the whole of what a caller relies on. Nothing is required of a caller. The crate
+// `sir_capi_c` exports each to C, under its name and with its contract.
 //
 // Each question takes an image and a result slice, and gives a number and the answer's length in bytes. Its first promise is
 // always the same, `asked`: of the rules of the image and then those of the question the first that applies is the number, with
@@ -32,8 +33,7 @@ use sir_answers::questions::{LiveQuestion, OrderQuestion, PointerQuestion, Quest
 use sir_answers::write_back::{records, write};
 
 // For each function of `functions_rpo`: its id, its block count, its block ids.
-#[unsafe(no_mangle)]
-pub extern "C" fn sir_order(image: &[u8], out: &mut [u8]) -> Answer
+pub fn sir_order(image: &[u8], out: &mut [u8]) -> Answer
     ensures out_after { made result.number result.length out.new ≡ asked no_rules (in_words order_answer) image.now out.old }
     ensures promise { refusal image.now ≡ 0 → Promise (payload image.now) }
 {
@@ -41,8 +41,7 @@ pub extern "C" fn sir_order(image: &[u8], out: &mut [u8]) -> Answer
 }
 
 // The predecessors of a block, repeats kept.
-#[unsafe(no_mangle)]
-pub extern "C" fn sir_predecessors(image: &[u8], block: u32, out: &mut [u8]) -> Answer
+pub fn sir_predecessors(image: &[u8], block: u32, out: &mut [u8]) -> Answer
     ensures out_after { made result.number result.length out.new ≡ asked (known blocks block) (in_words (λ w. predecessors_answer w block)) image.now out.old }
     ensures promise { refusal image.now ≡ 0 → Promise (payload image.now) }
 {
@@ -55,8 +54,7 @@ pub extern "C" fn sir_predecessors(image: &[u8], block: u32, out: &mut [u8]) -> 
 }
 
 // The uses of a local, three words each: block, kind, then operation, 0, or position.
-#[unsafe(no_mangle)]
-pub extern "C" fn sir_uses(image: &[u8], local: u32, out: &mut [u8]) -> Answer
+pub fn sir_uses(image: &[u8], local: u32, out: &mut [u8]) -> Answer
     ensures out_after { made result.number result.length out.new ≡ asked (known locals local) (in_words (λ w. uses_answer w local)) image.now out.old }
     ensures promise { refusal image.now ≡ 0 → Promise (payload image.now) }
 {
@@ -65,8 +63,7 @@ pub extern "C" fn sir_uses(image: &[u8], local: u32, out: &mut [u8]) -> Answer
 }
 
 // The locals that are live at the entry of a block, ascending.
-#[unsafe(no_mangle)]
-pub extern "C" fn sir_entry_set(image: &[u8], block: u32, out: &mut [u8]) -> Answer
+pub fn sir_entry_set(image: &[u8], block: u32, out: &mut [u8]) -> Answer
     ensures out_after { made result.number result.length out.new ≡ asked (known blocks block) (in_words (λ w. entry_answer w block)) image.now out.old }
     ensures promise { refusal image.now ≡ 0 → Promise (payload image.now) }
 {
@@ -75,8 +72,7 @@ pub extern "C" fn sir_entry_set(image: &[u8], block: u32, out: &mut [u8]) -> Ans
 }
 
 // The locals that are live at the exit of a block, ascending.
-#[unsafe(no_mangle)]
-pub extern "C" fn sir_exit_set(image: &[u8], block: u32, out: &mut [u8]) -> Answer
+pub fn sir_exit_set(image: &[u8], block: u32, out: &mut [u8]) -> Answer
     ensures out_after { made result.number result.length out.new ≡ asked (known blocks block) (in_words (λ w. exit_answer w block)) image.now out.old }
     ensures promise { refusal image.now ≡ 0 → Promise (payload image.now) }
 {
@@ -85,8 +81,7 @@ pub extern "C" fn sir_exit_set(image: &[u8], block: u32, out: &mut [u8]) -> Answ
 }
 
 // The passes of liveness until one adds nothing, that one counted.
-#[unsafe(no_mangle)]
-pub extern "C" fn sir_rounds(image: &[u8], out: &mut [u8]) -> Answer
+pub fn sir_rounds(image: &[u8], out: &mut [u8]) -> Answer
     ensures out_after { made result.number result.length out.new ≡ asked no_rules (in_words rounds_answer) image.now out.old }
     ensures promise { refusal image.now ≡ 0 → Promise (payload image.now) }
 {
@@ -94,8 +89,7 @@ pub extern "C" fn sir_rounds(image: &[u8], out: &mut [u8]) -> Answer
 }
 
 // The intervals of a local, three words each: block, start, end.
-#[unsafe(no_mangle)]
-pub extern "C" fn sir_intervals(image: &[u8], local: u32, out: &mut [u8]) -> Answer
+pub fn sir_intervals(image: &[u8], local: u32, out: &mut [u8]) -> Answer
     ensures out_after { made result.number result.length out.new ≡ asked (known locals local) (in_words (λ w. intervals_answer w local)) image.now out.old }
     ensures promise { refusal image.now ≡ 0 → Promise (payload image.now) }
 {
@@ -104,8 +98,7 @@ pub extern "C" fn sir_intervals(image: &[u8], local: u32, out: &mut [u8]) -> Ans
 }
 
 // An allocation: defining block, operation, base local, kind, size or size local, static id, mark, flags, interval count, intervals.
-#[unsafe(no_mangle)]
-pub extern "C" fn sir_allocation(image: &[u8], allocation: u32, out: &mut [u8]) -> Answer
+pub fn sir_allocation(image: &[u8], allocation: u32, out: &mut [u8]) -> Answer
     ensures out_after { made result.number result.length out.new ≡ asked (known (λ w. length (allocs w)) allocation) (in_words (λ w. allocation_answer w allocation)) image.now out.old }
     ensures promise { refusal image.now ≡ 0 → Promise (payload image.now) }
 {
@@ -118,8 +111,7 @@ pub extern "C" fn sir_allocation(image: &[u8], allocation: u32, out: &mut [u8]) 
 }
 
 // The owner of a local: allocation + 1, or 0.
-#[unsafe(no_mangle)]
-pub extern "C" fn sir_owner(image: &[u8], local: u32, out: &mut [u8]) -> Answer
+pub fn sir_owner(image: &[u8], local: u32, out: &mut [u8]) -> Answer
     ensures out_after { made result.number result.length out.new ≡ asked (known locals local) (in_words (λ w. owner_answer w local)) image.now out.old }
     ensures promise { refusal image.now ≡ 0 → Promise (payload image.now) }
 {
@@ -128,8 +120,7 @@ pub extern "C" fn sir_owner(image: &[u8], local: u32, out: &mut [u8]) -> Answer
 }
 
 // The predecessors of all blocks, each after its length in words.
-#[unsafe(no_mangle)]
-pub extern "C" fn sir_all_predecessors(image: &[u8], out: &mut [u8]) -> Answer
+pub fn sir_all_predecessors(image: &[u8], out: &mut [u8]) -> Answer
     ensures out_after { made result.number result.length out.new ≡ asked no_rules (in_words (all blocks predecessors_answer)) image.now out.old }
     ensures promise { refusal image.now ≡ 0 → Promise (payload image.now) }
 {
@@ -141,8 +132,7 @@ pub extern "C" fn sir_all_predecessors(image: &[u8], out: &mut [u8]) -> Answer
 }
 
 // The entry sets of all blocks, each after its length in words.
-#[unsafe(no_mangle)]
-pub extern "C" fn sir_all_entry_sets(image: &[u8], out: &mut [u8]) -> Answer
+pub fn sir_all_entry_sets(image: &[u8], out: &mut [u8]) -> Answer
     ensures out_after { made result.number result.length out.new ≡ asked no_rules (in_words (all blocks entry_answer)) image.now out.old }
     ensures promise { refusal image.now ≡ 0 → Promise (payload image.now) }
 {
@@ -150,8 +140,7 @@ pub extern "C" fn sir_all_entry_sets(image: &[u8], out: &mut [u8]) -> Answer
 }
 
 // The exit sets of all blocks, each after its length in words.
-#[unsafe(no_mangle)]
-pub extern "C" fn sir_all_exit_sets(image: &[u8], out: &mut [u8]) -> Answer
+pub fn sir_all_exit_sets(image: &[u8], out: &mut [u8]) -> Answer
     ensures out_after { made result.number result.length out.new ≡ asked no_rules (in_words (all blocks exit_answer)) image.now out.old }
     ensures promise { refusal image.now ≡ 0 → Promise (payload image.now) }
 {
@@ -159,8 +148,7 @@ pub extern "C" fn sir_all_exit_sets(image: &[u8], out: &mut [u8]) -> Answer
 }
 
 // The uses of all locals, each after its length in words.
-#[unsafe(no_mangle)]
-pub extern "C" fn sir_all_uses(image: &[u8], out: &mut [u8]) -> Answer
+pub fn sir_all_uses(image: &[u8], out: &mut [u8]) -> Answer
     ensures out_after { made result.number result.length out.new ≡ asked no_rules (in_words (all locals uses_answer)) image.now out.old }
     ensures promise { refusal image.now ≡ 0 → Promise (payload image.now) }
 {
@@ -168,8 +156,7 @@ pub extern "C" fn sir_all_uses(image: &[u8], out: &mut [u8]) -> Answer
 }
 
 // The intervals of all locals, each after its length in words.
-#[unsafe(no_mangle)]
-pub extern "C" fn sir_all_intervals(image: &[u8], out: &mut [u8]) -> Answer
+pub fn sir_all_intervals(image: &[u8], out: &mut [u8]) -> Answer
     ensures out_after { made result.number result.length out.new ≡ asked no_rules (in_words (all locals intervals_answer)) image.now out.old }
     ensures promise { refusal image.now ≡ 0 → Promise (payload image.now) }
 {
@@ -177,8 +164,7 @@ pub extern "C" fn sir_all_intervals(image: &[u8], out: &mut [u8]) -> Answer
 }
 
 // The records of all allocations, each after its length in words.
-#[unsafe(no_mangle)]
-pub extern "C" fn sir_all_allocations(image: &[u8], out: &mut [u8]) -> Answer
+pub fn sir_all_allocations(image: &[u8], out: &mut [u8]) -> Answer
     ensures out_after { made result.number result.length out.new ≡ asked no_rules (in_words (all (λ w. length (allocs w)) allocation_answer)) image.now out.old }
     ensures promise { refusal image.now ≡ 0 → Promise (payload image.now) }
 {
@@ -190,8 +176,7 @@ pub extern "C" fn sir_all_allocations(image: &[u8], out: &mut [u8]) -> Answer
 }
 
 // The owners of all locals, each after its length in words.
-#[unsafe(no_mangle)]
-pub extern "C" fn sir_all_owners(image: &[u8], out: &mut [u8]) -> Answer
+pub fn sir_all_owners(image: &[u8], out: &mut [u8]) -> Answer
     ensures out_after { made result.number result.length out.new ≡ asked no_rules (in_words (all locals owner_answer)) image.now out.old }
     ensures promise { refusal image.now ≡ 0 → Promise (payload image.now) }
 {
@@ -199,8 +184,7 @@ pub extern "C" fn sir_all_owners(image: &[u8], out: &mut [u8]) -> Answer
 }
 
 // The unmarked allocations with an interval over an operation of a block, by number. 15: the block does not hold the operation.
-#[unsafe(no_mangle)]
-pub extern "C" fn sir_open(image: &[u8], block: u32, operation: u32, out: &mut [u8]) -> Answer
+pub fn sir_open(image: &[u8], block: u32, operation: u32, out: &mut [u8]) -> Answer
     ensures out_after { made result.number result.length out.new ≡ asked (open_rules block operation) (in_words (λ w. open_at w block operation)) image.now out.old }
     ensures promise { refusal image.now ≡ 0 → Promise (payload image.now) }
 {
@@ -214,8 +198,7 @@ pub extern "C" fn sir_open(image: &[u8], block: u32, operation: u32, out: &mut [
 }
 
 // Whether two allocations cross: 1 or 0, then block + 1 and operation + 1 of the first operation in intervals of both, where one is named.
-#[unsafe(no_mangle)]
-pub extern "C" fn sir_crossing(image: &[u8], one: u32, other: u32, out: &mut [u8]) -> Answer
+pub fn sir_crossing(image: &[u8], one: u32, other: u32, out: &mut [u8]) -> Answer
     ensures out_after { made result.number result.length out.new ≡ asked (crossing_rules one other) (in_words (λ w. crossing w one other)) image.now out.old }
     ensures promise { refusal image.now ≡ 0 → Promise (payload image.now) }
 {
@@ -229,8 +212,7 @@ pub extern "C" fn sir_crossing(image: &[u8], one: u32, other: u32, out: &mut [u8
 }
 
 // The chart for the review sheet, as text: series of 64 allocations, sheets of 60 lines, lines of 72 columns and a line feed.
-#[unsafe(no_mangle)]
-pub extern "C" fn sir_chart(image: &[u8], out: &mut [u8]) -> Answer
+pub fn sir_chart(image: &[u8], out: &mut [u8]) -> Answer
     ensures out_after { made result.number result.length out.new ≡ asked no_rules chart_text image.now out.old }
     ensures promise { refusal image.now ≡ 0 → Promise (payload image.now) }
 {
@@ -238,8 +220,7 @@ pub extern "C" fn sir_chart(image: &[u8], out: &mut [u8]) -> Answer
 }
 
 // The records of an image: its payload words without padding. Written, they give the image back.
-#[unsafe(no_mangle)]
-pub extern "C" fn sir_records(image: &[u8], out: &mut [u8]) -> Answer
+pub fn sir_records(image: &[u8], out: &mut [u8]) -> Answer
     ensures out_after { made result.number result.length out.new ≡ asked no_rules (in_words records_of) image.now out.old }
     ensures written_back { refusal image.now ≡ 0 → WrittenBack image.now }
     ensures page_rule { PageRule image.now }
@@ -248,8 +229,7 @@ pub extern "C" fn sir_records(image: &[u8], out: &mut [u8]) -> Answer
 }
 
 // The pages of lent records: an image that is accepted and has those records, or the number that the reader would give.
-#[unsafe(no_mangle)]
-pub extern "C" fn sir_write(records: &[u8], out: &mut [u8]) -> Answer
+pub fn sir_write(records: &[u8], out: &mut [u8]) -> Answer
     ensures out_after { made result.number result.length out.new ≡ written records.now out.old }
     ensures read_back { lent_refusal records.now ≡ 0 → ReadBack records.now }
     ensures readers_number { ReadersNumber records.now }

@@ -72,7 +72,7 @@ fn asked<'a>(words: &'a [String], groups: &[&str]) -> Result<Vec<&'a str>, Strin
 fn against_old(archive: &str, words: &[String]) -> Result<(), String> {
     let asked = asked(words, &GROUPS[..4])?;
     let Some(new) = sir_analyses::LIBRARY else {
-        return Err("the library was missing when this was built (run rt staticlib sir_capi)".to_string());
+        return Err("the library was missing when this was built (run tools/staticlib)".to_string());
     };
     let libraries = old::Libraries::load(new, archive)?;
     let names = if asked.is_empty() { vec!["typical"] } else { asked };
@@ -83,7 +83,7 @@ fn against_old(archive: &str, words: &[String]) -> Result<(), String> {
 fn against_plank(words: &[String]) -> Result<(), String> {
     let asked = asked(words, &GROUPS)?;
     if !sir_analyses::LINKED {
-        println!("the library was missing when this was built (run rt staticlib sir_capi): it is left out");
+        println!("the library was missing when this was built (run tools/staticlib): it is left out");
     }
     if !plank_oracle::PRESENT {
         println!("Plank's files were missing when this was built (set PLANK_SRC): it is left out");

@@ -123,7 +123,7 @@ fn run(options: &Options) -> Result<(), Failure> {
     if options.library && sir_analyses::LINKED {
         sides.push(("the library", sides::with_library));
     } else if options.library {
-        println!("the library was missing when this was built (run rt staticlib sir_capi): it is left out");
+        println!("the library was missing when this was built (run tools/staticlib): it is left out");
     }
     for &(side, compare) in &sides {
         if !options.files.is_empty() {

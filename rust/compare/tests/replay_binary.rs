@@ -9,14 +9,14 @@ use std::process::Command;
 use std::{env, fs};
 
 fn binary() -> Option<PathBuf> {
-    let path = Path::new(env!("CARGO_MANIFEST_DIR")).join("../../target/bin/replay");
+    let path = Path::new(env!("CARGO_MANIFEST_DIR")).join("../../crates/replay/out/replay");
     path.exists().then_some(path)
 }
 
 /// What the program prints for a file of these bytes; nothing where it is not built.
 fn replayed(name: &str, bytes: &[u8]) -> Option<String> {
     let Some(binary) = binary() else {
-        println!("target/bin/replay is not built: nothing was replayed");
+        println!("crates/replay/out/replay is not built: nothing was replayed");
         return None;
     };
     let folder = Path::new(env!("CARGO_TARGET_TMPDIR"));

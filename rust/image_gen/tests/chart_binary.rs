@@ -8,9 +8,9 @@ use std::path::{Path, PathBuf};
 use std::process::{Command, Stdio};
 
 fn binary() -> Option<PathBuf> {
-    let path = Path::new(env!("CARGO_MANIFEST_DIR")).join("../../target/bin/chart");
+    let path = Path::new(env!("CARGO_MANIFEST_DIR")).join("../../crates/chart/out/chart");
     if !path.exists() {
-        println!("target/bin/chart is not built: nothing was compared");
+        println!("crates/chart/out/chart is not built: nothing was compared");
     }
     path.exists().then_some(path)
 }

@@ -6,7 +6,7 @@ use std::path::{Path, PathBuf};
 use std::process::{Command, Stdio};
 
 fn binary() -> Option<PathBuf> {
-    let path = Path::new(env!("CARGO_MANIFEST_DIR")).join("../../target/bin/report");
+    let path = Path::new(env!("CARGO_MANIFEST_DIR")).join("../../crates/report/out/report");
     path.exists().then_some(path)
 }
 
@@ -22,7 +22,7 @@ fn run(binary: &Path, image: &[u8]) -> String {
 /// Compares, and counts the images of which a report was printed and those that were refused.
 fn compare(images: impl Iterator<Item = (String, Vec<u8>)>) {
     let Some(binary) = binary() else {
-        println!("target/bin/report is not built: nothing was compared");
+        println!("crates/report/out/report is not built: nothing was compared");
         return;
     };
     let (mut printed, mut refused) = (0, 0);

@@ -52,10 +52,10 @@ impl Script {
     /// Whether the program is built, and newer than what it is made of.
     fn is_built(self) -> bool {
         let output = self.command("is_built").output().unwrap();
-        let program = root().join("target/bin").join(self.name);
+        let program = root().join("crates").join(self.name).join("out").join(self.name);
         let built = program.exists() && output.status.success();
         if !built {
-            println!("target/bin/{} is not built, or out of date: nothing was printed", self.name);
+            println!("crates/{0}/out/{0} is not built, or out of date: nothing was printed", self.name);
         }
         built
     }

@@ -1,5 +1,5 @@
 //! Writes the image of a small program and asks which of its buffers may lie over each other, and what keeps the others from
-//! it; then writes it again with one of them enlarged. From the folder `rust`, once `rt staticlib sir_capi` has built the library:
+//! it; then writes it again with one of them enlarged. From the folder `rust`, once `tools/staticlib` has built the library:
 //!
 //! ```text
 //! cargo run --offline -p sir_analyses --example ask

@@ -50,7 +50,7 @@ macro_rules! function {
         #[cfg(not(sir_linked))]
         pub fn $name($lent: &[u8], $($id: $type,)* result: &mut [u8]) -> Answer {
             let _ = ($lent, $($id,)* result);
-            panic!("there was no library when this was built: run rt staticlib sir_capi, then build again")
+            panic!("there was no library when this was built: run tools/staticlib, then build again")
         }
     };
 }

@@ -92,7 +92,7 @@
 //!
 //! # The library
 //!
-//! The library is `libsir_capi.a` of the repository's `target/staticlib`, which `rt staticlib sir_capi` builds, or of the
+//! The library is `libsir_capi.a` of the repository's `target/staticlib`, which `tools/staticlib` builds, or of the
 //! folder that the environment variable `SIR_ANALYSES_LIB` names. Where that variable is not set and there is none, this
 //! crate builds without it: [`LINKED`] is false, and every question panics.
 
