@@ -4,45 +4,42 @@
 mod printing;
 
 use crate::printing::chart;
-use libc::{STDIN_FILENO, STDOUT_FILENO};
+use program_input::{argument, read_full};
+use std::env::Env;
+use std::fs::Files;
+use std::io::Read;
+use std::{fs, io};
 
 // The most that is read. It is more than an image may have, so a longer input is still seen as too long.
 const MOST: usize = 60417;
 
 // The chart of what a file holds.
-fn chart_file(fd: i32) {
+fn chart_file(rt: &impl Print, file: &mut impl Read) -> io::Result<()> {
     let mut image = [0u8; MOST];
-    let n = io::read_full(fd, &mut image);
-    chart(&image[..n]);
+    let n = read_full(file, &mut image)?;
+    chart(rt, &image[..n]).written
 }
 
-// The chart of argument i. False where there is no such argument, or no such file.
-fn chart_argument(i: usize) -> bool {
-    let mut name = io::buffer();
-    let length = os::arg(i, &mut name);
-    if os::errno() != 0 {
-        return false;
-    }
-    let fd = os::open_read(&name[..length]);
-    if fd < 0 {
-        os::fail(&name[..length]);
-        return false;
-    }
-    io::write_all(STDOUT_FILENO, &name[..length]);
-    io::write_all(STDOUT_FILENO, b"\n");
-    chart_file(fd);
-    libc::close(fd);
-    true
+// The chart of argument i. False where there is no such argument.
+fn chart_argument<R: Env + Files + Print>(rt: &R, i: usize) -> io::Result<bool> {
+    let mut space = [0u8; 4096];
+    let Some(name) = argument(rt, i, &mut space)? else {
+        return Ok(false);
+    };
+    let mut file = fs::open(rt, name)?;
+    rt.println(name)?;
+    chart_file(rt, &mut file)?;
+    Ok(true)
 }
 
-fn main() {
-    let count = os::arg_count();
-    if count <= 1 {
-        chart_file(STDIN_FILENO);
-        return;
+fn main(rt: HostRuntime) -> io::Result<()> {
+    if !chart_argument(&rt, 1)? {
+        return chart_file(&rt, &mut rt.reader());
     }
-    let mut i = 1;
-    while i < count && chart_argument(i) {
-        i += 1;
+    for i in 2..usize::MAX {
+        if !chart_argument(&rt, i)? {
+            break;
+        }
     }
+    Ok(())
 }

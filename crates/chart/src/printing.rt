@@ -3,8 +3,8 @@ ghost use Rattle.std.specs.Prelude.{◌<◌, ◌≤◌, ◌≡◌, length};
 ghost use Rattle.sir_analyses.specs.Calls.{refusal};
 ghost use Rattle.sir_analyses.specs.inner.Stages.{VisitStage, AcceptedStage, LivenessStage, PointerStage};
 
-use libc::STDOUT_FILENO;
 use plank_core::index::BlockId;
+use report_lines::Printed;
 use report_lines::lines::refused_line;
 use sir_analyses::allocation_answers::compute_pointers;
 use sir_analyses::loading::load;
@@ -13,31 +13,33 @@ use sir_analyses::stages::{LIVE, POINTERS, POSTORDER, VISIT, WORDS, alloc_sites,
 use sir_answers::chart::{block_lines, on_sheets, put_block, series_count, series_lines};
 use sir_answers::chart_columns::other_locals;
 use sir_answers::chart_lines::{LINE, put_blanks};
+use std::io;
 
 // The bytes of the longest block: a heading and 1,024 operations.
 const BLOCK: usize = 74825;
 
 // Prints some bytes.
-fn say(text: &[u8]) {
-    io::write_all(STDOUT_FILENO, text);
+fn say(rt: &impl Print, text: &[u8]) -> io::Result<()> {
+    rt.write_all(text)
 }
 
 // The line of a refusal.
-fn say_refused(number: u32) {
+fn say_refused(rt: &impl Print, number: u32) -> io::Result<()> {
     let mut line = [0u8; 32];
     let n = refused_line(number, &mut line);
-    say(&line[..n]);
+    say(rt, &line[..n])
 }
 
 // The blocks of a series, in the order's sequence.
 fn say_blocks(
+    rt: &impl Print,
     words: &[u32],
     visit: &[u32],
     live: &[u64],
     pointers: &[u32],
     series: usize,
     out: &mut [u8],
-)
+) -> io::Result<()>
     requires visit_stage { VisitStage words.now visit.now }
     requires liveness_stage { LivenessStage words.now live.now }
     requires pointer_stage { PointerStage words.now pointers.now × (series < 8) × (length out.old ≡ 74825) }
@@ -50,24 +52,31 @@ fn say_blocks(
         let b = BlockId(order[i]);
         let end = LINE * block_lines(words, b);
         put_block(words, live, pointers, &others, series, b, &mut out[..end]);
-        say(&out[..end]);
+        say(rt, &out[..end])?;
         i += 1;
     }
+    Ok(())
 }
 
 // The blank lines after the blocks of a series.
-fn say_filling(words: &[u32], visit: &[u32], out: &mut [u8])
+fn say_filling(rt: &impl Print, words: &[u32], visit: &[u32], out: &mut [u8]) -> io::Result<()>
     requires visit_stage { VisitStage words.now visit.now }
     requires out_len { length out.old ≡ 74825 }
 {
     let lines = series_lines(words, visit);
     let end = LINE * (on_sheets(lines) - lines);
     put_blanks(&mut out[..end]);
-    say(&out[..end]);
+    say(rt, &out[..end])
 }
 
 // All series.
-fn say_chart(words: &[u32], visit: &[u32], live: &[u64], pointers: &[u32])
+fn say_chart(
+    rt: &impl Print,
+    words: &[u32],
+    visit: &[u32],
+    live: &[u64],
+    pointers: &[u32],
+) -> io::Result<()>
     requires visit_stage { VisitStage words.now visit.now }
     requires liveness_stage { LivenessStage words.now live.now }
     requires pointer_stage { PointerStage words.now pointers.now }
@@ -76,14 +85,15 @@ fn say_chart(words: &[u32], visit: &[u32], live: &[u64], pointers: &[u32])
     let count = series_count(alloc_sites(pointers).len());
     let mut series: usize = 0;
     while series < count {
-        say_blocks(words, visit, live, pointers, series, &mut out);
-        say_filling(words, visit, &mut out);
+        say_blocks(rt, words, visit, live, pointers, series, &mut out)?;
+        say_filling(rt, words, visit, &mut out)?;
         series += 1;
     }
+    Ok(())
 }
 
 // The chart of an accepted image's words: its analyses, each run once, then the lines.
-fn chart_words(words: &[u32], visit: &[u32], sites: &[u32])
+fn chart_words(rt: &impl Print, words: &[u32], visit: &[u32], sites: &[u32]) -> io::Result<()>
     requires visit_stage { VisitStage words.now visit.now }
     requires accepted_stage { AcceptedStage words.now sites.now }
 {
@@ -91,12 +101,12 @@ fn chart_words(words: &[u32], visit: &[u32], sites: &[u32])
     compute_liveness(words, visit, &mut live);
     let mut pointers = [0u32; POINTERS];
     compute_pointers(words, visit, sites, &mut pointers);
-    say_chart(words, visit, &live, &pointers);
+    say_chart(rt, words, visit, &live, &pointers)
 }
 
-// Prints the chart of an image, or `refused` and the number: 0, or that number.
-pub fn chart(image: &[u8]) -> u32
-    ensures { result ≡ refusal image.now }
+// Prints the chart of an image, or `refused` and the number.
+pub fn chart(rt: &impl Print, image: &[u8]) -> Printed
+    ensures { result.number ≡ refusal image.now }
 {
     let mut words = [0u32; WORDS];
     let mut postorder = [0u32; POSTORDER];
@@ -105,11 +115,11 @@ pub fn chart(image: &[u8]) -> u32
     let sizes = load(image, &mut words, &mut postorder, &mut visit, &mut sites);
     let number = sizes.number;
     if number != 0 {
-        say_refused(number);
-        return number;
+        let written = say_refused(rt, number);
+        return Printed { number, written };
     }
     let n = sizes.words;
     let allocations = sizes.allocations;
-    chart_words(&words[..n], &visit, &sites[..allocations]);
-    0
+    let written = chart_words(rt, &words[..n], &visit, &sites[..allocations]);
+    Printed { number: 0, written }
 }

@@ -8,12 +8,16 @@
 
 mod questions;
 
-ghost use Rattle.std.specs.Prelude.{◌≡◌, ◌≤◌, length};
-ghost use Rattle.io.specs.Counts.{IsPrefixLen};
+ghost use Rattle.std.specs.Prelude.{◌≡◌, ◌≤◌, length, IfOk};
+ghost use Rattle.std.specs.Io.{ReadsAtMost};
 
-use libc::STDOUT_FILENO;
+use program_input::{argument, read_full};
 use questions::ask;
 use sir_data::pages::word_at;
+use std::env::Env;
+use std::fs::Files;
+use std::io::Read;
+use std::{fs, io};
 
 // The most bytes of an image or a result slice that a file may have.
 const MOST: usize = 65536;
@@ -29,11 +33,11 @@ fn untouched() -> [u8; 65536]
 }
 
 // Reads so many bytes of the file to the front of the space; how many there were.
-fn read_part(fd: i32, space: &mut [u8], wanted: usize) -> usize
+fn read_part(file: &mut impl Read, space: &mut [u8], wanted: usize) -> io::Result<usize>
     requires { wanted ≤ length space.old }
-    ensures { IsPrefixLen result space.new }
+    ensures { ReadsAtMost result space.new }
 {
-    io::read_full(fd, &mut space[..wanted])
+    read_full(file, &mut space[..wanted])
 }
 
 // Puts a question. True where number, length and every byte of the slice are as recorded; the head states the first two.
@@ -49,112 +53,107 @@ fn is_as_recorded(
     if given.number != word_at(head, 1) || given.length != word_at(head, 2) as u64 {
         return false;
     }
-    check::same(recorded, out)
+    recorded == out
 }
 
 // Reads what a question is to give, and puts it.
-fn gives_recorded(fd: i32, question: u32, image: &[u8], ids: &[u8]) -> bool {
+fn gives_recorded(
+    file: &mut impl Read,
+    question: u32,
+    image: &[u8],
+    ids: &[u8],
+) -> io::Result<bool> {
     let mut head = [0u8; 12];
-    if io::read_full(fd, &mut head) < 12 {
-        return false;
+    if read_full(file, &mut head)? < 12 {
+        return Ok(false);
     }
     let room = word_at(&head, 0) as usize;
     if room > MOST {
-        return false;
+        return Ok(false);
     }
     let mut recorded = [0u8; MOST];
-    let n = read_part(fd, &mut recorded, room);
+    let n = read_part(file, &mut recorded, room)?;
     if n < room {
-        return false;
+        return Ok(false);
     }
     let mut out = untouched();
-    is_as_recorded(&head, &recorded[..n], question, image, ids, &mut out[..n])
+    Ok(is_as_recorded(&head, &recorded[..n], question, image, ids, &mut out[..n]))
 }
 
 // Reads the next question of the file and puts it.
-fn agrees(fd: i32, image: &[u8]) -> bool {
+fn agrees(file: &mut impl Read, image: &[u8]) -> io::Result<bool> {
     let mut head = [0u8; 8];
-    if io::read_full(fd, &mut head) < 8 {
-        return false;
+    if read_full(file, &mut head)? < 8 {
+        return Ok(false);
     }
     let count = word_at(&head, 1) as usize;
     if count > MOST_IDS {
-        return false;
+        return Ok(false);
     }
     let mut ids = [0u8; 8192];
-    let n = read_part(fd, &mut ids, 4 * count);
+    let n = read_part(file, &mut ids, 4 * count)?;
     if n < 4 * count {
-        return false;
+        return Ok(false);
     }
-    gives_recorded(fd, word_at(&head, 0), image, &ids[..n])
+    gives_recorded(file, word_at(&head, 0), image, &ids[..n])
 }
 
 // How many of the next `count` questions agree.
-fn agreeing(fd: i32, image: &[u8], count: u32) -> u32
-    ensures { result ≤ count }
+fn agreeing(file: &mut impl Read, image: &[u8], count: u32) -> io::Result<u32>
+    ensures { IfOk result (λ found. found ≤ count) }
 {
     let mut found: u32 = 0;
     let mut i: u32 = 0;
     while i < count {
-        if agrees(fd, image) {
+        if agrees(file, image)? {
             found += 1;
         }
         i += 1;
     }
-    found
+    Ok(found)
 }
 
-fn print_counts(agree: u32, differ: u32) {
-    io::write_all(STDOUT_FILENO, b" agree ");
-    io::print_decimal(STDOUT_FILENO, agree as u64);
-    io::write_all(STDOUT_FILENO, b" differ ");
-    io::print_decimal(STDOUT_FILENO, differ as u64);
-    io::write_all(STDOUT_FILENO, b"\n");
+fn print_counts(rt: &impl Print, agree: u32, differ: u32) -> io::Result<()> {
+    println!(rt; " agree {agree} differ {differ}")
 }
 
 // The counts of a file. False where it does not even hold its image.
-fn replay(fd: i32) -> bool {
+fn replay(rt: &impl Print, file: &mut impl Read) -> io::Result<bool> {
     let mut head = [0u8; 8];
-    if io::read_full(fd, &mut head) < 8 {
-        return false;
+    if read_full(file, &mut head)? < 8 {
+        return Ok(false);
     }
     let length = word_at(&head, 0) as usize;
     if length > MOST {
-        return false;
+        return Ok(false);
     }
     let mut image = [0u8; MOST];
-    let n = read_part(fd, &mut image, length);
+    let n = read_part(file, &mut image, length)?;
     if n < length {
-        return false;
+        return Ok(false);
     }
     let count = word_at(&head, 1);
-    let agree = agreeing(fd, &image[..n], count);
-    print_counts(agree, count - agree);
-    true
+    let agree = agreeing(file, &image[..n], count)?;
+    print_counts(rt, agree, count - agree)?;
+    Ok(true)
 }
 
-// The line of argument i. False where there is no such argument or no such file, or the file is cut short.
-fn print_line(i: usize) -> bool {
-    let mut name = io::buffer();
-    let length = os::arg(i, &mut name);
-    if os::errno() != 0 {
-        return false;
-    }
-    let fd = os::open_read(&name[..length]);
-    if fd < 0 {
-        os::fail(&name[..length]);
-        return false;
-    }
-    io::write_all(STDOUT_FILENO, &name[..length]);
-    let whole = replay(fd);
-    libc::close(fd);
-    whole
+// The line of argument i. False where there is no such argument, or the file is cut short.
+fn print_line<R: Env + Files + Print>(rt: &R, i: usize) -> io::Result<bool> {
+    let mut space = [0u8; 4096];
+    let Some(name) = argument(rt, i, &mut space)? else {
+        return Ok(false);
+    };
+    let mut file = fs::open(rt, name)?;
+    rt.print(name)?;
+    replay(rt, &mut file)
 }
 
-fn main() {
-    let count = os::arg_count();
-    let mut i = 1;
-    while i < count && print_line(i) {
-        i += 1;
+fn main(rt: HostRuntime) -> io::Result<()> {
+    for i in 1..usize::MAX {
+        if !print_line(&rt, i)? {
+            break;
+        }
     }
+    Ok(())
 }

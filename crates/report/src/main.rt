@@ -1,14 +1,15 @@
 // Prints the report of the image on standard input.
 #![tactic(auto)]
 
-use libc::STDIN_FILENO;
+use program_input::read_full;
 use report_lines::report;
+use std::io;
 
 // The most that is read. It is more than an image may have, so a longer input is still seen as too long.
 const MOST: usize = 60417;
 
-fn main() {
+fn main(rt: HostRuntime) -> io::Result<()> {
     let mut image = [0u8; MOST];
-    let n = io::read_full(STDIN_FILENO, &mut image);
-    report(&image[..n]);
+    let n = read_full(&mut rt.reader(), &mut image)?;
+    report(&rt, &image[..n]).written
 }

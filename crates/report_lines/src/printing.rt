@@ -16,7 +16,6 @@ use crate::counting::{allocation_too_long, local_too_long};
 use crate::lines::{
     allocation_line, block_line, local_line, order_line, refused_line, rounds_line,
 };
-use libc::STDOUT_FILENO;
 use plank_core::dense_index_set::list;
 use plank_core::index::{AllocId, BlockId, LocalId};
 use plank_core::rows::row_of;
@@ -28,18 +27,26 @@ use sir_analyses::stages::{
     LIVE, POINTERS, POSTORDER, VISIT, WORDS, alloc_sites, exits, is_visited, rpo,
 };
 use sir_data::records::{block_count, local_count};
+use std::io;
+
+// How printing an image went: the number that it is refused with, or 0, and whether the lines could be written.
+#[derive(Drop)]
+pub struct Printed {
+    pub number: u32,
+    pub written: io::Result<()>,
+}
 
 // Prints some bytes.
-fn say(text: &[u8]) {
-    io::write_all(STDOUT_FILENO, text);
+fn say(rt: &impl Print, text: &[u8]) -> io::Result<()> {
+    rt.write_all(text)
 }
 
 // The line of a refusal.
-fn say_refused(number: u32, line: &mut [u8])
+fn say_refused(rt: &impl Print, number: u32, line: &mut [u8]) -> io::Result<()>
     requires { 32 ≤ length line.old }
 {
     let n = refused_line(number, line);
-    say(&line[..n]);
+    say(rt, &line[..n])
 }
 
 // The line of the order of some words, from their visit.
@@ -52,12 +59,12 @@ fn order_text(words: &[u32], visit: &[u32], line: &mut [u8]) -> usize
 }
 
 // The blocks in order.
-fn say_order(words: &[u32], visit: &[u32], line: &mut [u8])
+fn say_order(rt: &impl Print, words: &[u32], visit: &[u32], line: &mut [u8]) -> io::Result<()>
     requires visit_stage { VisitStage words.now visit.now }
     requires in_bounds { 196608 ≤ length line.old }
 {
     let n = order_text(words, visit, line);
-    say(&line[..n]);
+    say(rt, &line[..n])
 }
 
 // The line of the rounds of some words, from their number.
@@ -69,11 +76,11 @@ fn rounds_text(words: &[u32], done: u32, line: &mut [u8]) -> usize
 }
 
 // The rounds of liveness.
-fn say_rounds(words: &[u32], done: u32, line: &mut [u8])
+fn say_rounds(rt: &impl Print, words: &[u32], done: u32, line: &mut [u8]) -> io::Result<()>
     requires { (done ≡ rounds words.now) × (196608 ≤ length line.old) }
 {
     let n = rounds_text(words, done, line);
-    say(&line[..n]);
+    say(rt, &line[..n])
 }
 
 // The line of block b, from the tables of liveness.
@@ -91,7 +98,13 @@ fn block_text(words: &[u32], live: &[u64], b: BlockId, line: &mut [u8]) -> usize
 }
 
 // The visited blocks, by id.
-fn say_blocks(words: &[u32], visit: &[u32], live: &[u64], line: &mut [u8])
+fn say_blocks(
+    rt: &impl Print,
+    words: &[u32],
+    visit: &[u32],
+    live: &[u64],
+    line: &mut [u8],
+) -> io::Result<()>
     requires visit_stage { VisitStage words.now visit.now }
     requires liveness_stage { LivenessStage words.now live.now × (196608 ≤ length line.old) }
 {
@@ -100,10 +113,11 @@ fn say_blocks(words: &[u32], visit: &[u32], live: &[u64], line: &mut [u8])
     while b < count {
         if is_visited(visit, BlockId(b)) {
             let n = block_text(words, live, BlockId(b), line);
-            say(&line[..n]);
+            say(rt, &line[..n])?;
         }
         b += 1;
     }
+    Ok(())
 }
 
 // The line of local v; nothing where it has no interval.
@@ -130,7 +144,14 @@ fn local_text(
 }
 
 // The locals that have intervals, by id.
-fn say_locals(words: &[u32], visit: &[u32], live: &[u64], out: &mut [u8], line: &mut [u8])
+fn say_locals(
+    rt: &impl Print,
+    words: &[u32],
+    visit: &[u32],
+    live: &[u64],
+    out: &mut [u8],
+    line: &mut [u8],
+) -> io::Result<()>
     requires visit_stage { VisitStage words.now visit.now }
     requires liveness_stage { LivenessStage words.now live.now × (local_too_long words.now ≡ false) }
     requires out_len { (length out.old ≡ 65536) × (196608 ≤ length line.old) }
@@ -139,9 +160,10 @@ fn say_locals(words: &[u32], visit: &[u32], live: &[u64], out: &mut [u8], line: 
     let mut v: u32 = 0;
     while v < count {
         let n = local_text(words, visit, live, LocalId(v), out, line);
-        say(&line[..n]);
+        say(rt, &line[..n])?;
         v += 1;
     }
+    Ok(())
 }
 
 // The line of allocation a, from its record.
@@ -162,13 +184,14 @@ fn allocation_text(
 
 // The allocations, in the order's sequence.
 fn say_allocations(
+    rt: &impl Print,
     words: &[u32],
     visit: &[u32],
     live: &[u64],
     pointers: &[u32],
     out: &mut [u8],
     line: &mut [u8],
-)
+) -> io::Result<()>
     requires visit_stage { VisitStage words.now visit.now }
     requires liveness_stage { LivenessStage words.now live.now }
     requires pointer_stage { PointerStage words.now pointers.now × (allocation_too_long words.now ≡ false) }
@@ -180,52 +203,85 @@ fn say_allocations(
         let r = allocation_answer(words, visit, live, pointers, AllocId(a as u32), out);
         let end = r.length as usize;
         let n = allocation_text(words, visit, AllocId(a as u32), &out[..end], line);
-        say(&line[..n]);
+        say(rt, &line[..n])?;
         a += 1;
     }
+    Ok(())
+}
+
+// All lines of words whose tables are at hand, where no answer is too long.
+fn say_lines(
+    rt: &impl Print,
+    words: &[u32],
+    visit: &[u32],
+    live: &[u64],
+    pointers: &[u32],
+    done: u32,
+    out: &mut [u8],
+    line: &mut [u8],
+) -> io::Result<()>
+    requires visit_stage { VisitStage words.now visit.now }
+    requires liveness_stage { LivenessStage words.now live.now × (local_too_long words.now ≡ false) }
+    requires pointer_stage { PointerStage words.now pointers.now × (allocation_too_long words.now ≡ false) × (done ≡ rounds words.now) }
+    requires out_len { (length out.old ≡ 65536) × (196608 ≤ length line.old) }
+{
+    say_order(rt, words, visit, line)?;
+    say_rounds(rt, words, done, line)?;
+    say_blocks(rt, words, visit, live, line)?;
+    say_locals(rt, words, visit, live, out, line)?;
+    say_allocations(rt, words, visit, live, pointers, out, line)
 }
 
 // The report of words whose tables are at hand: 14 where an answer is too long.
-fn report_tables(words: &[u32], visit: &[u32], live: &[u64], pointers: &[u32], done: u32) -> u32
+fn report_tables(
+    rt: &impl Print,
+    words: &[u32],
+    visit: &[u32],
+    live: &[u64],
+    pointers: &[u32],
+    done: u32,
+) -> Printed
     requires visit_stage { VisitStage words.now visit.now }
     requires liveness_stage { LivenessStage words.now live.now }
     requires pointer_stage { PointerStage words.now pointers.now × (done ≡ rounds words.now) × (length (order_answer words.now) ≤ 384) }
-    ensures { result ≡ cond (some_too_long words.now) 14 0 }
+    ensures { result.number ≡ cond (some_too_long words.now) 14 0 }
 {
     let mut out = [0u8; 65536];
     let mut line = [0u8; 196608];
     if local_too_long(words, visit, live) {
-        say_refused(14, &mut line);
-        return 14;
+        let written = say_refused(rt, 14, &mut line);
+        return Printed {
+            number: 14,
+            written,
+        };
     }
     if allocation_too_long(words, visit, live, pointers, &mut out) {
-        say_refused(14, &mut line);
-        return 14;
+        let written = say_refused(rt, 14, &mut line);
+        return Printed {
+            number: 14,
+            written,
+        };
     }
-    say_order(words, visit, &mut line);
-    say_rounds(words, done, &mut line);
-    say_blocks(words, visit, live, &mut line);
-    say_locals(words, visit, live, &mut out, &mut line);
-    say_allocations(words, visit, live, pointers, &mut out, &mut line);
-    0
+    let written = say_lines(rt, words, visit, live, pointers, done, &mut out, &mut line);
+    Printed { number: 0, written }
 }
 
 // The report of an accepted image's words: its analyses, each run once, then the lines.
-fn report_words(words: &[u32], visit: &[u32], sites: &[u32]) -> u32
+fn report_words(rt: &impl Print, words: &[u32], visit: &[u32], sites: &[u32]) -> Printed
     requires visit_stage { VisitStage words.now visit.now }
     requires accepted_stage { AcceptedStage words.now sites.now × (length (order_answer words.now) ≤ 384) }
-    ensures { result ≡ cond (some_too_long words.now) 14 0 }
+    ensures { result.number ≡ cond (some_too_long words.now) 14 0 }
 {
     let mut live = [0u64; LIVE];
     let done = compute_liveness(words, visit, &mut live);
     let mut pointers = [0u32; POINTERS];
     compute_pointers(words, visit, sites, &mut pointers);
-    report_tables(words, visit, &live, &pointers, done)
+    report_tables(rt, words, visit, &live, &pointers, done)
 }
 
-// Prints the report of an image. The number that it is refused with, or 0.
-pub fn report(image: &[u8]) -> u32
-    ensures { result ≡ reported image.now }
+// Prints the report of an image.
+pub fn report(rt: &impl Print, image: &[u8]) -> Printed
+    ensures { result.number ≡ reported image.now }
 {
     let mut words = [0u32; WORDS];
     let mut postorder = [0u32; POSTORDER];
@@ -234,10 +290,10 @@ pub fn report(image: &[u8]) -> u32
     let sizes = load(image, &mut words, &mut postorder, &mut visit, &mut sites);
     let number = sizes.number;
     if number != 0 {
-        say_refused(number, &mut [0u8; 32]);
-        return number;
+        let written = say_refused(rt, number, &mut [0u8; 32]);
+        return Printed { number, written };
     }
     let n = sizes.words;
     let allocations = sizes.allocations;
-    report_words(&words[..n], &visit, &sites[..allocations])
+    report_words(rt, &words[..n], &visit, &sites[..allocations])
 }

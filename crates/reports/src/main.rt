@@ -1,41 +1,39 @@
 // Prints the name and the report of each image that its arguments name.
 #![tactic(auto)]
 
-use libc::STDOUT_FILENO;
+use program_input::{argument, read_full};
 use report_lines::report;
+use std::env::Env;
+use std::fs::Files;
+use std::io::Read;
+use std::{fs, io};
 
 // The most that is read of a file. It is more than an image may have, so a longer file is still seen as too long.
 const MOST: usize = 60417;
 
-fn report_file(fd: i32) {
+fn report_file(rt: &impl Print, file: &mut impl Read) -> io::Result<()> {
     let mut image = [0u8; MOST];
-    let n = io::read_full(fd, &mut image);
-    report(&image[..n]);
+    let n = read_full(file, &mut image)?;
+    report(rt, &image[..n]).written
 }
 
-// The report of argument i. False where there is no such argument, or no such file.
-fn report_argument(i: usize) -> bool {
-    let mut name = io::buffer();
-    let length = os::arg(i, &mut name);
-    if os::errno() != 0 {
-        return false;
-    }
-    let fd = os::open_read(&name[..length]);
-    if fd < 0 {
-        os::fail(&name[..length]);
-        return false;
-    }
-    io::write_all(STDOUT_FILENO, &name[..length]);
-    io::write_all(STDOUT_FILENO, b"\n");
-    report_file(fd);
-    libc::close(fd);
-    true
+// The report of argument i. False where there is no such argument.
+fn report_argument<R: Env + Files + Print>(rt: &R, i: usize) -> io::Result<bool> {
+    let mut space = [0u8; 4096];
+    let Some(name) = argument(rt, i, &mut space)? else {
+        return Ok(false);
+    };
+    let mut file = fs::open(rt, name)?;
+    rt.println(name)?;
+    report_file(rt, &mut file)?;
+    Ok(true)
 }
 
-fn main() {
-    let count = os::arg_count();
-    let mut i = 1;
-    while i < count && report_argument(i) {
-        i += 1;
+fn main(rt: HostRuntime) -> io::Result<()> {
+    for i in 1..usize::MAX {
+        if !report_argument(&rt, i)? {
+            break;
+        }
     }
+    Ok(())
 }

@@ -3,45 +3,45 @@
 
 ghost use Rattle.std.specs.Prelude.{◌≡◌, ◌+◌, ◌*◌, ◌≤◌, ◌<◌, length};
 
-use libc::STDOUT_FILENO;
 use plank_core::dense_index_set::{DenseIndexSet, intersects, is_empty, list};
 use plank_core::rows::{
     row_add, row_contains, row_difference_with, row_of, row_remove, row_union_with,
 };
+use std::io;
 
-fn say(text: &[u8]) {
-    io::write_all(STDOUT_FILENO, text);
+fn say(rt: &impl Print, text: &[u8]) -> io::Result<()> {
+    rt.write_all(text)
 }
 
-fn say_ids(ids: &[u32], n: usize)
+fn say_ids(rt: &impl Print, ids: &[u32], n: usize) -> io::Result<()>
     requires { n ≤ length ids.now }
 {
     let mut k: usize = 0;
     while k < n {
-        say(b" ");
-        io::print_decimal(STDOUT_FILENO, ids[k] as u64);
+        say(rt, b" ")?;
+        rt.print(ids[k])?;
         k += 1;
     }
-    say(b"\n");
+    say(rt, b"\n")
 }
 
-fn say_if(name: &[u8], holds: bool) {
-    say(name);
+fn say_if(rt: &impl Print, name: &[u8], holds: bool) -> io::Result<()> {
+    say(rt, name)?;
     if holds {
-        say(b" yes\n");
+        say(rt, b" yes\n")
     } else {
-        say(b" no\n");
+        say(rt, b" no\n")
     }
 }
 
 // A name and the members.
-fn show(name: &[u8], set: &[u64])
+fn show(rt: &impl Print, name: &[u8], set: &[u64]) -> io::Result<()>
     requires { length set.now ≡ 8 }
 {
-    say(name);
+    say(rt, name)?;
     let mut ids = [0u32; 512];
     let n = list(set, &mut ids);
-    say_ids(&ids, n);
+    say_ids(rt, &ids, n)
 }
 
 fn empty() -> DenseIndexSet {
@@ -74,91 +74,102 @@ fn limits() -> DenseIndexSet {
     with(with(with(with(empty(), 511), 64), 0), 63)
 }
 
-fn show_sets() {
+fn show_sets(rt: &impl Print) -> io::Result<()> {
     let mut set = [0u64; 8];
-    show(b"empty", &set);
+    show(rt, b"empty", &set)?;
     let ends = limits();
-    show(b"limits", &ends.words);
+    show(rt, b"limits", &ends.words)?;
     let full = below(512);
     row_union_with(&mut set, 0, &full.words);
     let low = below(508);
     row_difference_with(&mut set, 0, &low.words);
-    show(b"full without those below 508", &set);
+    show(rt, b"full without those below 508", &set)?;
     let grew = row_union_with(&mut set, 0, &ends.words);
-    show(b"with the limits", &set);
-    say_if(b"grew", grew);
+    show(rt, b"with the limits", &set)?;
+    say_if(rt, b"grew", grew)?;
     let again = row_union_with(&mut set, 0, &ends.words);
-    say_if(b"grew again", again);
+    say_if(rt, b"grew again", again)?;
     row_remove(&mut set, 0, 63);
-    show(b"without 63", &set);
+    show(rt, b"without 63", &set)
 }
 
-fn ask_sets() {
+fn ask_sets(rt: &impl Print) -> io::Result<()> {
     let none = empty();
     let ends = limits();
-    say_if(b"empty is empty", is_empty(&none.words));
-    say_if(b"limits is empty", is_empty(&ends.words));
+    say_if(rt, b"empty is empty", is_empty(&none.words))?;
+    say_if(rt, b"limits is empty", is_empty(&ends.words))?;
     let last = with(none, 511);
     say_if(
+        rt,
         b"511 alone meets limits",
         intersects(&last.words, &ends.words),
-    );
+    )?;
     let near = with(with(with(none, 1), 62), 510);
     say_if(
+        rt,
         b"1 62 510 meets limits",
         intersects(&near.words, &ends.words),
-    );
-    say_if(b"511 is in limits", row_contains(&ends.words, 0, 511));
-    say_if(b"1 is in limits", row_contains(&ends.words, 0, 1));
+    )?;
+    say_if(rt, b"511 is in limits", row_contains(&ends.words, 0, 511))?;
+    say_if(rt, b"1 is in limits", row_contains(&ends.words, 0, 1))
 }
 
 // A set that is filled and emptied again.
-fn change_set() {
+fn change_set(rt: &impl Print) -> io::Result<()> {
     let mut set = [0u64; 8];
     let full = below(512);
     row_union_with(&mut set, 0, &full.words);
-    say_if(b"511 is new in full", row_add(&mut set, 0, 511));
+    say_if(rt, b"511 is new in full", row_add(&mut set, 0, 511))?;
     row_difference_with(&mut set, 0, &full.words);
-    say_if(b"full without full is empty", is_empty(&set));
-    say_if(b"511 is new in empty", row_add(&mut set, 0, 511));
-    say_if(b"511 was there", row_remove(&mut set, 0, 511));
-    say_if(b"511 was there again", row_remove(&mut set, 0, 511));
+    say_if(rt, b"full without full is empty", is_empty(&set))?;
+    say_if(rt, b"511 is new in empty", row_add(&mut set, 0, 511))?;
+    say_if(rt, b"511 was there", row_remove(&mut set, 0, 511))?;
+    say_if(rt, b"511 was there again", row_remove(&mut set, 0, 511))
 }
 
-fn show_row(name: &[u8], table: &[u64], row: usize)
+fn show_row(rt: &impl Print, name: &[u8], table: &[u64], row: usize) -> io::Result<()>
     requires { 8 * row + 8 ≤ length table.now }
 {
-    show(name, row_of(table, row));
+    show(rt, name, row_of(table, row))
 }
 
 // Three rows, the middle one changed at its ends: its neighbours stay.
-fn show_rows() {
+fn show_rows(rt: &impl Print) -> io::Result<()> {
     let mut table = [0u64; 24];
     row_add(&mut table, 0, 511);
     row_add(&mut table, 2, 0);
-    say_if(b"0 is new in row 1", row_add(&mut table, 1, 0));
-    say_if(b"511 is new in row 1", row_add(&mut table, 1, 511));
-    say_if(b"511 is new in row 1 again", row_add(&mut table, 1, 511));
-    let ends = limits();
-    say_if(b"row 1 grew", row_union_with(&mut table, 1, &ends.words));
+    say_if(rt, b"0 is new in row 1", row_add(&mut table, 1, 0))?;
+    say_if(rt, b"511 is new in row 1", row_add(&mut table, 1, 511))?;
     say_if(
+        rt,
+        b"511 is new in row 1 again",
+        row_add(&mut table, 1, 511),
+    )?;
+    let ends = limits();
+    say_if(
+        rt,
+        b"row 1 grew",
+        row_union_with(&mut table, 1, &ends.words),
+    )?;
+    say_if(
+        rt,
         b"row 1 grew again",
         row_union_with(&mut table, 1, &ends.words),
-    );
-    show_row(b"row 0", &table, 0);
-    show_row(b"row 1", &table, 1);
-    show_row(b"row 2", &table, 2);
-    say_if(b"511 was in row 1", row_remove(&mut table, 1, 511));
+    )?;
+    show_row(rt, b"row 0", &table, 0)?;
+    show_row(rt, b"row 1", &table, 1)?;
+    show_row(rt, b"row 2", &table, 2)?;
+    say_if(rt, b"511 was in row 1", row_remove(&mut table, 1, 511))?;
     let low = below(64);
     row_difference_with(&mut table, 1, &low.words);
-    show_row(b"row 0", &table, 0);
-    show_row(b"row 1", &table, 1);
-    show_row(b"row 2", &table, 2);
+    show_row(rt, b"row 0", &table, 0)?;
+    show_row(rt, b"row 1", &table, 1)?;
+    show_row(rt, b"row 2", &table, 2)
 }
 
-fn main() {
-    show_sets();
-    ask_sets();
-    change_set();
-    show_rows();
+fn main(rt: HostRuntime) -> io::Result<()> {
+    show_sets(&rt)?;
+    ask_sets(&rt)?;
+    change_set(&rt)?;
+    show_rows(&rt)
 }
