@@ -14,10 +14,8 @@ pub fn len(set: &[u64]) -> usize
     ensures { result ≡ length (members set.now) }
 {
     let mut n: usize = 0;
-    let mut k: usize = 0;
-    while k < 8 {
-        n += u64::count_ones(set[k]) as usize;
-        k += 1;
+    for word in set {
+        n += word.count_ones() as usize;
     }
     n
 }
@@ -26,14 +24,7 @@ pub fn is_empty(set: &[u64]) -> bool
     requires { length set.now ≡ 8 }
     ensures { result ≡ is_empty set.now }
 {
-    let mut k: usize = 0;
-    while k < 8 {
-        if set[k] != 0 {
-            return false;
-        }
-        k += 1;
-    }
-    true
+    set.iter().all(|word| *word == 0)
 }
 
 // Whether two sets have a member in common.
@@ -41,34 +32,22 @@ pub fn intersects<'a>(set: &'a [u64], other: &'a [u64]) -> bool
     requires { (length set.now ≡ 8) × (length other.now ≡ 8) }
     ensures { result ≡ meets set.now other.now }
 {
-    let mut k: usize = 0;
-    while k < 8 {
-        if set[k] & other[k] != 0 {
-            return true;
-        }
-        k += 1;
-    }
-    false
+    set.iter().zip(other).any(|(a, b)| *a & *b != 0)
 }
 
 // The walk: the members, ascending, to the front of `out`, and how many. Each is its word's lowest one, which is then cleared.
-// A word's number is counted in eight bits; 64 times it can need nine, so it is widened first.
 pub fn list(set: &[u64], out: &mut [u32]) -> usize
     requires { (length set.now ≡ 8) × (512 ≤ length out.old) }
     ensures { (result ≡ length (members set.now)) × (out.new ≡ members set.now ++ drop result out.old) }
 {
     let mut n: usize = 0;
-    let mut at: u8 = 0;
-    while at < 8 {
-        let word = at as usize;
-        let base = (64 * word) as u32;
-        let mut w = set[word];
+    for at in 0..8u32 {
+        let mut w = set[at as usize];
         while w != 0 {
-            out[n] = base + u64::trailing_zeros(w);
+            out[n] = 64 * at + w.trailing_zeros();
             n += 1;
-            w = w & (w - 1);
+            w &= w - 1;
         }
-        at += 1;
     }
     n
 }

@@ -50,8 +50,7 @@ pub fn row_union_with(table: &mut [u64], row: usize, set: &[u64]) -> bool
     ensures { (result ≡ grows table.old row set.now) × (table.new ≡ row_union table.old row set.now) }
 {
     let mut grew = false;
-    let mut k: usize = 0;
-    while k < 8 {
+    for k in 0..8 {
         let at = 8 * row + k;
         let old = table[at];
         let new = old | set[k];
@@ -59,7 +58,6 @@ pub fn row_union_with(table: &mut [u64], row: usize, set: &[u64]) -> bool
         if new != old {
             grew = true;
         }
-        k += 1;
     }
     grew
 }
@@ -69,10 +67,7 @@ pub fn row_difference_with(table: &mut [u64], row: usize, set: &[u64])
     requires { (8 * row + 8 ≤ length table.old) × (length set.now ≡ 8) }
     ensures { table.new ≡ row_difference table.old row set.now }
 {
-    let mut k: usize = 0;
-    while k < 8 {
-        let word = 8 * row + k;
-        table[word] = table[word] & !set[k];
-        k += 1;
+    for k in 0..8 {
+        table[8 * row + k] &= !set[k];
     }
 }

@@ -17,12 +17,9 @@ pub fn put_text(line: &mut [u8], at: usize, text: &[u8]) -> usize
     requires { at + length text.now ≤ length line.old }
     ensures { Put text.now at line.old line.new result }
 {
-    let mut k: usize = 0;
-    while k < text.len() {
-        line[at + k] = text[k];
-        k += 1;
-    }
-    at + k
+    let end = at + text.len();
+    line[at..end].copy_from_slice(text);
+    end
 }
 
 // The decimal digits of a number.

@@ -1,7 +1,7 @@
 -- Laws of sets and of tables of sets: what each contains after an operation, other rows untouched, whether a row grows.
 use Rattle.std.specs.Prelude.{◌≡◌, Bool, not, ◌&&◌, ◌||◌, List, length, set, drop, replicate}
 use Rattle.std.proofs.Math.Path.{refl}
-use Rattle.std.proofs.Common.{sym, ap, ap₂, ◌∙◌, ⊎_elim, pos_of_ne-zero, le_refl, add-one, get_or-set_same, ext_get_or}
+use Rattle.std.proofs.Common.{MatchBool, sym, ap, ap₂, ◌∙◌, ⊎_elim, pos_of_ne-zero, le_refl, add-one, get_or-set_same, ext_get_or}
 use Rattle.std.proofs.Math.Bool.{true, false, cond, or-false, or_comm, and_comm}
 use Prim.Native.Nat.{ℕ, zero, suc, ◌+◌, ◌-◌, ◌*◌, ◌/◌, ◌%◌, ◌^◌, ◌≤◌, ◌<◌}
 use native.Mathlib.Omega.{arith}
@@ -13,6 +13,7 @@ use Rattle.std.proofs.lemmas.Nat.{or_lt, and_le_l}
 use Rattle.std.proofs.Math.Pow.{pow-lt}
 use Rattle.std.specs.Int.Count.{count_trailing_zeros}
 use borrow.Author.Tests.{eq-eqb, ne_eqb, eqb-true, eqb-false, not-true, not-false}
+use Rattle.std.specs.List.{AllWithin, HoldsAt}
 use Rattle.plank_core.specs.Lists.{upto, any}
 use Rattle.plank_core.specs.inner.DenseIndexSet.{bit, contains, word_of, set_of, empty_set, added, removed, in_row, row_union, row_difference, grows, row_of, is_empty}
 use Rattle.plank_core.specs.laws.Lists.{split, bool_or, any_some, any_none, any_find, any_not}
@@ -240,6 +241,16 @@ some_of p f j sh i l z =
     let q : 0 < f j = pos_of_ne-zero z in
     let t : count_trailing_zeros 64 (f j) < 64 = tz_lt 64 64 (f j) q l (le_refl 64) in
     any_some p 0 512 (64 * j + count_trailing_zeros 64 (f j)) (omega arith) (omega arith) (sh j (count_trailing_zeros 64 (f j)) t ∙ tz_set 64 (f j) q l)
+
+-- whether some of the eight words is not 0, as a test of each item answers it, and whether all are 0
+module _ {A : Type 0} (p : ℕ → Bool) (f : ℕ → ℕ) (sh : Shows p f) (fit : (j : ℕ) → f j < 2 ^ 64) (xs : List A) (d : A) (long : length xs ≡ 8) (v : A → ℕ) (same : (k : ℕ) → k < 8 → v (get_or xs k d) ≡ f k) where
+  pub some_word : (r : Bool) → MatchBool r ((k : ℕ) × (k < length xs) × HoldsAt (λ x. v x ≡ 0 → ⊥) xs k) (AllWithin (λ x. v x ≡ 0) xs 0 (length xs)) → r ≡ any p (upto 512)
+  some_word true m = let h : m.0 < 8 = omega (arith, m.1) in sym (some_of p f m.0 sh h (fit m.0) (λ e. m.2 d (same m.0 h ∙ e)))
+  some_word false z = sym (none_of p f sh (λ j h. sym (same j h) ∙ z j d (omega arith) (omega arith)))
+
+  pub no_word : (r : Bool) → MatchBool r (AllWithin (λ x. v x ≡ 0) xs 0 (length xs)) ((k : ℕ) × (k < length xs) × HoldsAt (λ x. v x ≡ 0 → ⊥) xs k) → r ≡ not (any p (upto 512))
+  no_word true z = ap not (some_word false z)
+  no_word false m = ap not (some_word true m)
 
 pub shows_contains : (s : List ℕ) → Shows (contains s) (λ j. get_or s j 0)
 unfolding contains

@@ -1,6 +1,8 @@
 -- Laws of putting texts into a line, one after the other.
 use Rattle.std.specs.Prelude.{◌≡◌, refl, List, [], ◌∷◌, ◌++◌, ℕ, ◌+◌, ◌≤◌, ◌<◌, length, get_or, take, set}
 use Rattle.std.proofs.Common.{sym, ap, ◌∙◌, append_assoc, append-nil, arith, add-one, length-append, length-set, take-suc, take-suc-set, take_all}
+use borrow.Rule.Slice.PartMut.{mid_of, put_mid, same_len_mid}
+use Rattle.std.proofs.lemmas.Slice.{take-put_mid}
 use Rattle.plank_core.specs.Lists.{bind, upto}
 use Rattle.plank_core.specs.laws.Loops.{bind_snoc, upto_more}
 use Rattle.plank_core.specs.inner.Putting.{Put}
@@ -19,36 +21,16 @@ put_then {xs} {ys} {at} {m} {r} {old} {mid} {new} a b = record {
   fits = omega (arith, b.fits, a.long);
 }
 
--- ---- byte by byte: the first k of a text are put
-
-pub record Copied (text : List ℕ) (at k : ℕ) (old new : List ℕ) : Type 0 where
-  pub some : k ≤ length text
-  pub list : take (at + k) new ≡ take at old ++ take k text
-  pub long : length new ≡ length old
-
-module _ (text : List ℕ) (at : ℕ) (old : List ℕ) where
-  pub copied_none : Copied text at 0 old old
-  copied_none = let e : at + 0 ≡ at = omega arith in record { some = omega arith; list = rw e (sym (append-nil (take at old))); long = refl }
-
-  pub copied_more : {k : ℕ} {new : List ℕ} → at + length text ≤ length old → k < length text → Copied text at k old new → Copied text at (k + 1) old (set new (at + k) (get_or text k 0))
-  copied_more {k} {new} h l c =
-      let e : at + (k + 1) ≡ at + k + 1 = omega arith in
-      record {
-        some = omega arith;
-        list = ap (λ (i : ℕ). take i (set new (at + k) (get_or text k 0))) (e ∙ add-one (at + k)) ∙ take-suc-set new (at + k) (get_or text k 0) (omega (arith, c.long))
-            ∙ ap (λ (l : List ℕ). l ++ (get_or text k 0 ∷ [])) c.list ∙ append_assoc (take at old) (take k text) (get_or text k 0 ∷ [])
-            ∙ ap (λ (l : List ℕ). take at old ++ l) (sym (ap (λ (i : ℕ). take i text) (add-one k) ∙ take-suc text k 0 l));
-        long = length-set new (at + k) (get_or text k 0) ∙ c.long;
-      }
-
-  pub copied_all : {k : ℕ} {new : List ℕ} → at + length text ≤ length old → length text ≤ k → Copied text at k old new → Put text at old new (at + k)
-  copied_all {k} {new} h l c =
-      record {
-        next = omega (arith, c.some);
-        list = c.list ∙ ap (λ (x : List ℕ). take at old ++ x) (take_all k text l);
-        long = c.long;
-        fits = omega (arith, c.some);
-      }
+-- a part of the line that holds the text now
+pub put_part : (text : List ℕ) (at k : ℕ) (old part : List ℕ) → at + length text ≤ length old → length part ≡ length (mid_of at k old) → part ≡ text → Put text at old (put_mid at k old part) (at + length text)
+put_part text at k old part h e f =
+    let l : length part ≡ length text = ap length f in
+    record {
+      next = refl;
+      list = take-put_mid at k old part (at + length text) (ap (λ (n : ℕ). at + n) (sym l)) (omega arith) ∙ ap (λ (x : List ℕ). take at old ++ x) f;
+      long = same_len_mid at k old part e;
+      fits = h;
+    }
 
 -- one byte
 pub put_one : (x at : ℕ) (old : List ℕ) → at < length old → Put (x ∷ []) at old (set old at x) (at + 1)

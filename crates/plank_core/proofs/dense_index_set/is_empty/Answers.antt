@@ -1,26 +1,16 @@
--- `is_empty` meets its contract. The invariant: the words so far are 0.
-use mathlib.Core.Path.{◌≡◌, sym, ap}
-use mathlib.Core.Bool.{not}
+-- `is_empty` meets its contract.
+use mathlib.Core.Path.{◌≡◌, refl}
 use lib.ListN.{get_or}
+use borrow.Author.Tests.{tests}
+use Rattle.std.proofs.Common.{rules}
+use Rattle.std.proofs.lemmas.Iterator.{cases_from_all, YieldsList-from_slice}
 use Rattle.plank_core.specs.inner.DenseIndexSet.{contains, is_empty}
-use Rattle.plank_core.specs.laws.Lists.{below_next}
-use Rattle.plank_core.specs.laws.DenseIndexSet.{none_of, some_of, shows_contains}
-use native.Mathlib.Omega.{arith}
+use Rattle.plank_core.specs.laws.DenseIndexSet.{no_word, shows_contains}
 use Rattle.plank_core.proofs.dense_index_set.is_empty.Goals as goal
-
-pub loop-k-init : goal.loop-k-init
-loop-k-init c = (omega arith, λ j h. absurd (omega arith))
-
-pub returns-then-set-k-ne0 : goal.returns-then-set-k-ne0
-unfolding is_empty
-returns-then-set-k-ne0 c = let s = c.args.set.now in
-    let k = c.loop-k.k in
-    sym (ap not (some_of (contains s) (λ j. get_or s j 0) k (shows_contains s) (omega arith) (c.type_inv.set k).fits c.if-set-k-ne0.true))
-
-pub loop-k-preserved : goal.loop-k-preserved
-loop-k-preserved c = (omega arith, below_next (λ j. get_or c.args.set.now j 0 ≡ 0) c.loop-k.k c.loop-k.invariant.1 c.if-set-k-ne0.false)
 
 pub returns : goal.returns
 unfolding is_empty
-returns c = let s = c.args.set.now in
-    sym (ap not (none_of (contains s) (λ j. get_or s j 0) (shows_contains s) (λ j h. c.loop-k.invariant.1 j (omega arith))))
+returns c =
+    let s = c.args.set.now in
+    let cases = cases_from_all _ _ c.all.result (λ w. w ≡ 0) (λ w. w ≡ 0 → ⊥) c.all.ensures.ran (YieldsList-from_slice s cc) (λ x q k. search (rules, tests)) (λ x q k. search (rules, tests)) in
+    no_word (contains s) (λ j. get_or s j 0) (shows_contains s) (λ j. (c.type_inv.set j).fits) s 0 c.requires (λ w. w) (λ k h. refl) c.all.result cases

@@ -7,23 +7,23 @@ use lib.Count.{ones-le}
 use Rattle.plank_core.specs.laws.Members.{from, from_start, from_end, from_length, members_most}
 use Rattle.plank_core.proofs.dense_index_set.len.Goals as goal
 
-pub loop-k-init : goal.loop-k-init
-loop-k-init c = (omega arith, zero-add _ ∙ ap length (from_start _))
+pub loop-word-init : goal.loop-word-init
+loop-word-init c = (omega arith, zero-add _ ∙ ap length (from_start _))
 
 pub overflow_cast-n : goal.overflow_cast-n
-overflow_cast-n c = omega (arith, ones-le 64 _ (c.type_inv.set c.loop-k.k).fits)
+overflow_cast-n c = omega (arith, ones-le 64 _ (c.type_inv.set c.loop-word.word-index).fits)
 
 pub overflow_add-n : goal.overflow_add-n
-overflow_add-n c = let l = c.loop-k in omega (arith, members_most c.args.set.now, l.invariant.1, ones-le 64 _ (c.type_inv.set l.k).fits)
+overflow_add-n c = let l = c.loop-word in omega (arith, members_most c.args.set.now, l.invariant.1, ones-le 64 _ (c.type_inv.set l.word-index).fits)
 
-pub loop-k-preserved : goal.loop-k-preserved
-loop-k-preserved c =
-    let l = c.loop-k in
-    (omega arith, omega (arith, l.invariant.1, from_length c.args.set.now l.k c.loop-k-test.true (c.type_inv.set l.k).fits))
+pub loop-word-preserved : goal.loop-word-preserved
+loop-word-preserved c =
+    let l = c.loop-word in
+    (omega arith, omega (arith, l.invariant.1, from_length c.args.set.now l.word-index (omega arith) (c.type_inv.set l.word-index).fits))
 
 pub returns : goal.returns
 returns c =
-    let l = c.loop-k in
-    let e : l.k ≡ 8 = omega arith in
+    let l = c.loop-word in
+    let e : l.word-index ≡ 8 = omega arith in
     let none = ap length (ap (from c.args.set.now) e ∙ from_end c.args.set.now) in
     omega (arith, l.invariant.1, none)

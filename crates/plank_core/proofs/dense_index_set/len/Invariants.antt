@@ -6,8 +6,5 @@ use Rattle.plank_core.specs.inner.DenseIndexSet.{members}
 use Rattle.plank_core.specs.laws.Members.{from}
 use Rattle.plank_core.proofs.dense_index_set.len.Given as goal
 
-abbrev pub invariant-loop-k : goal.invariant-loop-k
-invariant-loop-k l = (l.k ≤ 8) × (l.n + length (from l.set l.k) ≡ length (members l.set))
-
-abbrev pub decreases-loop-k : goal.decreases-loop-k
-decreases-loop-k l = 8 - l.k
+abbrev pub invariant-loop-word : goal.invariant-loop-word
+invariant-loop-word l = (l.word-index ≤ 8) × (l.n + length (from l.set l.word-index) ≡ length (members l.set))

@@ -13,5 +13,3 @@ decreases-loop-w l = l.w
 abbrev pub invariant-loop-at : goal.invariant-loop-at
 invariant-loop-at l = (l.at ≤ 8) × (l.n ≤ 512) × Walked l.set l.initial.out l.out l.n (from l.set l.at)
 
-abbrev pub decreases-loop-at : goal.decreases-loop-at
-decreases-loop-at l = 8 - l.at

@@ -8,5 +8,3 @@ use Rattle.plank_core.proofs.rows.row_difference_with.Given as goal
 abbrev pub invariant-loop-k : goal.invariant-loop-k
 invariant-loop-k l = (l.k ≤ 8) × (length l.table ≡ length l.initial.table) × (l.table ≡ row_to minus l.k l.initial.table l.row l.set) × (0 < l.k → Fit l.initial.table × Fit l.set)
 
-abbrev pub decreases-loop-k : goal.decreases-loop-k
-decreases-loop-k l = 8 - l.k
