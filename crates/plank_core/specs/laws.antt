@@ -8,4 +8,5 @@ pub mod Distinct
 pub mod Prefixes
 pub mod Folds
 pub mod Putting
+pub mod Ranges
 pub mod Text

@@ -6,12 +6,12 @@ ghost use Rattle.sir_data.specs.Rules.{zero_from, block_fields_ok, range_ok, opt
 ghost use Rattle.sir_data.specs.inner.WellFormed.{Sized, InRange};
 
 use crate::bounds::{optional_below, range_ok};
+use crate::giver_rules::all_new;
 use crate::records::{
     block_count, block_word, local_count, operand_count, operation_count, target_count,
 };
 use crate::view::{inputs, outputs, successor, successor_count};
 use plank_core::index::BlockId;
-use plank_core::rows::row_add;
 
 // Are the control fields of a block 0 from field k on?
 fn zero_from(words: &[u32], b: BlockId, k: usize) -> bool
@@ -20,14 +20,7 @@ fn zero_from(words: &[u32], b: BlockId, k: usize) -> bool
     requires k_bound { k ≤ 4 }
     ensures { result ≡ zero_from words.now b.0 k }
 {
-    let mut j = k;
-    while j < 4 {
-        if block_word(words, b, 7 + j) != 0 {
-            return false;
-        }
-        j += 1;
-    }
-    true
+    (k..4).all(|j| block_word(words, b, 7 + j) == 0)
 }
 
 // Is the control kind known, and is each field that it does not use 0?
@@ -54,15 +47,7 @@ pub fn each_block_fields_ok(words: &[u32]) -> bool
     requires { Sized words.now }
     ensures { result ≡ all (block_fields_ok words.now) (upto (blocks words.now)) }
 {
-    let n = block_count(words);
-    let mut b: u32 = 0;
-    while b < n {
-        if !block_fields_ok(words, BlockId(b)) {
-            return false;
-        }
-        b += 1;
-    }
-    true
+    (0..block_count(words)).all(|b| block_fields_ok(words, BlockId(b)))
 }
 
 // A branch: is its condition a local, and is each of its two targets a block?
@@ -151,15 +136,7 @@ pub fn each_block_ids_ok(words: &[u32]) -> bool
     requires { Sized words.now }
     ensures { result ≡ all (block_ids_ok words.now) (upto (blocks words.now)) }
 {
-    let n = block_count(words);
-    let mut b: u32 = 0;
-    while b < n {
-        if !block_ids_ok(words, BlockId(b)) {
-            return false;
-        }
-        b += 1;
-    }
-    true
+    (0..block_count(words)).all(|b| block_ids_ok(words, BlockId(b)))
 }
 
 // Does successor i of a block take as many inputs as the block has outputs?
@@ -181,15 +158,7 @@ fn edges_ok(words: &[u32], b: BlockId) -> bool
     requires b_bound { b.0 < blocks words.now }
     ensures { result ≡ all (λ s. nat_eq (length (outputs words.now b.0)) (length (inputs words.now s))) (successors words.now b.0) }
 {
-    let n = successor_count(words, b);
-    let mut i: usize = 0;
-    while i < n {
-        if !edge_ok(words, b, i) {
-            return false;
-        }
-        i += 1;
-    }
-    true
+    (0..successor_count(words, b)).all(|i| edge_ok(words, b, i))
 }
 
 // Rule 10: some block has another number of outputs than a successor of it has inputs.
@@ -198,15 +167,7 @@ pub fn rule_10(words: &[u32]) -> bool
     requires in_range { InRange words.now }
     ensures { result ≡ rule10 words.now }
 {
-    let n = block_count(words);
-    let mut from: u32 = 0;
-    while from < n {
-        if !edges_ok(words, BlockId(from)) {
-            return true;
-        }
-        from += 1;
-    }
-    false
+    !(0..block_count(words)).all(|from| edges_ok(words, BlockId(from)))
 }
 
 // Is no number twice in the run? One pass: each is added to a set, and must be new there.
@@ -215,14 +176,7 @@ fn all_distinct(run: &[u32]) -> bool
     ensures { result ≡ distinct run.now }
 {
     let mut seen = [0u64; 8];
-    let mut i: usize = 0;
-    while i < run.len() {
-        if !row_add(&mut seen, 0, run[i]) {
-            return false;
-        }
-        i += 1;
-    }
-    true
+    all_new(&mut seen, run)
 }
 
 // Rule 11: some block has one local twice among its inputs.
@@ -231,13 +185,5 @@ pub fn rule_11(words: &[u32]) -> bool
     requires in_range { InRange words.now }
     ensures { result ≡ rule11 words.now }
 {
-    let n = block_count(words);
-    let mut b: u32 = 0;
-    while b < n {
-        if !all_distinct(inputs(words, BlockId(b))) {
-            return true;
-        }
-        b += 1;
-    }
-    false
+    !(0..block_count(words)).all(|b| all_distinct(inputs(words, BlockId(b))))
 }

@@ -23,13 +23,6 @@ pub fn all_below(words: &[u32], start: usize, count: u32, n: u32) -> bool
     requires { start + count ≤ length words.now }
     ensures { result ≡ all (λ i. nat_lt (word words.now (start + i)) n) (upto count) }
 {
-    let end = count as usize;
-    let mut i: usize = 0;
-    while i < end {
-        if words[start + i] >= n {
-            return false;
-        }
-        i += 1;
-    }
-    true
+    let end = start + count as usize;
+    words[start..end].iter().all(|word| *word < n)
 }

@@ -391,13 +391,6 @@ const DERIVES: [u8; 93] = [
     0, // RuntimeLength
 ];
 
-// A table's entry as a count.
-fn wide(x: u8) -> usize
-    ensures { result ≡ x }
-{
-    x as usize
-}
-
 // Are these operand counts right for the code? A call with results takes any to any, one without any to 0. The two tables are lent:
 // whoever asks about many codes copies them once.
 pub fn operand_counts_right<'a>(
@@ -418,7 +411,7 @@ pub fn operand_counts_right<'a>(
         return outputs == 0;
     }
     let c = code as usize;
-    inputs == wide(takes[c]) && outputs == wide(gives[c])
+    inputs == usize::from(takes[c]) && outputs == usize::from(gives[c])
 }
 
 // Is this bit of the code's mask set?

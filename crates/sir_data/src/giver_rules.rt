@@ -19,12 +19,10 @@ pub fn all_new(set: &mut [u64], run: &[u32]) -> bool
     ensures value { result ≡ fresh set.old run.now }
     ensures set_after { result ≡ true → set.new ≡ added_all set.old run.now }
 {
-    let mut i: usize = 0;
-    while i < run.len() {
-        if !row_add(set, 0, run[i]) {
+    for local in run {
+        if !row_add(set, 0, *local) {
             return false;
         }
-        i += 1;
     }
     true
 }
@@ -37,13 +35,10 @@ fn outputs_new(words: &[u32], given: &mut [u64]) -> bool
     ensures value { result ≡ fresh given.old (bind (upto (operations words.now)) (outs words.now)) }
     ensures given_after { result ≡ true → given.new ≡ added_all given.old (bind (upto (operations words.now)) (outs words.now)) }
 {
-    let n = operation_count(words);
-    let mut o: u32 = 0;
-    while o < n {
+    for o in 0..operation_count(words) {
         if !all_new(given, op_outputs(words, OpIdx(o))) {
             return false;
         }
-        o += 1;
     }
     true
 }
@@ -55,13 +50,10 @@ fn inputs_new(words: &[u32], given: &mut [u64]) -> bool
     requires given_len { length given.old ≡ 8 }
     ensures { result ≡ fresh given.old (bind (upto (blocks words.now)) (inputs words.now)) }
 {
-    let n = block_count(words);
-    let mut b: u32 = 0;
-    while b < n {
+    for b in 0..block_count(words) {
         if !all_new(given, inputs(words, BlockId(b))) {
             return false;
         }
-        b += 1;
     }
     true
 }

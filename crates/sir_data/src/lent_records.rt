@@ -12,11 +12,8 @@ fn copy_words(bytes: &[u8], words: &mut [u32])
     requires { length bytes.now / 4 ≤ length words.old }
     ensures { words.new ≡ words_of bytes.now ++ drop (length bytes.now / 4) words.old }
 {
-    let n = bytes.len() / 4;
-    let mut i: usize = 0;
-    while i < n {
+    for i in 0..bytes.len() / 4 {
         words[i] = word_at(bytes, i);
-        i += 1;
     }
 }
 

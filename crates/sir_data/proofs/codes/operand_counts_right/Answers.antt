@@ -26,15 +26,15 @@ pub bounds-gives-c : goal.bounds-gives-c
 bounds-gives-c c =
     omega (arith, c.requires.code_bound, table_length (λ k. (arity k).1) c.requires.takes_value.1)
 
-pub returns-then-inputs-wide : goal.returns-then-inputs-wide
-returns-then-inputs-wide c =
+pub returns-then-inputs-from : goal.returns-then-inputs-from
+returns-then-inputs-from c =
     let code = c.args.code in
-    let ins = c.wide.ensures ∙ table_at (λ k. (arity k).0) c.requires.takes_value.0 code c.requires.code_bound in
-    let outs = c.wide-then-inputs-wide.ensures ∙ table_at (λ k. (arity k).1) c.requires.takes_value.1 code c.requires.code_bound in
-    rw (ne_eqb _ 25 c.if-code-eq25.false, ne_eqb _ 26 c.if-code-eq26.false, outs, eq-eqb _ _ (c.if-inputs-wide.true ∙ ins))
+    let ins = c.from.ensures ∙ table_at (λ k. (arity k).0) c.requires.takes_value.0 code c.requires.code_bound in
+    let outs = c.from-then-inputs-from.ensures ∙ table_at (λ k. (arity k).1) c.requires.takes_value.1 code c.requires.code_bound in
+    rw (ne_eqb _ 25 c.if-code-eq25.false, ne_eqb _ 26 c.if-code-eq26.false, outs, eq-eqb _ _ (c.if-inputs-from.true ∙ ins))
 
-pub returns-else-inputs-wide : goal.returns-else-inputs-wide
-returns-else-inputs-wide c =
+pub returns-else-inputs-from : goal.returns-else-inputs-from
+returns-else-inputs-from c =
     let code = c.args.code in
-    let ins = c.wide.ensures ∙ table_at (λ k. (arity k).0) c.requires.takes_value.0 code c.requires.code_bound in
-    rw (ne_eqb _ 25 c.if-code-eq25.false, ne_eqb _ 26 c.if-code-eq26.false, ins, ne_eqb _ _ (rw ins at c.if-inputs-wide.false))
+    let ins = c.from.ensures ∙ table_at (λ k. (arity k).0) c.requires.takes_value.0 code c.requires.code_bound in
+    rw (ne_eqb _ 25 c.if-code-eq25.false, ne_eqb _ 26 c.if-code-eq26.false, ins, ne_eqb _ _ (rw ins at c.if-inputs-from.false))

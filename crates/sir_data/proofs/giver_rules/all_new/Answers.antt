@@ -9,17 +9,17 @@ use Rattle.sir_data.proofs.giver_rules.Passing as passing
 use Rattle.sir_data.proofs.giver_rules.Passing.{Passing, Locals}
 use Rattle.sir_data.proofs.giver_rules.all_new.Goals as goal
 
-pub loop-i-init : goal.loop-i-init
-loop-i-init c = (omega arith, passing.start c.requires.set_len)
+pub loop-local-init : goal.loop-local-init
+loop-local-init c = (omega arith, passing.start c.requires.set_len)
 
 pub row_add-requires : goal.row_add-requires
 row_add-requires c =
-    let l = c.loop-i in
-    (omega (arith, l.invariant.1.wide), c.requires.by_index _ (get_or_mem c.args.run.now l.i 0 (omega arith)))
+    let l = c.loop-local in
+    (omega (arith, l.invariant.1.wide), c.requires.by_index _ (get_or_mem c.args.run.now l.local-index 0 (omega arith)))
 
 pub shape_of-set-then-not-row_add : goal.shape_of-set-then-not-row_add
 shape_of-set-then-not-row_add c =
-    let l = c.loop-i in
+    let l = c.loop-local in
     rw c.row_add.ensures.1 (length_added l.set _ ∙ l.invariant.1.wide ∙ sym c.requires.set_len)
 
 -- the run from place i on: the next number, and then those left
@@ -41,24 +41,24 @@ module _ {set₀ set run : List ℕ} {i : ℕ} (h : i < length run) (small : Loc
 
 pub returns-then-not-row_add : goal.returns-then-not-row_add
 returns-then-not-row_add c =
-    let l = c.loop-i in
+    let l = c.loop-local in
     let e = not-false _ (rw zero-add at (sym c.row_add.ensures.0) ∙ c.if-not-row_add.true) in
     record { value = there (omega arith) c.requires.by_index l.invariant.1 e; set_after = λ h. none _ h refl }
 
-pub loop-i-preserved : goal.loop-i-preserved
-loop-i-preserved c =
-    let l = c.loop-i in
-    let less : l.i + 1 ≤ length c.args.run.now = omega arith in
+pub loop-local-preserved : goal.loop-local-preserved
+loop-local-preserved c =
+    let l = c.loop-local in
+    let less : l.local-index + 1 ≤ length c.args.run.now = omega arith in
     let e = not-true _ (rw zero-add at (sym c.row_add.ensures.0) ∙ c.if-not-row_add.false) in
     (less, added_next (omega (arith, less)) c.requires.by_index l.invariant.1 e (rw zero-add at c.row_add.ensures.1))
 
 pub shape_of-set : goal.shape_of-set
 shape_of-set c =
-    c.loop-i.invariant.1.wide ∙ sym c.requires.set_len
+    c.loop-local.invariant.1.wide ∙ sym c.requires.set_len
 
 pub returns : goal.returns
 returns c =
-    let l = c.loop-i in
+    let l = c.loop-local in
     let xs : List ℕ = c.args.run.now in
-    let done = passing.end (rw (drop_of_length-le xs {i = l.i} (omega arith)) at l.invariant.1) in
+    let done = passing.end (rw (drop_of_length-le xs {i = l.local-index} (omega arith)) at l.invariant.1) in
     record { value = done.0; set_after = λ h. done.1 }

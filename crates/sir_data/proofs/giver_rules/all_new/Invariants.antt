@@ -3,8 +3,5 @@ use Rattle.std.proofs.Common.{◌-◌, ◌≤◌, length, drop}
 use Rattle.sir_data.proofs.giver_rules.Passing.{Passing}
 use Rattle.sir_data.proofs.giver_rules.all_new.Given as goal
 
-abbrev pub invariant-loop-i : goal.invariant-loop-i
-invariant-loop-i l = (l.i ≤ length l.run) × Passing l.initial.set l.run l.set (drop l.i l.run)
-
-abbrev pub decreases-loop-i : goal.decreases-loop-i
-decreases-loop-i l = length l.run - l.i
+abbrev pub invariant-loop-local : goal.invariant-loop-local
+invariant-loop-local l = (l.local-index ≤ length l.run) × Passing l.initial.set l.run l.set (drop l.local-index l.run)

@@ -6,6 +6,3 @@ use Rattle.sir_data.proofs.giver_rules.inputs_new.Given as goal
 
 abbrev pub invariant-loop-b : goal.invariant-loop-b
 invariant-loop-b l = PassingRuns l.initial.given (inputs l.words) (blocks l.words) l.given l.b
-
-abbrev pub decreases-loop-b : goal.decreases-loop-b
-decreases-loop-b l = l.n - l.b

@@ -6,6 +6,3 @@ use Rattle.sir_data.proofs.giver_rules.outputs_new.Given as goal
 
 abbrev pub invariant-loop-o : goal.invariant-loop-o
 invariant-loop-o l = PassingRuns l.initial.given (outs l.words) (operations l.words) l.given l.o
-
-abbrev pub decreases-loop-o : goal.decreases-loop-o
-decreases-loop-o l = l.n - l.o

@@ -5,7 +5,4 @@ use Rattle.sir_data.specs.Pages.{word_at}
 use Rattle.sir_data.proofs.lent_records.copy_words.Given as goal
 
 abbrev pub invariant-loop-i : goal.invariant-loop-i
-invariant-loop-i l = (l.i ≤ l.n) × (length l.words ≡ length l.initial.words) × (l.words ≡ map (word_at l.bytes) (upto l.i) ++ drop l.i l.initial.words)
-
-abbrev pub decreases-loop-i : goal.decreases-loop-i
-decreases-loop-i l = l.n - l.i
+invariant-loop-i l = (l.i ≤ l.i-end) × (length l.words ≡ length l.initial.words) × (l.words ≡ map (word_at l.bytes) (upto l.i) ++ drop l.i l.initial.words)

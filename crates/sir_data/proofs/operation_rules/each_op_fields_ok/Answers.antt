@@ -1,22 +1,13 @@
--- `each_op_fields_ok` meets its contract. The loop's invariant: the operations that are left decide.
-use Rattle.std.proofs.Common.{sym, ◌∙◌, arith}
-use Rattle.plank_core.specs.laws.Loops.{range_all, all_step, all_stop, all_end}
+-- `each_op_fields_ok` meets its contract.
+use native.Mathlib.Omega.{arith}
+use borrow.Author.Tests.{tests}
+use Rattle.std.proofs.Common.{rules}
+use Rattle.plank_core.specs.laws.Ranges.{all_range}
+use Rattle.sir_data.specs.Records.{operations}
+use Rattle.sir_data.specs.Rules.{op_fields_ok}
 use Rattle.sir_data.proofs.operation_rules.each_op_fields_ok.Goals as goal
-
-pub loop-o-init : goal.loop-o-init
-loop-o-init c = (omega arith, rw range_all)
-
-pub returns-then-not-op_fields_ok : goal.returns-then-not-op_fields_ok
-returns-then-not-op_fields_ok c =
-    let l = c.loop-o in
-    sym (all_stop _ l.o _ (omega arith) (sym c.op_fields_ok.ensures ∙ c.if-not-op_fields_ok.true)) ∙ l.invariant.1
-
-pub loop-o-preserved : goal.loop-o-preserved
-loop-o-preserved c =
-    let l = c.loop-o in
-    (omega arith, all_step _ l.o _ (omega arith) (sym c.op_fields_ok.ensures ∙ c.if-not-op_fields_ok.false) ∙ l.invariant.1)
 
 pub returns : goal.returns
 returns c =
-    let l = c.loop-o in
-    sym (all_end _ l.o _ (omega arith)) ∙ l.invariant.1
+    let w = c.args.words.now in
+    all_range (op_fields_ok w) 0 c.operation_count.result (operations w) (omega (arith, c.operation_count.ensures)) c.all.result c.all.ensures.ran (λ x t q k. search (rules, tests))

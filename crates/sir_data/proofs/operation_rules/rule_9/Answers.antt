@@ -1,29 +1,15 @@
--- `rule_9` meets its contract. The loop's invariant: the operations that are left decide.
-use Rattle.std.proofs.Common.{not, sym, refl, ap, ◌∙◌, arith}
-use Rattle.plank_core.specs.laws.Loops.{range_all, all_step, all_stop, all_end}
+-- `rule_9` meets its contract.
+use native.Mathlib.Omega.{arith}
+use borrow.Author.Tests.{tests}
+use Rattle.std.proofs.Common.{rules, ap, not, length}
+use Rattle.plank_core.specs.laws.Ranges.{all_range}
+use Rattle.sir_data.specs.Records.{operations, code, ins, outs}
+use Rattle.sir_data.specs.Codes.{arity_ok}
 use Rattle.sir_data.specs.Rules.{rule9}
 use Rattle.sir_data.proofs.operation_rules.rule_9.Goals as goal
-
-pub loop-o-init : goal.loop-o-init
-loop-o-init c = (omega arith, rw range_all)
-
-pub op_counts_ok-requires : goal.op_counts_ok-requires
-op_counts_ok-requires c =
-    record { sized = c.requires.sized; in_range = c.requires.in_range; o_bound = omega (arith, c.operation_count-n.ensures); takes_value = (refl, refl) }
-
-pub returns-then-not-op_counts_ok : goal.returns-then-not-op_counts_ok
-unfolding rule9
-returns-then-not-op_counts_ok c =
-    let l = c.loop-o in
-    ap not (sym (all_stop _ l.o _ (omega arith) (sym c.op_counts_ok.ensures ∙ c.if-not-op_counts_ok.true)) ∙ l.invariant.1)
-
-pub loop-o-preserved : goal.loop-o-preserved
-loop-o-preserved c =
-    let l = c.loop-o in
-    (omega arith, all_step _ l.o _ (omega arith) (sym c.op_counts_ok.ensures ∙ c.if-not-op_counts_ok.false) ∙ l.invariant.1)
 
 pub returns : goal.returns
 unfolding rule9
 returns c =
-    let l = c.loop-o in
-    ap not (sym (all_end _ l.o _ (omega arith)) ∙ l.invariant.1)
+    let w = c.args.words.now in
+    ap not (all_range (λ o. arity_ok (code w o) (length (ins w o)) (length (outs w o))) 0 c.operation_count.result (operations w) (omega (arith, c.operation_count.ensures)) c.all.result c.all.ensures.ran (λ x t q k. search (rules, tests)))

@@ -6,6 +6,3 @@ use Rattle.sir_data.proofs.pages.page_check.Given as goal
 
 abbrev pub invariant-loop-i : goal.invariant-loop-i
 invariant-loop-i l = (l.i ≤ 127) × (l.a ≡ total (page_word l.image l.page) l.i % 2 ^ 32) × (l.b ≡ running (page_word l.image l.page) l.i % 2 ^ 32)
-
-abbrev pub decreases-loop-i : goal.decreases-loop-i
-decreases-loop-i l = 127 - l.i

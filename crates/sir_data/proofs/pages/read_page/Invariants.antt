@@ -10,6 +10,3 @@ taken s p k = page_word s p (1 + k)
 
 abbrev pub invariant-loop-k : goal.invariant-loop-k
 invariant-loop-k l = (l.k ≤ 126) × (length l.words ≡ length l.initial.words) × (l.words ≡ map (taken l.image l.page) (upto l.k) ++ drop l.k l.initial.words)
-
-abbrev pub decreases-loop-k : goal.decreases-loop-k
-decreases-loop-k l = 126 - l.k

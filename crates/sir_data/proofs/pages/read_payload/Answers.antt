@@ -18,23 +18,20 @@ page_is s p start m e h part rest q = q ∙ rw (map_same (λ k. page_word s p (1
         rw (q, r)
 
 pub loop-p-init : goal.loop-p-init
-loop-p-init c = (omega arith, omega arith, refl, refl)
+loop-p-init c = (refl, refl)
 
 pub loop-p-preserved : goal.loop-p-preserved
 loop-p-preserved c =
     let first = c.args in
     let l = c.loop-p in
-    let s = first.image.now in (
-      omega arith,
-      omega arith,
-      omega arith,
-      fill_part (taken s) l.start 126 first.words.now l.invariant.3 (page_is s l.p l.start 126 l.invariant.1 (omega arith) _ _ c.read_page.ensures),
-    )
+    let s = first.image.now in
+    let next : 126 * (l.p + 1) ≡ 126 * l.p + 126 = omega arith in
+    (omega arith, rw next (fill_part (taken s) (126 * l.p) 126 first.words.now l.invariant.1 (page_is s l.p (126 * l.p) 126 refl (omega arith) _ _ c.read_page.ensures)))
 
 pub returns : goal.returns
 unfolding payload
 returns c =
     let s = c.args.image.now in
     let l = c.loop-p in
-    let e : l.start ≡ 126 * pages s = omega arith in
-    (e ∙ sym (length_payload s), l.invariant.3 ∙ rw e)
+    let e : 126 * l.p ≡ 126 * pages s = omega arith in
+    (sym (length_payload s), l.invariant.1 ∙ rw e)

@@ -9,7 +9,4 @@ abbrev pub taken : List ℕ → ℕ → ℕ
 taken s k = page_word s (k / 126) (1 + k % 126)
 
 abbrev pub invariant-loop-p : goal.invariant-loop-p
-invariant-loop-p l = (l.p ≤ l.n) × (l.start ≡ 126 * l.p) × (length l.words ≡ length l.initial.words) × (l.words ≡ map (taken l.image) (upto l.start) ++ drop l.start l.initial.words)
-
-abbrev pub decreases-loop-p : goal.decreases-loop-p
-decreases-loop-p l = l.n - l.p
+invariant-loop-p l = (length l.words ≡ length l.initial.words) × (l.words ≡ map (taken l.image) (upto (126 * l.p)) ++ drop (126 * l.p) l.initial.words)
