@@ -3,6 +3,7 @@ pub mod Records
 pub mod Codes
 pub mod Givers
 pub mod Rules
+pub mod Refusals
 pub mod Paging
 pub mod ExampleRows
 pub mod PagingExamples

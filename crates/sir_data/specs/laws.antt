@@ -1,4 +1,5 @@
 pub mod Rules
+pub mod Refusals
 pub mod Givers
 pub mod WellFormed
 pub mod Records

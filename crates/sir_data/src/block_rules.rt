@@ -6,9 +6,10 @@ ghost use Rattle.sir_data.specs.Rules.{zero_from, block_fields_ok, range_ok, opt
 ghost use Rattle.sir_data.specs.inner.WellFormed.{Sized, InRange};
 
 use crate::bounds::{optional_below, range_ok};
+use crate::control::Control;
 use crate::giver_rules::all_new;
 use crate::records::{
-    block_count, block_word, local_count, operand_count, operation_count, target_count,
+    block_count, block_word, control, local_count, operand_count, operation_count, target_count,
 };
 use crate::view::{inputs, outputs, successor, successor_count};
 use plank_core::index::BlockId;
@@ -29,17 +30,13 @@ fn block_fields_ok(words: &[u32], b: BlockId) -> bool
     requires b_bound { b.0 < blocks words.now }
     ensures { result ≡ block_fields_ok words.now b.0 }
 {
-    let kind = block_word(words, b, 6);
-    if kind < 2 {
-        return zero_from(words, b, 0);
+    match control(words, b) {
+        Ok(Control::LastOpTerminates | Control::InternalReturn) => zero_from(words, b, 0),
+        Ok(Control::ContinuesTo) => zero_from(words, b, 1),
+        Ok(Control::Branches) => zero_from(words, b, 3),
+        Ok(Control::Switch) => true,
+        Err(_) => false,
     }
-    if kind == 2 {
-        return zero_from(words, b, 1);
-    }
-    if kind == 3 {
-        return zero_from(words, b, 3);
-    }
-    kind == 4
 }
 
 // The part of rule 7 that speaks of blocks.
@@ -89,17 +86,12 @@ fn control_ids_ok(words: &[u32], b: BlockId) -> bool
     requires b_bound { b.0 < blocks words.now }
     ensures { result ≡ control_ids_ok words.now b.0 }
 {
-    let kind = block_word(words, b, 6);
-    if kind == 2 {
-        return block_word(words, b, 7) < block_count(words);
+    match control(words, b) {
+        Ok(Control::ContinuesTo) => block_word(words, b, 7) < block_count(words),
+        Ok(Control::Branches) => branch_ids_ok(words, b),
+        Ok(Control::Switch) => switch_ids_ok(words, b),
+        _ => true,
     }
-    if kind == 3 {
-        return branch_ids_ok(words, b);
-    }
-    if kind == 4 {
-        return switch_ids_ok(words, b);
-    }
-    true
 }
 
 // Is the run that words k and k + 1 of the block give within a list of n?

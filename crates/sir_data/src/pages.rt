@@ -3,6 +3,9 @@ ghost use Rattle.std.specs.Prelude.{◌≡◌, ◌+◌, ◌*◌, ◌^◌, ◌<�
 ghost use Rattle.plank_core.specs.Lists.{upto};
 ghost use Rattle.sir_data.specs.Pages.{word_at, pages, pages_for, page_word, check_of, payload, bad_length, bad_number, bad_check};
 ghost use Rattle.sir_data.specs.Rules.{first, page_rules};
+ghost use Rattle.sir_data.specs.Refusals.{refused};
+
+use crate::refusals::Refusal;
 
 // Word i of some bytes, little-endian.
 pub fn word_at(bytes: &[u8], i: usize) -> u32
@@ -56,20 +59,20 @@ fn check_bad(image: &[u8]) -> bool
     (0..image.len() / 512).any(|p| word_at(image, 128 * p + 127) != page_check(image, p))
 }
 
-// 0, or the number of the first refusal that the pages give.
-pub fn check_pages(image: &[u8]) -> u32
-    ensures { result ≡ first (page_rules image.now) }
+// The first refusal that the pages give, if they give one.
+pub fn check_pages(image: &[u8]) -> Result<(), Refusal>
+    ensures { refused result ≡ first (page_rules image.now) }
 {
     if length_bad(image) {
-        return 1;
+        return Err(Refusal::Length);
     }
     if number_bad(image) {
-        return 2;
+        return Err(Refusal::PageNumber);
     }
     if check_bad(image) {
-        return 3;
+        return Err(Refusal::PageCheck);
     }
-    0
+    Ok(())
 }
 
 // The payload of one page, to the front of `words`.

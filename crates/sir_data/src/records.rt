@@ -1,18 +1,12 @@
 // The records of an image, read from its payload words.
 ghost use Rattle.std.specs.Prelude.{◌≡◌, ◌<◌, ◌≤◌, ◌||◌, length, ◌==◌, slice_index};
-ghost use Rattle.sir_data.specs.Records.{functions, blocks, operations, operand_words, case_targets, locals, init_function, main_plus_one, blocks_at, operations_at, operands_at, targets_at, entry_block, block_word, op_word, target, run, inputs, outputs, successors, condition, returned, ins, outs};
-ghost use Rattle.sir_data.specs.inner.Cases.{tested_locals};
+ghost use Rattle.sir_data.specs.Records.{functions, blocks, operations, operand_words, case_targets, locals, init_function, main_plus_one, blocks_at, operations_at, operands_at, targets_at, entry_block, block_word, op_word, target, run, inputs, outputs, control, successors, condition, returned, ins, outs};
+ghost use Rattle.sir_data.specs.inner.Cases.{tested_locals, Decodes};
 ghost use Rattle.sir_data.specs.inner.WellFormed.{Sized, InRange};
 
+use crate::control::{Control, UnknownControl};
 use plank_core::index::{BlockId, FunctionId, LocalId, OpIdx};
 use plank_core::span::Span;
-
-// The local that a block's control tests, if it tests one.
-#[derive(Clone, Copy)]
-pub enum Tested {
-    Local(LocalId),
-    Nothing,
-}
 
 // How many functions there are. This count and the next ones stand at the head of the words.
 pub fn function_count(words: &[u32]) -> u32
@@ -210,27 +204,33 @@ pub fn block_operations(words: &[u32], b: BlockId) -> Span
     Span::new(block_word(words, b, 4), block_word(words, b, 5))
 }
 
+// How control leaves a block, where the kind is known.
+pub fn control(words: &[u32], b: BlockId) -> Result<Control, UnknownControl>
+    requires sized { Sized words.now }
+    requires b_bound { b.0 < blocks words.now }
+    ensures { Decodes (control words.now b.0) result }
+{
+    Control::try_from(block_word(words, b, 6))
+}
+
 // How many successors a block has, a target named twice counted twice.
 pub fn successor_count(words: &[u32], b: BlockId) -> usize
     requires sized { Sized words.now }
     requires b_bound { b.0 < blocks words.now }
     ensures { result ≡ length (successors words.now b.0) }
 {
-    let kind = block_word(words, b, 6);
-    if kind == 2 {
-        return 1;
-    }
-    if kind == 3 {
-        return 2;
-    }
-    if kind != 4 {
-        return 0;
-    }
-    let targets = block_word(words, b, 9) as usize;
-    if block_word(words, b, 10) == 0 {
-        targets
-    } else {
-        targets + 1
+    match control(words, b) {
+        Ok(Control::ContinuesTo) => 1,
+        Ok(Control::Branches) => 2,
+        Ok(Control::Switch) => {
+            let targets = block_word(words, b, 9) as usize;
+            if block_word(words, b, 10) == 0 {
+                targets
+            } else {
+                targets + 1
+            }
+        }
+        _ => 0,
     }
 }
 
@@ -242,39 +242,35 @@ pub fn successor(words: &[u32], b: BlockId, i: usize) -> BlockId
     requires i_in_bounds { i < length (successors words.now b.0) }
     ensures { result.0 ≡ slice_index (successors words.now b.0) i }
 {
-    let kind = block_word(words, b, 6);
-    if kind == 2 {
-        return BlockId(block_word(words, b, 7));
-    }
-    if kind == 3 {
-        if i == 0 {
-            return BlockId(block_word(words, b, 9));
+    match control(words, b) {
+        Ok(Control::ContinuesTo) => BlockId(block_word(words, b, 7)),
+        Ok(Control::Branches) => {
+            if i == 0 {
+                BlockId(block_word(words, b, 9))
+            } else {
+                BlockId(block_word(words, b, 8))
+            }
         }
-        return BlockId(block_word(words, b, 8));
+        Ok(Control::Switch) => {
+            if i < (block_word(words, b, 9) as usize) {
+                target(words, (block_word(words, b, 8) as usize) + i)
+            } else {
+                BlockId(block_word(words, b, 10) - 1)
+            }
+        }
+        Ok(Control::LastOpTerminates | Control::InternalReturn) | Err(_) => unreachable!(),
     }
-    if i < (block_word(words, b, 9) as usize) {
-        return target(words, (block_word(words, b, 8) as usize) + i);
-    }
-    BlockId(block_word(words, b, 10) - 1)
-}
-
-// Is this control kind a branch or a switch?
-fn tests(kind: u32) -> bool
-    ensures { result ≡ (kind == 3 || kind == 4) }
-{
-    kind == 3 || kind == 4
 }
 
 // The local that a branch or a switch tests.
-pub fn tested_local(words: &[u32], b: BlockId) -> Tested
+pub fn tested_local(words: &[u32], b: BlockId) -> Option<LocalId>
     requires sized { Sized words.now }
     requires b_bound { b.0 < blocks words.now }
     ensures { tested_locals result ≡ condition words.now b.0 }
 {
-    if tests(block_word(words, b, 6)) {
-        Tested::Local(LocalId(block_word(words, b, 7)))
-    } else {
-        Tested::Nothing
+    match control(words, b) {
+        Ok(Control::Branches | Control::Switch) => Some(LocalId(block_word(words, b, 7))),
+        _ => None,
     }
 }
 
@@ -285,9 +281,8 @@ pub fn returned_outputs(words: &[u32], b: BlockId) -> &[u32]
     requires b_bound { b.0 < blocks words.now }
     ensures { result.now ≡ returned words.now b.0 }
 {
-    if block_word(words, b, 6) == 1 {
-        block_outputs(words, b)
-    } else {
-        &words[0..0]
+    match control(words, b) {
+        Ok(Control::InternalReturn) => block_outputs(words, b),
+        _ => &[],
     }
 }

@@ -3,6 +3,7 @@ ghost use Rattle.std.specs.Prelude.{◌≡◌, ◌≤◌, not, ◌&&◌, ltb, �
 ghost use Rattle.plank_core.specs.Lists.{all, any, upto};
 ghost use Rattle.sir_data.specs.Records.{functions, blocks, operand_words, case_targets, locals, init_function, main_plus_one, word_count, entry_block, operand, target};
 ghost use Rattle.sir_data.specs.Rules.{rule4, rule5, rule6, rule7, rule8, optional_below, first, head_rules, field_rules, operand_rules, record_rules};
+ghost use Rattle.sir_data.specs.Refusals.{refused};
 ghost use Rattle.sir_data.specs.inner.WellFormed.{Sized, InRange};
 
 use crate::block_rules::{each_block_fields_ok, each_block_ids_ok, rule_10, rule_11};
@@ -13,6 +14,7 @@ use crate::records::{
     block_count, function_count, local_count, main_plus_one, operand_count, operands_at,
     operation_count, target_count, targets_at,
 };
+use crate::refusals::Refusal;
 
 // Rule 4: the edition is not 1.
 fn rule_4(words: &[u32]) -> bool
@@ -161,75 +163,69 @@ fn rule_8(words: &[u32]) -> bool
     !targets_ok(words)
 }
 
-// The first of the head's rules that applies, or 0.
-pub fn check_head(words: &[u32]) -> u32
+// The first of the head's rules that applies, if one does.
+pub fn check_head(words: &[u32]) -> Result<(), Refusal>
     requires { 9 ≤ length words.now }
-    ensures { result ≡ first (head_rules words.now) }
+    ensures { refused result ≡ first (head_rules words.now) }
 {
     if rule_4(words) {
-        return 4;
+        return Err(Refusal::Edition);
     }
     if rule_5(words) {
-        return 5;
+        return Err(Refusal::Count);
     }
-    0
+    Ok(())
 }
 
-// The first of the rules on kinds, codes, fields, ranges and ids that applies, or 0.
-fn check_fields(words: &[u32]) -> u32
+// The first of the rules on kinds, codes, fields, ranges and ids that applies, if one does.
+fn check_fields(words: &[u32]) -> Result<(), Refusal>
     requires { Sized words.now }
-    ensures { result ≡ first (field_rules words.now) }
+    ensures { refused result ≡ first (field_rules words.now) }
 {
     if rule_7(words) {
-        return 7;
+        return Err(Refusal::Unknown);
     }
     if rule_8(words) {
-        return 8;
+        return Err(Refusal::Range);
     }
-    0
+    Ok(())
 }
 
-// The first of the rules on operands and edges that applies, or 0, where ranges and ids are in order.
-fn check_operands(words: &[u32]) -> u32
+// The first of the rules on operands and edges that applies, if one does, where ranges and ids are in order.
+fn check_operands(words: &[u32]) -> Result<(), Refusal>
     requires sized { Sized words.now }
     requires in_range { InRange words.now }
-    ensures { result ≡ first (operand_rules words.now) }
+    ensures { refused result ≡ first (operand_rules words.now) }
 {
     if rule_9(words) {
-        return 9;
+        return Err(Refusal::OperandCount);
     }
     if rule_10(words) {
-        return 10;
+        return Err(Refusal::OutputCount);
     }
     if rule_11(words) {
-        return 11;
+        return Err(Refusal::RepeatedInput);
     }
-    0
+    Ok(())
 }
 
-// The first of the rules after the fit that applies, or 0, where the counts are in order and their words are there.
-pub fn check_sized(words: &[u32]) -> u32
+// The first of the rules after the fit that applies, if one does, where the counts are in order and their words are there.
+pub fn check_sized(words: &[u32]) -> Result<(), Refusal>
     requires { Sized words.now }
-    ensures { result ≡ first (field_rules words.now ++ operand_rules words.now) }
+    ensures { refused result ≡ first (field_rules words.now ++ operand_rules words.now) }
 {
-    let broken = check_fields(words);
-    if broken != 0 {
-        return broken;
-    }
+    check_fields(words)?;
     check_operands(words)
 }
 
-// The first of the record rules that applies, or 0. A rule is looked at only where none before it applies.
-pub fn check_records(words: &[u32]) -> u32
+// The first of the record rules that applies, if one does. A rule is looked at only where none before it applies.
+pub fn check_records(words: &[u32]) -> Result<(), Refusal>
     requires { 9 ≤ length words.now }
-    ensures { result ≡ first (record_rules words.now) }
+    ensures { refused result ≡ first (record_rules words.now) }
 {
-    let broken = check_head(words);
-    if broken != 0 {
-        return broken;
-    }
+    check_head(words)?;
     if rule_6(words) {
-        return 6;
+        return Err(Refusal::PageCount);
     }
     check_sized(words)
 }

@@ -6,8 +6,7 @@ ghost use Rattle.sir_data.specs.inner.Cases.{tested_locals};
 ghost use Rattle.sir_data.specs.inner.WellFormed.{Sized, InRange};
 
 use crate::records;
-use crate::records::Tested;
-use plank_core::index::BlockId;
+use plank_core::index::{BlockId, LocalId};
 use plank_core::span::Span;
 
 #[derive(Clone, Copy)]
@@ -54,7 +53,7 @@ impl<'a> BlockView<'a> {
     }
 
     // The local that the block's control tests.
-    pub fn condition(self) -> Tested
+    pub fn condition(self) -> Option<LocalId>
         requires sized { Sized self.words.now }
         requires block_bound { self.block.0 < blocks self.words.now }
         ensures { tested_locals result ≡ condition self.entry.words.now self.entry.block.0 }
@@ -113,7 +112,7 @@ pub fn operations(words: &[u32], b: BlockId) -> Span
 }
 
 // The local that its control tests.
-pub fn condition(words: &[u32], b: BlockId) -> Tested
+pub fn condition(words: &[u32], b: BlockId) -> Option<LocalId>
     requires sized { Sized words.now }
     requires b_bound { b.0 < blocks words.now }
     ensures { tested_locals result ≡ condition words.now b.0 }

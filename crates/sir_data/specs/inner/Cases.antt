@@ -1,8 +1,23 @@
--- What the enum of `records` stands for, as a list.
-use Rattle.std.specs.Prelude.{ℕ, List, [], ◌∷◌}
-use Rattle.sir_data.specs.declared.records.Tested.{Tested}
+-- What the options and enums of `records` and `control` stand for.
+use Rattle.std.specs.Prelude.{◌≡◌, ℕ, ◌<◌, List, [], ◌∷◌, Option, Some, None, Result, MatchResult}
+use Rattle.plank_core.specs.declared.index.LocalId.{LocalId}
+use Rattle.sir_data.specs.declared.control.Control.{Control}
+use Rattle.sir_data.specs.declared.control.Control.TheVariants.{LastOpTerminates, InternalReturn, ContinuesTo, Branches, Switch}
+use Rattle.sir_data.specs.declared.control.UnknownControl.{UnknownControl}
 
 -- the condition that a block's control tests, as `condition` gives it: one local or none
-abbrev pub tested_locals : Tested → List ℕ
-tested_locals (Tested.Local v) = v.0 ∷ []
-tested_locals Tested.Nothing = []
+abbrev pub tested_locals : Option LocalId → List ℕ
+tested_locals (Some v) = v.0 ∷ []
+tested_locals None = []
+
+-- the control kind of a block's record
+abbrev pub kind_of : Control → ℕ
+kind_of LastOpTerminates = 0
+kind_of InternalReturn = 1
+kind_of ContinuesTo = 2
+kind_of Branches = 3
+kind_of Switch = 4
+
+-- the control of this kind, or an error with a kind that no control has
+abbrev pub Decodes : ℕ → Result Control UnknownControl → Type 0
+Decodes kind r = MatchResult r (λ control. kind_of control ≡ kind) (λ e. (e.0 ≡ kind) × (4 < kind))
