@@ -29,12 +29,10 @@ pub fn owned_locals(words: &[u32], pointers: &[u32], a: AllocId, set: &mut [u64]
     ensures { (length set.new ≡ 8) × ((v : ℕ) → v < 512 → contains set.new v ≡ (ltb v (locals words.now) && eqb (get_or (owners_in pointers.now) v 0) (a.0 + 1))) }
 {
     let count = local_count(words);
-    let mut v: u32 = 0;
-    while v < count {
+    for v in 0..count {
         if owner_of(pointers, LocalId(v)) == a.0 + 1 {
             row_add(set, 0, v);
         }
-        v += 1;
     }
 }
 

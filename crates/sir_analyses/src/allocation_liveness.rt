@@ -18,47 +18,38 @@ use plank_core::rows::{row_add, row_contains, row_of};
 use sir_data::codes::is_alloc;
 use sir_data::records::{block_operations, op_outputs, op_word};
 
-// The allocations of a block after the first `at` of `sites`, each as one number: 1024 times the block, plus the operation. Where
-// there is no room for one of them, a number past the end of `sites`.
-fn block_allocations(words: &[u32], b: BlockId, sites: &mut [u32], at: usize) -> usize
+// The allocations of a block after the first `at` of `sites`, each as one number: 1024 times the block, plus the operation. How many
+// sites there are then, or none where there is no room for all.
+fn block_allocations(words: &[u32], b: BlockId, sites: &mut [u32], at: usize) -> Option<usize>
     requires well_formed { WellFormed words.now }
     requires b_bound { (b.0 < blocks words.now) × (at ≤ length sites.old) }
     ensures { Capped (block_sites words.now b.0) at sites.old sites.new result }
 {
     let span = block_operations(words, b);
-    let last = span.end;
     let mut m = at;
-    let mut o = span.start;
-    while o < last {
-        let id = o;
-        o += 1;
-        if is_alloc(op_word(words, OpIdx(id), 0)) {
+    for o in span.start..span.end {
+        if is_alloc(op_word(words, OpIdx(o), 0)) {
             if m == sites.len() {
-                return m + 1;
+                return None;
             }
-            sites[m] = 1024 * b.0 + id;
+            sites[m] = 1024 * b.0 + o;
             m += 1;
         }
     }
-    m
+    Some(m)
 }
 
-// The allocations of all visited blocks, in the order's sequence.
-pub fn find_allocations(words: &[u32], visit: &[u32], sites: &mut [u32]) -> usize
+// The allocations of all visited blocks, in the order's sequence: how many, or none where there is no room for all.
+pub fn find_allocations(words: &[u32], visit: &[u32], sites: &mut [u32]) -> Option<usize>
     requires { VisitStage words.now visit.now }
     ensures { Capped (alloc_sites words.now) 0 sites.old sites.new result }
 {
     let order = rpo(visit);
     let mut m: usize = 0;
-    let mut i: usize = 0;
-    while i < order.len() {
-        m = block_allocations(words, BlockId(order[i]), sites, m);
-        if m > sites.len() {
-            return m;
-        }
-        i += 1;
+    for &b in order {
+        m = block_allocations(words, BlockId(b), sites, m)?;
     }
-    m
+    Some(m)
 }
 
 // Where an allocation stands.
@@ -107,10 +98,8 @@ pub fn rule_12(words: &[u32], sites: &[u32]) -> bool
     ensures { result ≡ rule12 words.now }
 {
     let mut bases = [0u64; 8];
-    let mut a: usize = 0;
-    while a < sites.len() {
+    for a in 0..sites.len() {
         let base = base_of(words, sites, AllocId(a as u32));
-        a += 1;
         if !row_add(&mut bases, 0, base.0) {
             return true;
         }
@@ -124,11 +113,9 @@ fn own_bases(words: &[u32], sites: &[u32], owners: &mut [u32])
     requires sites_value { (sites.now ≡ alloc_sites words.now) × (length sites.now ≤ 512) × (owners.old ≡ replicate 512 0) }
     ensures { ((v : ℕ) → v < locals words.now → get_or owners.new v 0 ≡ get_or (bases words.now) v 0) × ((v : ℕ) → get_or owners.new v 0 ≤ length (allocs words.now)) × (length owners.new ≡ 512) }
 {
-    let mut a: usize = 0;
-    while a < sites.len() {
+    for a in 0..sites.len() {
         let base = base_of(words, sites, AllocId(a as u32));
-        a += 1;
-        owners[base.0 as usize] = a as u32;
+        owners[base.0 as usize] = a as u32 + 1;
     }
 }
 
@@ -227,10 +214,8 @@ fn follow_local(links: &[u64], causes: &[u64], pointers: &mut [u32], local: Loca
 {
     let mut found = [0u32; 512];
     let count = list(row_of(links, local.0 as usize), &mut found);
-    let mut i: usize = 0;
-    while i < count {
+    for i in 0..count {
         reach_local(pointers, LocalId(found[i]), a);
-        i += 1;
     }
     flag_uses(causes, pointers, local, a);
 }
@@ -264,10 +249,8 @@ fn store_sites(sites: &[u32], pointers: &mut [u32])
     ensures { SitesStored sites.now pointers.new }
 {
     pointers[ALLOCATIONS] = sites.len() as u32;
-    let mut a: usize = 0;
-    while a < sites.len() {
+    for a in 0..sites.len() {
         pointers[SITES + a] = sites[a];
-        a += 1;
     }
 }
 
@@ -285,10 +268,9 @@ pub fn discover_allocations(
 {
     store_sites(sites, pointers);
     own_bases(words, sites, &mut pointers[OWNERS..FLAGS]);
-    let mut i: usize = 0;
-    while i < sites.len() {
-        let base = base_of(words, sites, AllocId(i as u32));
-        propagate_pointers_and_mark_escapes(links, causes, pointers, base, AllocId(i as u32));
-        i += 1;
+    for i in 0..sites.len() {
+        let a = AllocId(i as u32);
+        let base = base_of(words, sites, a);
+        propagate_pointers_and_mark_escapes(links, causes, pointers, base, a);
     }
 }

@@ -34,10 +34,8 @@ pub fn put_words(out: &mut [u8], n: usize, words: &[u32]) -> usize
     ensures { Puts n words.now out.old out.new result }
 {
     let mut m = n;
-    let mut i: usize = 0;
-    while i < words.len() {
-        m = put_word(out, m, words[i]);
-        i += 1;
+    for &word in words {
+        m = put_word(out, m, word);
     }
     m
 }

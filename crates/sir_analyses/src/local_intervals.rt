@@ -102,12 +102,9 @@ pub fn block_intervals(
     ensures { (result ≤ 3075) × (result ≡ length (scan_words words.now b.0 v.0 end)) × (take result run.new ≡ scan_words words.now b.0 v.0 end) }
 {
     let span = block_operations(words, b);
-    let first = span.start;
-    let mut o = span.end;
     let mut till = end;
     let mut n: usize = 0;
-    while first < o {
-        o -= 1;
+    for o in (span.start..span.end).rev() {
         let s = scan_op(live, v, OpIdx(o), till);
         n = put_interval(run, n, b, o + 1, s.closed);
         till = s.till;
@@ -131,13 +128,11 @@ pub fn compute_intervals(
     let order = rpo(visit);
     let mut run = [0u32; RUN];
     let mut m: usize = 0;
-    let mut i: usize = 0;
-    while i < order.len() {
-        let b = BlockId(order[i]);
+    for &id in order {
+        let b = BlockId(id);
         let end = open_end(live, b, v);
         let n = block_intervals(words, live, b, v, end, &mut run);
         m = put_words(out, m, &run[..n]);
-        i += 1;
     }
     m
 }

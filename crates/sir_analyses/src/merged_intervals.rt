@@ -95,12 +95,9 @@ fn merge_intervals(words: &[u32], live: &[u64], reach: &[u64], b: BlockId, run: 
     let mut set = [0u64; 8];
     live_after(live, b, &mut set);
     let span = block_operations(words, b);
-    let first = span.start;
-    let mut o = span.end;
     let mut till = end_after(reach, &set);
     let mut n: usize = RUN;
-    while first < o {
-        o -= 1;
+    for o in (span.start..span.end).rev() {
         live_before(live, OpIdx(o), &mut set);
         let p = pass_op(intersects(reach, &set), OpIdx(o), till);
         n = put_interval_before(run, n, b, o + 1, p.closed);
@@ -126,13 +123,11 @@ pub fn populate_intervals_from_local_liveness(
     let count = block_count(words);
     let mut run = [0u32; RUN];
     let mut m = n;
-    let mut b: u32 = 0;
-    while b < count {
+    for b in 0..count {
         if is_visited(visit, BlockId(b)) {
             let from = merge_intervals(words, live, reach, BlockId(b), &mut run);
             m = put_words(out, m, &run[from..]);
         }
-        b += 1;
     }
     m
 }

@@ -13,7 +13,7 @@ pub bounds-pointers-0 : goal.bounds-pointers-0
 bounds-pointers-0 c = omega (arith, ap length c.requires.1, length-replicate {A = ℕ} 2051 0)
 
 pub loop-a-init : goal.loop-a-init
-loop-a-init c = (omega arith, sites_none c.args.sites.now c.args.pointers.now c.requires.1)
+loop-a-init c = sites_none c.args.sites.now c.args.pointers.now c.requires.1
 
 pub offset_bounds-sites-a : goal.offset_bounds-sites-a
 offset_bounds-sites-a c = omega (arith, c.requires.0)
@@ -28,19 +28,16 @@ pub offset_bounds-pointers-a : goal.offset_bounds-pointers-a
 offset_bounds-pointers-a c = omega (arith, c.requires.0)
 
 pub bounds-pointers-a : goal.bounds-pointers-a
-bounds-pointers-a c = omega (arith, c.loop-a.invariant.1.long, c.requires.0)
-
-pub overflow_add-a : goal.overflow_add-a
-overflow_add-a c = omega (arith, c.requires.0)
+bounds-pointers-a c = omega (arith, c.loop-a.invariant.long, c.requires.0)
 
 pub loop-a-smaller : goal.loop-a-smaller
 loop-a-smaller c = omega (arith, c.requires.0)
 
 pub loop-a-preserved : goal.loop-a-preserved
-loop-a-preserved c = (omega arith, sites_more c.loop-a.invariant.1 c.requires.0 c.loop-a-test.true)
+loop-a-preserved c = sites_more c.loop-a.invariant c.requires.0 c.loop-a-test.true
 
 pub shape_of-pointers : goal.shape_of-pointers
-shape_of-pointers c = c.loop-a.invariant.1.long ∙ sym (ap length c.requires.1 ∙ length-replicate {A = ℕ} 2051 0)
+shape_of-pointers c = c.loop-a.invariant.long ∙ sym (ap length c.requires.1 ∙ length-replicate {A = ℕ} 2051 0)
 
 pub returns : goal.returns
-returns c = sites_all c.loop-a.invariant.1 c.requires.0 c.loop-a-test.false c.loop-a.invariant.0
+returns c = sites_all c.loop-a.invariant c.requires.0 c.loop-a-test.false (omega arith)
