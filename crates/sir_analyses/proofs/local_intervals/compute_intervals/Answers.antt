@@ -10,7 +10,6 @@ use Rattle.plank_core.specs.laws.Lists.{get_or_mem}
 use Rattle.plank_core.specs.laws.Loops.{bind_bind, bind_drop_step, bind_drop_end}
 use Rattle.sir_analyses.specs.Order.{blocks_rpo}
 use Rattle.sir_analyses.specs.Liveness.{exit_set, block_intervals}
-use Rattle.sir_analyses.specs.inner.Scanning.{scan_words}
 use Rattle.sir_analyses.proofs.claims.order.OrderLength.{rpo_below, blocks_most}
 use Rattle.sir_analyses.proofs.loading.Loads.{front_length}
 use Rattle.sir_analyses.proofs.answers.Writing.{putting_none, putting_as, putting_more, putting_all, puts_as}
@@ -66,7 +65,8 @@ put_words-m-requires c =
     let L = c.loop-id in
     let w = c.args.words.now in
     let i = c.block_intervals-n in
-    omega (arith, ap length i.ensures.2, i.ensures.1, i.ensures.0, L.invariant.1, ap length (c.rpo-order.ensures ∙ c.requires.visit_stage.rpo_is), blocks_most w c.requires.visit_stage.well_formed, c.requires.visit_stage.well_formed.sized.blocks_most)
+    let q = i.ensures.1 _ c.open_end-end.ensures in
+    omega (arith, ap length q.1, q.0, i.ensures.0, L.invariant.1, ap length (c.rpo-order.ensures ∙ c.requires.visit_stage.rpo_is), blocks_most w c.requires.visit_stage.well_formed, c.requires.visit_stage.well_formed.sized.blocks_most)
 
 pub loop-id-preserved : goal.loop-id-preserved
 loop-id-preserved c =
@@ -78,10 +78,11 @@ loop-id-preserved c =
     let below = rpo_below w c.requires.visit_stage.well_formed (c.rpo-order.ensures ∙ c.requires.visit_stage.rpo_is) b (get_or_mem order L.id-index 0 t) in
     let v : c.args.v.0 < 512 = omega (arith, c.requires.v_bound, c.requires.visit_stage.well_formed.sized.locals_most) in
     let i = c.block_intervals-n in
-    let e = i.ensures.2 ∙ ap (scan_words w b c.args.v.0) c.open_end-end.ensures ∙ interval_words_lem c.requires.visit_stage.well_formed b below (exits_in c.args.live.now) c.requires.liveness_stage.sets.exit_rows c.args.v.0 v c.requires.liveness_stage.ends in
+    let q = i.ensures.1 _ c.open_end-end.ensures in
+    let e = q.1 ∙ interval_words_lem c.requires.visit_stage.well_formed b below (exits_in c.args.live.now) c.requires.liveness_stage.sets.exit_rows c.args.v.0 v c.requires.liveness_stage.ends in
     let p = c.put_words-m.ensures in (
       omega (arith, i.auto, L.invariant.0),
-      omega (arith, p.next, ap length i.ensures.2, i.ensures.1, i.ensures.0, L.invariant.1),
+      omega (arith, p.next, ap length q.1, q.0, i.ensures.0, L.invariant.1),
       putting_more (putting_as (bind_drop_step (in_block w c.args.v.0) order L.id-index t) L.invariant.2) (puts_as e p),
     )
 

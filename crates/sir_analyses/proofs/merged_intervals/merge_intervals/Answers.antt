@@ -7,8 +7,8 @@ use Rattle.plank_core.specs.Lists.{range}
 use Rattle.plank_core.specs.laws.Loops.{range_before, range_none}
 use Rattle.sir_data.specs.Records.{operations, block_word, ops}
 use Rattle.sir_analyses.specs.Answers.{interval_words}
-use Rattle.sir_analyses.specs.Liveness.{closing}
-use Rattle.sir_analyses.proofs.local_intervals.Scanning.{closing_few}
+use Rattle.sir_analyses.specs.inner.Scanning.{ending}
+use Rattle.sir_analyses.proofs.local_intervals.Scanning.{ending_few}
 use Rattle.sir_analyses.proofs.merged_intervals.MergedIntervals.{sweeping_starts, sweeping_more, sweeping_ends}
 use native.Mathlib.Omega.{arith}
 use Rattle.sir_analyses.proofs.merged_intervals.merge_intervals.Goals as goal
@@ -73,8 +73,8 @@ loop-o-preserved c =
     let meeting = c.intersects.ensures in
     let test = c.loop-o-test.true in
     let h : l.o - 1 < operations c.args.words.now = omega (arith, test, l.invariant.0, c.requires.liveness_stage.well_formed.in_range.ops_range c.args.b.0 c.requires.b_bound.0, span.ensures) in
-    let few = closing_few c.args.b.0 (l.o - 1 + 1) f.result.closed in
-    let e : p.result + length (interval_words (closing c.args.b.0 (l.o - 1 + 1) f.result.closed)) ≡ l.n = p.ensures.0 in (
+    let few = ending_few c.args.b.0 (l.o - 1 + 1) f.result.closed in
+    let e : p.result + length (interval_words (ending c.args.b.0 (l.o - 1 + 1) f.result.closed)) ≡ l.n = p.ensures.0 in (
       omega arith,
       omega (arith, p.auto, l.invariant.1),
       omega (arith, g.auto, l.invariant.2),
