@@ -11,7 +11,7 @@ ghost use Rattle.sir_analyses.specs.inner.Following.{link_all, follow_local};
 ghost use Rattle.sir_analyses.specs.inner.Discovery.{alloc_sites, block_sites, Capped, Site, links_in, used_in};
 ghost use Rattle.sir_analyses.specs.inner.Stages.{VisitStage, AcceptedStage, PointerStage, PointerRoom, PointerStep, PointersFollowed, SitesStored, owners_in, left_in};
 
-use crate::stages::{ALLOCATIONS, ESCAPING, FLAGS, LEFT, OWNERS, RETURNED, SITES, WORK, rpo};
+use crate::stages::{ALLOCATIONS, ESCAPING, FLAGS, LEFT, OWNERS, RETURNED, SITES, WORK, owner, rpo};
 use plank_core::dense_index_set::list;
 use plank_core::index::{AllocId, BlockId, LocalId, OpIdx};
 use plank_core::rows::{row_add, row_contains, row_of};
@@ -141,16 +141,13 @@ fn link_local_to_alloc(pointers: &mut [u32], local: LocalId, a: AllocId) -> Foun
     ensures value { result ≡ found a.0 (get_or (owners_in pointers.old) local.0 0) }
     ensures pointers_after { pointers.new ≡ set pointers.old (514 + local.0) (a.0 + 1) }
 {
-    let at = OWNERS + local.0 as usize;
-    let old = pointers[at];
-    pointers[at] = a.0 + 1;
-    if old == 0 {
-        return Found::First;
+    let before = owner(pointers, local);
+    pointers[OWNERS + local.0 as usize] = a.0 + 1;
+    match before {
+        None => Found::First,
+        Some(other) if other == a => Found::Before,
+        Some(other) => Found::Met(other),
     }
-    if old == a.0 + 1 {
-        return Found::Before;
-    }
-    Found::Met(AllocId(old - 1))
 }
 
 // Puts a local on the work list.
@@ -249,9 +246,7 @@ fn store_sites(sites: &[u32], pointers: &mut [u32])
     ensures { SitesStored sites.now pointers.new }
 {
     pointers[ALLOCATIONS] = sites.len() as u32;
-    for a in 0..sites.len() {
-        pointers[SITES + a] = sites[a];
-    }
+    pointers[SITES..SITES + sites.len()].copy_from_slice(sites);
 }
 
 // Owners and flags: at first each base is owned by its own allocation, then allocations are followed in turn.

@@ -1,6 +1,0 @@
--- `store_sites` meets its contract. The invariant: the first a sites are stored.
-use Rattle.sir_analyses.proofs.allocation_liveness.PointerTables.{SitesTo}
-use Rattle.sir_analyses.proofs.allocation_liveness.store_sites.Given as goal
-
-abbrev pub invariant-loop-a : goal.invariant-loop-a
-invariant-loop-a l = SitesTo l.sites l.pointers l.a
