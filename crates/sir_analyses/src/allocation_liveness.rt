@@ -6,7 +6,7 @@ ghost use Rattle.sir_data.specs.Codes.{is_alloc};
 ghost use Rattle.sir_data.specs.inner.WellFormed.{WellFormed};
 ghost use Rattle.sir_analyses.specs.Allocation.{rule12, allocs, alloc_at, base, bases};
 ghost use Rattle.sir_analyses.specs.inner.Pointers.{PointerRows};
-ghost use Rattle.sir_analyses.specs.Flags.{found};
+ghost use Rattle.sir_analyses.specs.Flags.{found, bit_of};
 ghost use Rattle.sir_analyses.specs.inner.Following.{link_all, follow_local};
 ghost use Rattle.sir_analyses.specs.inner.Discovery.{alloc_sites, block_sites, Capped, Site, links_in, used_in};
 ghost use Rattle.sir_analyses.specs.inner.Stages.{VisitStage, AcceptedStage, PointerStage, PointerRoom, PointerStep, PointersFollowed, SitesStored, owners_in, left_in};
@@ -119,12 +119,26 @@ fn own_bases(words: &[u32], sites: &[u32], owners: &mut [u32])
     }
 }
 
-// What marks an allocation: its flags are added up.
-const ESCAPE_FLAG: u32 = 1;
+// What marks an allocation.
+#[derive(Clone, Copy)]
+enum Flag {
+    Escape,
+    Return,
+    Meeting,
+}
 
-const RETURN_FLAG: u32 = 2;
-
-const MEETING_FLAG: u32 = 4;
+impl Flag {
+    // Its bit in the word of an allocation's flags.
+    fn bit(self) -> u32
+        ensures { result ≡ bit_of self }
+    {
+        match self {
+            Flag::Escape => 1,
+            Flag::Return => 2,
+            Flag::Meeting => 4,
+        }
+    }
+}
 
 // What linking a local to an allocation tells: nobody had the local, the allocation had it before, or another did.
 #[derive(Clone, Copy)]
@@ -161,12 +175,12 @@ fn push_local(pointers: &mut [u32], local: LocalId)
 }
 
 // Sets a flag of allocation a.
-fn set_flag(pointers: &mut [u32], a: AllocId, flag: u32)
+fn set_flag(pointers: &mut [u32], a: AllocId, flag: Flag)
     requires { (length pointers.old ≡ 2051) × (a.0 < 512) }
-    ensures { pointers.new ≡ set pointers.old (1026 + a.0) (bit_or (get_or pointers.old (1026 + a.0) 0) flag) }
+    ensures { pointers.new ≡ set pointers.old (1026 + a.0) (bit_or (get_or pointers.old (1026 + a.0) 0) (bit_of flag)) }
 {
     let at = FLAGS + a.0 as usize;
-    pointers[at] = pointers[at] | flag;
+    pointers[at] |= flag.bit();
 }
 
 // Links a local to allocation a, and acts on what that tells: where the allocation was first there the local goes on the work list, and
@@ -182,8 +196,8 @@ fn reach_local(pointers: &mut [u32], local: LocalId, a: AllocId)
         }
         Found::Before => {}
         Found::Met(other) => {
-            set_flag(pointers, a, MEETING_FLAG);
-            set_flag(pointers, other, MEETING_FLAG);
+            set_flag(pointers, a, Flag::Meeting);
+            set_flag(pointers, other, Flag::Meeting);
         }
     }
 }
@@ -195,10 +209,10 @@ fn flag_uses(causes: &[u64], pointers: &mut [u32], local: LocalId, a: AllocId)
     ensures { PointerStep [] a.0 (follow_local [] (used_in causes.now local.0) a.0) pointers.old pointers.new }
 {
     if row_contains(causes, ESCAPING, local.0) {
-        set_flag(pointers, a, ESCAPE_FLAG);
+        set_flag(pointers, a, Flag::Escape);
     }
     if row_contains(causes, RETURNED, local.0) {
-        set_flag(pointers, a, RETURN_FLAG);
+        set_flag(pointers, a, Flag::Return);
     }
 }
 
