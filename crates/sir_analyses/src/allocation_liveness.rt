@@ -11,7 +11,9 @@ ghost use Rattle.sir_analyses.specs.inner.Following.{link_all, follow_local};
 ghost use Rattle.sir_analyses.specs.inner.Discovery.{alloc_sites, block_sites, Capped, Site, links_in, used_in};
 ghost use Rattle.sir_analyses.specs.inner.Stages.{VisitStage, AcceptedStage, PointerStage, PointerRoom, PointerStep, PointersFollowed, SitesStored, owners_in, left_in};
 
-use crate::stages::{ALLOCATIONS, ESCAPING, FLAGS, LEFT, OWNERS, RETURNED, SITES, WORK, owner, rpo};
+use crate::stages::{
+    ALLOCATIONS, ESCAPING, FLAGS, LEFT, OWNERS, RETURNED, SITES, WORK, owner, rpo,
+};
 use plank_core::dense_index_set::list;
 use plank_core::index::{AllocId, BlockId, LocalId, OpIdx};
 use plank_core::rows::{row_add, row_contains, row_of};
@@ -225,8 +227,8 @@ fn follow_local(links: &[u64], causes: &[u64], pointers: &mut [u32], local: Loca
 {
     let mut found = [0u32; 512];
     let count = list(row_of(links, local.0 as usize), &mut found);
-    for i in 0..count {
-        reach_local(pointers, LocalId(found[i]), a);
+    for &carried in &found[..count] {
+        reach_local(pointers, LocalId(carried), a);
     }
     flag_uses(causes, pointers, local, a);
 }
