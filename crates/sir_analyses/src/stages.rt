@@ -49,6 +49,8 @@ pub const EXITS: usize = 22528;
 
 pub const LIVE: usize = 24576;
 
+// A function for each part: with the bounds as constants of one generic function each call would name both, which is no plainer.
+
 // What each operation reads.
 pub fn reads(live: &[u64]) -> &[u64]
     requires { length live.now ≡ 24576 }
