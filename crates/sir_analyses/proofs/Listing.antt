@@ -1,15 +1,11 @@
 -- Lists written into arrays one after the other, whole or as far as there is room.
 use mathlib.Core.Path.{◌≡◌, refl, sym, ap, ◌∙◌}
-use mathlib.Core.Bool.{Bool, true, false}
 use mathlib.Core.List.{List, [], ◌∷◌, ◌++◌, append_assoc, append-nil}
 use Prim.Native.Nat.{ℕ, suc, ◌+◌, ◌≤◌, ◌<◌}
 use native.Mathlib.Numerals.{add-one}
 use native.Mathlib.Omega.{arith}
 use lib.ListN.{length, get_or, take, set, length-append, length-set}
 use lib.Seq.{take-suc, take-suc-set, take-set-lt, set_at, length-take-le}
-use lib.Dec.{leb}
-use borrow.Author.Tests.{leb-true, leb-false}
-use Rattle.sir_analyses.specs.inner.Discovery.{Capped}
 use Rattle.sir_analyses.specs.inner.Visiting.{Listed}
 
 -- ---- a list under way
@@ -62,37 +58,13 @@ module _ {full : List ℕ} {at : ℕ} {old : List ℕ} where
 -- ---- a list that may not fit
 
 module _ {full : List ℕ} {at : ℕ} {old : List ℕ} where
-  -- it was listed to its end
-  pub capped_all : {new : List ℕ} {m : ℕ} → m ≤ length new → Listed full at old new m → Capped full at old new m
-  capped_all h k = record { fits = λ f. k; over = λ o. absurd (omega (arith, k.next, k.long)); long = k.long }
-
   -- there is no room for the next one
-  pub capped_stop : {x : ℕ} {rest new : List ℕ} {m r : ℕ} → length new ≤ m → length new < r → Listing full at old (x ∷ rest) new m → Capped full at old new r
-  capped_stop h l k = record { fits = λ f. absurd (omega (arith, k.count, k.long)); over = λ o. omega (arith, k.long); long = k.long }
+  pub capped_stop : {x : ℕ} {rest new : List ℕ} {m : ℕ} → length new ≤ m → Listing full at old (x ∷ rest) new m → (length old < at + length full) × (length new ≡ length old)
+  capped_stop h k = (omega (arith, k.count, k.long), k.long)
 
   -- some of it did not fit
-  pub capped_over : (xs rest : List ℕ) {new new' : List ℕ} {m r : ℕ} → length new' < r → Listing full at old (xs ++ rest) new m → Capped xs m new new' r → Capped full at old new' r
-  capped_over xs rest {new} {new'} {m} {r} l k p = record {
-    fits = λ f. absurd (let a = length-append xs rest in let q = p.fits (omega (arith, k.count, k.long)) in omega (arith, q.next, q.long, k.count, k.long));
-    over = λ o. omega (arith, p.long, k.long);
-    long = p.long ∙ k.long;
-  }
-
--- where the number is past the array's end, it did not fit
-pub capped_past : {xs old new : List ℕ} {at r : ℕ} → length new < r → Capped xs at old new r → length old < at + length xs
-capped_past {xs} {old} {new} {at} {r} h p = go (leb (at + length xs) (length old)) refl
-  where
-    go : (t : Bool) → leb (at + length xs) (length old) ≡ t → length old < at + length xs
-    go true e = let f = leb-true (at + length xs) (length old) e in let q = p.fits f in absurd (omega (arith, q.next, q.long))
-    go false e = leb-false (at + length xs) (length old) e
-
--- some of it fitted
-pub capped_fits : {xs new new' : List ℕ} {m r : ℕ} → r ≤ length new' → Capped xs m new new' r → Listed xs m new new' r
-capped_fits {xs} {new} {new'} {m} {r} h p = p.fits (go (leb (m + length xs) (length new)) refl)
-  where
-    go : (t : Bool) → leb (m + length xs) (length new) ≡ t → m + length xs ≤ length new
-    go true e = leb-true (m + length xs) (length new) e
-    go false e = absurd (omega (arith, p.over (leb-false (m + length xs) (length new) e), p.long))
+  pub capped_over : (xs rest new' : List ℕ) {new : List ℕ} {m : ℕ} → Listing full at old (xs ++ rest) new m → (length new < m + length xs) × (length new' ≡ length new) → (length old < at + length full) × (length new' ≡ length old)
+  capped_over xs rest new' k p = (let a = length-append xs rest in omega (arith, p.0, k.count, k.long), p.1 ∙ k.long)
 
 -- a list after two words that are set around it
 pub listed_headed : {xs : List ℕ} {at f : ℕ} {old mid new : List ℕ} {m n : ℕ} → at + 2 ≤ length old → Listed xs (at + 2) (set old at f) mid m → n ≡ length xs → new ≡ set mid (at + 1) n → Listed (f ∷ length xs ∷ xs) at old new m

@@ -17,7 +17,7 @@ use crate::allocation_words::put_head;
 use crate::answers::{Answer, finish};
 use crate::merged_intervals::populate_intervals_from_local_liveness;
 use crate::pointer_links::pointer_links;
-use crate::stages::{CAUSES, LINKS, alloc_sites, flags_of, is_marked, owner_of};
+use crate::stages::{CAUSES, LINKS, alloc_sites, flags_of, is_marked, owner};
 use plank_core::index::{AllocId, LocalId};
 use plank_core::rows::row_add;
 use sir_data::records::local_count;
@@ -29,12 +29,10 @@ pub fn owned_locals(words: &[u32], pointers: &[u32], a: AllocId, set: &mut [u64]
     ensures { (length set.new ≡ 8) × ((v : ℕ) → v < 512 → contains set.new v ≡ (ltb v (locals words.now) && eqb (get_or (owners_in pointers.now) v 0) (a.0 + 1))) }
 {
     let count = local_count(words);
-    let mut v: u32 = 0;
-    while v < count {
-        if owner_of(pointers, LocalId(v)) == a.0 + 1 {
+    for v in 0..count {
+        if owner(pointers, LocalId(v)) == Some(a) {
             row_add(set, 0, v);
         }
-        v += 1;
     }
 }
 

@@ -6,59 +6,52 @@ ghost use Rattle.sir_data.specs.Codes.{is_alloc};
 ghost use Rattle.sir_data.specs.inner.WellFormed.{WellFormed};
 ghost use Rattle.sir_analyses.specs.Allocation.{rule12, allocs, alloc_at, base, bases};
 ghost use Rattle.sir_analyses.specs.inner.Pointers.{PointerRows};
-ghost use Rattle.sir_analyses.specs.Flags.{found};
+ghost use Rattle.sir_analyses.specs.Flags.{found, bit_of};
 ghost use Rattle.sir_analyses.specs.inner.Following.{link_all, follow_local};
 ghost use Rattle.sir_analyses.specs.inner.Discovery.{alloc_sites, block_sites, Capped, Site, links_in, used_in};
 ghost use Rattle.sir_analyses.specs.inner.Stages.{VisitStage, AcceptedStage, PointerStage, PointerRoom, PointerStep, PointersFollowed, SitesStored, owners_in, left_in};
 
-use crate::stages::{ALLOCATIONS, ESCAPING, FLAGS, LEFT, OWNERS, RETURNED, SITES, WORK, rpo};
+use crate::stages::{
+    ALLOCATIONS, ESCAPING, FLAGS, LEFT, OWNERS, RETURNED, SITES, WORK, owner, rpo,
+};
 use plank_core::dense_index_set::list;
 use plank_core::index::{AllocId, BlockId, LocalId, OpIdx};
 use plank_core::rows::{row_add, row_contains, row_of};
 use sir_data::codes::is_alloc;
 use sir_data::records::{block_operations, op_outputs, op_word};
 
-// The allocations of a block after the first `at` of `sites`, each as one number: 1024 times the block, plus the operation. Where
-// there is no room for one of them, a number past the end of `sites`.
-fn block_allocations(words: &[u32], b: BlockId, sites: &mut [u32], at: usize) -> usize
+// The allocations of a block after the first `at` of `sites`, each as one number: 1024 times the block, plus the operation. How many
+// sites there are then, or none where there is no room for all.
+fn block_allocations(words: &[u32], b: BlockId, sites: &mut [u32], at: usize) -> Option<usize>
     requires well_formed { WellFormed words.now }
     requires b_bound { (b.0 < blocks words.now) × (at ≤ length sites.old) }
     ensures { Capped (block_sites words.now b.0) at sites.old sites.new result }
 {
     let span = block_operations(words, b);
-    let last = span.end;
     let mut m = at;
-    let mut o = span.start;
-    while o < last {
-        let id = o;
-        o += 1;
-        if is_alloc(op_word(words, OpIdx(id), 0)) {
+    for o in span.start..span.end {
+        if is_alloc(op_word(words, OpIdx(o), 0)) {
             if m == sites.len() {
-                return m + 1;
+                return None;
             }
-            sites[m] = 1024 * b.0 + id;
+            sites[m] = 1024 * b.0 + o;
             m += 1;
         }
     }
-    m
+    Some(m)
 }
 
-// The allocations of all visited blocks, in the order's sequence.
-pub fn find_allocations(words: &[u32], visit: &[u32], sites: &mut [u32]) -> usize
+// The allocations of all visited blocks, in the order's sequence: how many, or none where there is no room for all.
+pub fn find_allocations(words: &[u32], visit: &[u32], sites: &mut [u32]) -> Option<usize>
     requires { VisitStage words.now visit.now }
     ensures { Capped (alloc_sites words.now) 0 sites.old sites.new result }
 {
     let order = rpo(visit);
     let mut m: usize = 0;
-    let mut i: usize = 0;
-    while i < order.len() {
-        m = block_allocations(words, BlockId(order[i]), sites, m);
-        if m > sites.len() {
-            return m;
-        }
-        i += 1;
+    for &b in order {
+        m = block_allocations(words, BlockId(b), sites, m)?;
     }
-    m
+    Some(m)
 }
 
 // Where an allocation stands.
@@ -107,10 +100,8 @@ pub fn rule_12(words: &[u32], sites: &[u32]) -> bool
     ensures { result ≡ rule12 words.now }
 {
     let mut bases = [0u64; 8];
-    let mut a: usize = 0;
-    while a < sites.len() {
+    for a in 0..sites.len() {
         let base = base_of(words, sites, AllocId(a as u32));
-        a += 1;
         if !row_add(&mut bases, 0, base.0) {
             return true;
         }
@@ -124,20 +115,32 @@ fn own_bases(words: &[u32], sites: &[u32], owners: &mut [u32])
     requires sites_value { (sites.now ≡ alloc_sites words.now) × (length sites.now ≤ 512) × (owners.old ≡ replicate 512 0) }
     ensures { ((v : ℕ) → v < locals words.now → get_or owners.new v 0 ≡ get_or (bases words.now) v 0) × ((v : ℕ) → get_or owners.new v 0 ≤ length (allocs words.now)) × (length owners.new ≡ 512) }
 {
-    let mut a: usize = 0;
-    while a < sites.len() {
+    for a in 0..sites.len() {
         let base = base_of(words, sites, AllocId(a as u32));
-        a += 1;
-        owners[base.0 as usize] = a as u32;
+        owners[base.0 as usize] = a as u32 + 1;
     }
 }
 
-// What marks an allocation: its flags are added up.
-const ESCAPE_FLAG: u32 = 1;
+// What marks an allocation.
+#[derive(Clone, Copy)]
+enum Flag {
+    Escape,
+    Return,
+    Meeting,
+}
 
-const RETURN_FLAG: u32 = 2;
-
-const MEETING_FLAG: u32 = 4;
+impl Flag {
+    // Its bit in the word of an allocation's flags.
+    fn bit(self) -> u32
+        ensures { result ≡ bit_of self }
+    {
+        match self {
+            Flag::Escape => 1,
+            Flag::Return => 2,
+            Flag::Meeting => 4,
+        }
+    }
+}
 
 // What linking a local to an allocation tells: nobody had the local, the allocation had it before, or another did.
 #[derive(Clone, Copy)]
@@ -154,16 +157,13 @@ fn link_local_to_alloc(pointers: &mut [u32], local: LocalId, a: AllocId) -> Foun
     ensures value { result ≡ found a.0 (get_or (owners_in pointers.old) local.0 0) }
     ensures pointers_after { pointers.new ≡ set pointers.old (514 + local.0) (a.0 + 1) }
 {
-    let at = OWNERS + local.0 as usize;
-    let old = pointers[at];
-    pointers[at] = a.0 + 1;
-    if old == 0 {
-        return Found::First;
+    let before = owner(pointers, local);
+    pointers[OWNERS + local.0 as usize] = a.0 + 1;
+    match before {
+        None => Found::First,
+        Some(other) if other == a => Found::Before,
+        Some(other) => Found::Met(other),
     }
-    if old == a.0 + 1 {
-        return Found::Before;
-    }
-    Found::Met(AllocId(old - 1))
 }
 
 // Puts a local on the work list.
@@ -177,12 +177,12 @@ fn push_local(pointers: &mut [u32], local: LocalId)
 }
 
 // Sets a flag of allocation a.
-fn set_flag(pointers: &mut [u32], a: AllocId, flag: u32)
+fn set_flag(pointers: &mut [u32], a: AllocId, flag: Flag)
     requires { (length pointers.old ≡ 2051) × (a.0 < 512) }
-    ensures { pointers.new ≡ set pointers.old (1026 + a.0) (bit_or (get_or pointers.old (1026 + a.0) 0) flag) }
+    ensures { pointers.new ≡ set pointers.old (1026 + a.0) (bit_or (get_or pointers.old (1026 + a.0) 0) (bit_of flag)) }
 {
     let at = FLAGS + a.0 as usize;
-    pointers[at] = pointers[at] | flag;
+    pointers[at] |= flag.bit();
 }
 
 // Links a local to allocation a, and acts on what that tells: where the allocation was first there the local goes on the work list, and
@@ -198,8 +198,8 @@ fn reach_local(pointers: &mut [u32], local: LocalId, a: AllocId)
         }
         Found::Before => {}
         Found::Met(other) => {
-            set_flag(pointers, a, MEETING_FLAG);
-            set_flag(pointers, other, MEETING_FLAG);
+            set_flag(pointers, a, Flag::Meeting);
+            set_flag(pointers, other, Flag::Meeting);
         }
     }
 }
@@ -211,10 +211,10 @@ fn flag_uses(causes: &[u64], pointers: &mut [u32], local: LocalId, a: AllocId)
     ensures { PointerStep [] a.0 (follow_local [] (used_in causes.now local.0) a.0) pointers.old pointers.new }
 {
     if row_contains(causes, ESCAPING, local.0) {
-        set_flag(pointers, a, ESCAPE_FLAG);
+        set_flag(pointers, a, Flag::Escape);
     }
     if row_contains(causes, RETURNED, local.0) {
-        set_flag(pointers, a, RETURN_FLAG);
+        set_flag(pointers, a, Flag::Return);
     }
 }
 
@@ -227,10 +227,8 @@ fn follow_local(links: &[u64], causes: &[u64], pointers: &mut [u32], local: Loca
 {
     let mut found = [0u32; 512];
     let count = list(row_of(links, local.0 as usize), &mut found);
-    let mut i: usize = 0;
-    while i < count {
-        reach_local(pointers, LocalId(found[i]), a);
-        i += 1;
+    for &carried in &found[..count] {
+        reach_local(pointers, LocalId(carried), a);
     }
     flag_uses(causes, pointers, local, a);
 }
@@ -264,11 +262,7 @@ fn store_sites(sites: &[u32], pointers: &mut [u32])
     ensures { SitesStored sites.now pointers.new }
 {
     pointers[ALLOCATIONS] = sites.len() as u32;
-    let mut a: usize = 0;
-    while a < sites.len() {
-        pointers[SITES + a] = sites[a];
-        a += 1;
-    }
+    pointers[SITES..SITES + sites.len()].copy_from_slice(sites);
 }
 
 // Owners and flags: at first each base is owned by its own allocation, then allocations are followed in turn.
@@ -285,10 +279,9 @@ pub fn discover_allocations(
 {
     store_sites(sites, pointers);
     own_bases(words, sites, &mut pointers[OWNERS..FLAGS]);
-    let mut i: usize = 0;
-    while i < sites.len() {
-        let base = base_of(words, sites, AllocId(i as u32));
-        propagate_pointers_and_mark_escapes(links, causes, pointers, base, AllocId(i as u32));
-        i += 1;
+    for i in 0..sites.len() {
+        let a = AllocId(i as u32);
+        let base = base_of(words, sites, a);
+        propagate_pointers_and_mark_escapes(links, causes, pointers, base, a);
     }
 }

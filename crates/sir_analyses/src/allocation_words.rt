@@ -1,5 +1,5 @@
 // The first nine words of an allocation's record.
-ghost use Rattle.std.specs.Prelude.{◌≡◌, true, not, ◌∷◌, [], ◌≤◌, ◌<◌, length, eqb};
+ghost use Rattle.std.specs.Prelude.{◌≡◌, true, not, ◌≤◌, ◌<◌, length, eqb};
 ghost use Rattle.plank_core.specs.Lists.{one_if};
 ghost use Rattle.sir_data.specs.Records.{operations, code};
 ghost use Rattle.sir_data.specs.Codes.{is_alloc};
@@ -35,24 +35,13 @@ pub fn alloc_kind(words: &[u32], o: OpIdx) -> AllocKind
     }
 }
 
-// A kind as the three words of a record.
-#[derive(Clone, Copy)]
-pub struct KindWords {
-    pub kind: u32,
-    pub size: u32,
-    pub id: u32,
-}
-
-fn kind_words(k: AllocKind) -> KindWords
-    ensures { result.kind ∷ result.size ∷ result.id ∷ [] ≡ kind_words k }
+// A kind as the three words of a record: which it is, the size and the static id.
+fn kind_words(k: AllocKind) -> [u32; 3]
+    ensures { result ≡ kind_words k }
 {
     match k {
-        AllocKind::Static(size, id) => KindWords { kind: 0, size, id },
-        AllocKind::Dynamic(local) => KindWords {
-            kind: 1,
-            size: local.0,
-            id: 0,
-        },
+        AllocKind::Static(size, id) => [0, size, id],
+        AllocKind::Dynamic(local) => [1, local.0, 0],
     }
 }
 
@@ -60,10 +49,7 @@ fn kind_words(k: AllocKind) -> KindWords
 fn mark_of(flags: u32) -> u32
     ensures { result ≡ one_if (not (eqb flags 0)) }
 {
-    if flags == 0 {
-        return 0;
-    }
-    1
+    u32::from(flags != 0)
 }
 
 // The first nine words of an allocation's record.
@@ -80,9 +66,9 @@ pub fn alloc_head(words: &[u32], site: AllocSite, flags: u32, count: u32) -> All
     let b = site.block;
     let o = site.op;
     let base = base_ptr(words, o);
-    let k = kind_words(alloc_kind(words, o));
+    let [kind, size, id] = kind_words(alloc_kind(words, o));
     let mark = mark_of(flags);
-    let head = [b.0, o.0, base.0, k.kind, k.size, k.id, mark, flags, count];
+    let head = [b.0, o.0, base.0, kind, size, id, mark, flags, count];
     AllocHead { words: head }
 }
 

@@ -10,10 +10,7 @@ fn store(out: &mut [u8], at: usize, word: u32)
     requires { at + 4 ≤ length out.old }
     ensures { out.new ≡ take at out.old ++ bytes_of word ++ drop (at + 4) out.old }
 {
-    out[at] = (word % 256) as u8;
-    out[at + 1] = (word / 256 % 256) as u8;
-    out[at + 2] = (word / 65536 % 256) as u8;
-    out[at + 3] = (word / 16777216 % 256) as u8;
+    out[at..at + 4].copy_from_slice(&word.to_le_bytes());
 }
 
 // Word n of an answer, stored where the slice has room; the next number.
@@ -34,10 +31,8 @@ pub fn put_words(out: &mut [u8], n: usize, words: &[u32]) -> usize
     ensures { Puts n words.now out.old out.new result }
 {
     let mut m = n;
-    let mut i: usize = 0;
-    while i < words.len() {
-        m = put_word(out, m, words[i]);
-        i += 1;
+    for &word in words {
+        m = put_word(out, m, word);
     }
     m
 }

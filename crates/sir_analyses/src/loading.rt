@@ -39,10 +39,9 @@ pub fn load_visit(
     ensures { VisitLoaded words.now postorder.new visit.new sites.new result.number result.words result.finished result.allocations }
 {
     let finished = compute_visit(words, postorder, visit);
-    let allocations = find_allocations(words, visit, sites);
-    if allocations > sites.len() {
+    let Some(allocations) = find_allocations(words, visit, sites) else {
         return no_sizes(12);
-    }
+    };
     if rule_12(words, &sites[..allocations]) {
         return no_sizes(12);
     }

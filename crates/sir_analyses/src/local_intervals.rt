@@ -1,12 +1,14 @@
 // The intervals of one local: in each block backwards through its operations, from a use, or the block's end, to the definition before it.
-ghost use Rattle.std.specs.Prelude.{◌≡◌, ◌&&◌, ◌||◌, cond, ◌++◌, ◌+◌, ◌*◌, ◌≤◌, ◌<◌, length, take, eqb};
+ghost use Rattle.std.specs.Prelude.{◌≡◌, ◌||◌, cond, None, ◌++◌, ℕ, ◌+◌, ◌*◌, ◌≤◌, ◌<◌, length, take};
+ghost use Rattle.std.specs.Bool.{then_some};
+ghost use Rattle.std.specs.Option.{option_or};
 ghost use Rattle.plank_core.specs.inner.DenseIndexSet.{contains};
 ghost use Rattle.sir_data.specs.Records.{blocks, locals};
-ghost use Rattle.sir_analyses.specs.Liveness.{end_open, closing};
+ghost use Rattle.sir_analyses.specs.Liveness.{end_open};
 ghost use Rattle.sir_analyses.specs.Answers.{interval_words, intervals_answer};
 ghost use Rattle.sir_analyses.specs.inner.Writing.{Puts};
 ghost use Rattle.sir_analyses.specs.inner.Stages.{VisitStage, LivenessStage, reads_in, writes_in, ends_in, exits_in};
-ghost use Rattle.sir_analyses.specs.inner.Scanning.{open_before, closed_by, scan_words};
+ghost use Rattle.sir_analyses.specs.inner.Scanning.{end_of, ending, scan_words};
 
 use crate::answers::put_words;
 use crate::stages::{ends, exits, reads, rpo, writes};
@@ -20,68 +22,62 @@ pub const BLOCK_END: u32 = 4294967295;
 // The most words that the intervals of one block take.
 pub const RUN: usize = 3075;
 
-// The end that is open before an operation, and the end of the interval that it closes; 0 where there is none.
+// The end that is open before an operation, and the end of the interval that it closes.
 #[derive(Clone, Copy)]
 pub struct Scanned {
-    pub till: u32,
-    pub closed: u32,
+    pub till: Option<u32>,
+    pub closed: Option<u32>,
 }
 
 // Opens an end at an operation that reads v, where none is open.
-fn opened(live: &[u64], v: LocalId, o: OpIdx, till: u32) -> u32
+fn opened(live: &[u64], v: LocalId, o: OpIdx, till: Option<u32>) -> Option<u32>
     requires { (length live.now ≡ 24576) × (v.0 < 512) × (o.0 < 1024) }
-    ensures { result ≡ cond (contains (reads_in live.now) (512 * o.0 + v.0) && eqb till 0) (o.0 + 1) till }
+    ensures { result ≡ option_or till (then_some (contains (reads_in live.now) (512 * o.0 + v.0)) (o.0 + 1)) }
 {
-    if till != 0 {
+    if till.is_some() {
         return till;
     }
-    if row_contains(reads(live), o.0 as usize, v.0) {
-        return o.0 + 1;
-    }
-    0
+    row_contains(reads(live), o.0 as usize, v.0).then_some(o.0 + 1)
 }
 
 // One operation: where it defines v it closes what is open, and where it reads v and nothing is open it opens an end.
-fn scan_op(live: &[u64], v: LocalId, o: OpIdx, till: u32) -> Scanned
+fn scan_op(live: &[u64], v: LocalId, o: OpIdx, till: Option<u32>) -> Scanned
     requires { (length live.now ≡ 24576) × (v.0 < 512) × (o.0 < 1024) }
-    ensures till_value { result.till ≡ open_before (contains (writes_in live.now) (512 * o.0 + v.0)) (contains (reads_in live.now) (512 * o.0 + v.0)) (o.0 + 1) till }
-    ensures closed_value { result.closed ≡ closed_by (contains (writes_in live.now) (512 * o.0 + v.0)) till }
+    ensures till_value { result.till ≡ option_or (cond (contains (writes_in live.now) (512 * o.0 + v.0)) None till) (then_some (contains (reads_in live.now) (512 * o.0 + v.0)) (o.0 + 1)) }
+    ensures closed_value { result.closed ≡ cond (contains (writes_in live.now) (512 * o.0 + v.0)) till None }
 {
     if row_contains(writes(live), o.0 as usize, v.0) {
         return Scanned {
-            till: opened(live, v, o, 0),
+            till: opened(live, v, o, None),
             closed: till,
         };
     }
     Scanned {
         till: opened(live, v, o, till),
-        closed: 0,
+        closed: None,
     }
 }
 
 // The end that is open after a block's operations: the block's, where v is live there or read there.
-pub fn open_end(live: &[u64], b: BlockId, v: LocalId) -> u32
+pub fn open_end(live: &[u64], b: BlockId, v: LocalId) -> Option<u32>
     requires { (length live.now ≡ 24576) × (b.0 < 256) × (v.0 < 512) }
-    ensures { result ≡ end_open (contains (exits_in live.now) (512 * b.0 + v.0) || contains (ends_in live.now) (512 * b.0 + v.0)) }
+    ensures { result ≡ end_of (end_open (contains (exits_in live.now) (512 * b.0 + v.0) || contains (ends_in live.now) (512 * b.0 + v.0))) }
 {
     let row = b.0 as usize;
     if row_contains(exits(live), row, v.0) {
-        return BLOCK_END;
+        return Some(BLOCK_END);
     }
-    if row_contains(ends(live), row, v.0) {
-        return BLOCK_END;
-    }
-    0
+    row_contains(ends(live), row, v.0).then_some(BLOCK_END)
 }
 
 // Writes an interval after the first n words, if there is one: how many words there are now.
-fn put_interval(out: &mut [u32], n: usize, b: BlockId, from: u32, to: u32) -> usize
+fn put_interval(out: &mut [u32], n: usize, b: BlockId, from: u32, to: Option<u32>) -> usize
     requires { n + 3 ≤ length out.old }
-    ensures { (result ≡ n + length (interval_words (closing b.0 from to))) × (take result out.new ≡ take n out.old ++ interval_words (closing b.0 from to)) }
+    ensures { (result ≡ n + length (interval_words (ending b.0 from to))) × (take result out.new ≡ take n out.old ++ interval_words (ending b.0 from to)) }
 {
-    if to == 0 {
+    let Some(to) = to else {
         return n;
-    }
+    };
     out[n] = b.0;
     out[n + 1] = from;
     out[n + 2] = to;
@@ -94,20 +90,17 @@ pub fn block_intervals(
     live: &[u64],
     b: BlockId,
     v: LocalId,
-    end: u32,
+    end: Option<u32>,
     run: &mut [u32],
 ) -> usize
     requires liveness_stage { LivenessStage words.now live.now }
     requires b_bound { (b.0 < blocks words.now) × (v.0 < 512) × (length run.old ≡ 3075) }
-    ensures { (result ≤ 3075) × (result ≡ length (scan_words words.now b.0 v.0 end)) × (take result run.new ≡ scan_words words.now b.0 v.0 end) }
+    ensures { (result ≤ 3075) × ((e : ℕ) → end ≡ end_of e → (result ≡ length (scan_words words.now b.0 v.0 e)) × (take result run.new ≡ scan_words words.now b.0 v.0 e)) }
 {
     let span = block_operations(words, b);
-    let first = span.start;
-    let mut o = span.end;
     let mut till = end;
     let mut n: usize = 0;
-    while first < o {
-        o -= 1;
+    for o in (span.start..span.end).rev() {
         let s = scan_op(live, v, OpIdx(o), till);
         n = put_interval(run, n, b, o + 1, s.closed);
         till = s.till;
@@ -131,13 +124,11 @@ pub fn compute_intervals(
     let order = rpo(visit);
     let mut run = [0u32; RUN];
     let mut m: usize = 0;
-    let mut i: usize = 0;
-    while i < order.len() {
-        let b = BlockId(order[i]);
+    for &id in order {
+        let b = BlockId(id);
         let end = open_end(live, b, v);
         let n = block_intervals(words, live, b, v, end, &mut run);
         m = put_words(out, m, &run[..n]);
-        i += 1;
     }
     m
 }

@@ -1,14 +1,16 @@
 // The merged intervals of an allocation's locals: in each block backwards through its operations, from where one of them is live to
 // where none is.
-ghost use Rattle.std.specs.Prelude.{◌≡◌, not, ◌&&◌, ◌||◌, cond, [], ◌++◌, ℕ, ◌+◌, ◌*◌, ◌≤◌, ◌<◌, length, drop, replicate, eqb};
+ghost use Rattle.std.specs.Prelude.{◌≡◌, not, ◌&&◌, ◌||◌, cond, None, Some, [], ◌++◌, ℕ, ◌+◌, ◌*◌, ◌≤◌, ◌<◌, length, drop, replicate};
+ghost use Rattle.std.specs.Option.{option_or};
 ghost use Rattle.plank_core.specs.Lists.{upto};
 ghost use Rattle.plank_core.specs.inner.DenseIndexSet.{contains, meets};
 ghost use Rattle.sir_data.specs.Records.{blocks, locals};
-ghost use Rattle.sir_analyses.specs.Liveness.{Set, end_open, closing};
+ghost use Rattle.sir_analyses.specs.Liveness.{Set, end_open};
 ghost use Rattle.sir_analyses.specs.Answers.{interval_words};
 ghost use Rattle.sir_analyses.specs.inner.Stages.{VisitStage, LivenessStage, reads_in, writes_in, ends_in, exits_in};
 ghost use Rattle.sir_analyses.specs.inner.Writing.{Puts};
 ghost use Rattle.sir_analyses.specs.inner.Tables.{Same};
+ghost use Rattle.sir_analyses.specs.inner.Scanning.{end_of, ending};
 ghost use Rattle.sir_analyses.specs.inner.Sweep.{sweep_block, sweep_from};
 
 use crate::answers::put_words;
@@ -20,34 +22,31 @@ use plank_core::rows::{row_difference_with, row_of, row_union_with};
 use sir_data::records::{block_count, block_operations};
 
 // One operation is passed: where a local is live before it an end is open, and where none is the open one is closed.
-fn pass_op(live: bool, o: OpIdx, till: u32) -> Scanned
+fn pass_op(live: bool, o: OpIdx, till: Option<u32>) -> Scanned
     requires { o.0 < 1024 }
-    ensures till_value { result.till ≡ cond live (cond (eqb till 0) (o.0 + 1) till) 0 }
-    ensures closed_value { result.closed ≡ cond live 0 till }
+    ensures till_value { result.till ≡ cond live (option_or till (Some (o.0 + 1))) None }
+    ensures closed_value { result.closed ≡ cond live None till }
 {
     if live {
-        if till == 0 {
-            return Scanned {
-                till: o.0 + 1,
-                closed: 0,
-            };
-        }
-        return Scanned { till, closed: 0 };
+        return Scanned {
+            till: till.or(Some(o.0 + 1)),
+            closed: None,
+        };
     }
     Scanned {
-        till: 0,
+        till: None,
         closed: till,
     }
 }
 
 // Writes an interval in front of word n, if there is one: where the words begin now.
-fn put_interval_before(run: &mut [u32], n: usize, b: BlockId, from: u32, to: u32) -> usize
+fn put_interval_before(run: &mut [u32], n: usize, b: BlockId, from: u32, to: Option<u32>) -> usize
     requires { (3 ≤ n) × (n ≤ length run.old) }
-    ensures { (result + length (interval_words (closing b.0 from to)) ≡ n) × (drop result run.new ≡ interval_words (closing b.0 from to) ++ drop n run.old) }
+    ensures { (result + length (interval_words (ending b.0 from to)) ≡ n) × (drop result run.new ≡ interval_words (ending b.0 from to) ++ drop n run.old) }
 {
-    if to == 0 {
+    let Some(to) = to else {
         return n;
-    }
+    };
     run[n - 3] = b.0;
     run[n - 2] = from;
     run[n - 1] = to;
@@ -75,14 +74,11 @@ pub fn live_before(live: &[u64], o: OpIdx, set: &mut [u64])
 }
 
 // The end that is open after a block's operations: the block's, where one of the locals is live there.
-fn end_after<'a>(reach: &'a [u64], live: &'a [u64]) -> u32
+fn end_after<'a>(reach: &'a [u64], live: &'a [u64]) -> Option<u32>
     requires { (length reach.now ≡ 8) × (length live.now ≡ 8) }
-    ensures { result ≡ end_open (meets reach.now live.now) }
+    ensures { result ≡ end_of (end_open (meets reach.now live.now)) }
 {
-    if intersects(reach, live) {
-        return BLOCK_END;
-    }
-    0
+    intersects(reach, live).then_some(BLOCK_END)
 }
 
 // The merged intervals of the reach in one block, three words each, to the end of `run`: where they begin. The source's function of
@@ -95,12 +91,9 @@ fn merge_intervals(words: &[u32], live: &[u64], reach: &[u64], b: BlockId, run: 
     let mut set = [0u64; 8];
     live_after(live, b, &mut set);
     let span = block_operations(words, b);
-    let first = span.start;
-    let mut o = span.end;
     let mut till = end_after(reach, &set);
     let mut n: usize = RUN;
-    while first < o {
-        o -= 1;
+    for o in (span.start..span.end).rev() {
         live_before(live, OpIdx(o), &mut set);
         let p = pass_op(intersects(reach, &set), OpIdx(o), till);
         n = put_interval_before(run, n, b, o + 1, p.closed);
@@ -126,13 +119,11 @@ pub fn populate_intervals_from_local_liveness(
     let count = block_count(words);
     let mut run = [0u32; RUN];
     let mut m = n;
-    let mut b: u32 = 0;
-    while b < count {
+    for b in 0..count {
         if is_visited(visit, BlockId(b)) {
             let from = merge_intervals(words, live, reach, BlockId(b), &mut run);
             m = put_words(out, m, &run[from..]);
         }
-        b += 1;
     }
     m
 }

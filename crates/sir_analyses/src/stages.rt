@@ -1,6 +1,6 @@
 // The tables of the stages: where each part stands in its flat array, and how it is read.
 ghost use Rattle.std.specs.Prelude.{◌≡◌, not, ◌≤◌, ◌<◌, length, get_or, eqb};
-ghost use Rattle.sir_analyses.specs.inner.Stages.{rpo_in, visited_in, reads_in, writes_in, uses_in, defs_in, ends_in, exits_in, sites_in, owners_in, flags_in};
+ghost use Rattle.sir_analyses.specs.inner.Stages.{rpo_in, visited_in, reads_in, writes_in, uses_in, defs_in, ends_in, exits_in, sites_in, owners_in, owner_named, flags_in};
 
 use plank_core::index::{AllocId, BlockId, LocalId};
 
@@ -48,6 +48,8 @@ pub const ENDS: usize = 20480;
 pub const EXITS: usize = 22528;
 
 pub const LIVE: usize = 24576;
+
+// A function for each part: with the bounds as constants of one generic function each call would name both, which is no plainer.
 
 // What each operation reads.
 pub fn reads(live: &[u64]) -> &[u64]
@@ -132,12 +134,23 @@ pub fn alloc_sites(pointers: &[u32]) -> &[u32]
     &pointers[SITES..end]
 }
 
-// The owner of local v: its allocation + 1, or 0.
+// The owner of local v, as answers give it: its allocation + 1, or 0.
 pub fn owner_of(pointers: &[u32], v: LocalId) -> u32
     requires { (length pointers.now ≡ 2051) × (v.0 < 512) }
     ensures { result ≡ get_or (owners_in pointers.now) v.0 0 }
 {
     pointers[OWNERS + v.0 as usize]
+}
+
+// The allocation that owns local v.
+pub fn owner(pointers: &[u32], v: LocalId) -> Option<AllocId>
+    requires { (length pointers.now ≡ 2051) × (v.0 < 512) }
+    ensures { result ≡ owner_named (get_or (owners_in pointers.now) v.0 0) }
+{
+    match owner_of(pointers, v) {
+        0 => None,
+        n => Some(AllocId(n - 1)),
+    }
 }
 
 // The flags of allocation a.

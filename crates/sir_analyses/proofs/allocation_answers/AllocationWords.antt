@@ -2,12 +2,18 @@
 use mathlib.Core.Path.{◌≡◌, refl, sym, ap, ◌∙◌, ap₂}
 use mathlib.Core.Bool.{Bool, true, false, ◌&&◌, ◌||◌, not, and-true, and-false, or-false, or_comm}
 use mathlib.Core.List.{List, [], ◌∷◌, ◌++◌, append-nil, append_assoc}
-use Prim.Native.Nat.{ℕ, ◌+◌, ◌-◌, ◌/◌, ◌%◌, ◌<◌}
+use Rattle.std.specs.Prelude.{Some}
+use Rattle.std.specs.Option.{option_eq}
+use Rattle.plank_core.specs.declared.index.AllocId.{AllocId}
+use Rattle.sir_analyses.specs.inner.Stages.{owner_named}
+use Prim.Native.Nat.compare
+use lib.Dec.{compare_is_eq}
+use Prim.Native.Nat.{ℕ, zero, suc, ◌+◌, ◌-◌, ◌/◌, ◌%◌, ◌<◌}
 use native.Mathlib.Omega.{arith}
 use native.Mathlib.Numerals.{add-one}
 use lib.ListN.{length, get_or, replicate, length-append}
 use lib.Dec.{eqb, ltb}
-use borrow.Author.Tests.{eqb-true, not-false, le-ltb, ltb-true, ltb-false}
+use borrow.Author.Tests.{eqb-true, ne_eqb, not-false, le-ltb, ltb-true, ltb-false}
 use Rattle.plank_core.specs.Lists.{upto, one_if}
 use Rattle.plank_core.specs.inner.DenseIndexSet.{contains, added}
 use Rattle.plank_core.specs.laws.DenseIndexSet.{contains_added, contains_cleared}
@@ -31,6 +37,13 @@ use Rattle.sir_analyses.proofs.claims.marks.Marks.{reach_length}
 use Rattle.sir_analyses.proofs.merged_intervals.SweepProof.{sweep_merged}
 use Rattle.sir_analyses.proofs.allocation_liveness.Discovery.{sites_long, alloc_op, site_op, site_block}
 use Rattle.sir_analyses.proofs.answers.Writing.{puts_as, puts_then}
+
+-- ---- the owner of a local as an option
+
+-- whether a number of an owner names an allocation
+pub named_is : (same : AllocId → AllocId → Bool) → ((x y : AllocId) → same x y ≡ eqb x.0 y.0) → (n : ℕ) (a : AllocId) → option_eq same (owner_named n) (Some a) ≡ eqb n (a.0 + 1)
+named_is same told zero a = sym (ne_eqb 0 (a.0 + 1) (λ e. omega (arith, e)))
+named_is same told (suc n) a = told (record { 0 = n }) a ∙ rw (add-one a.0) (ap compare_is_eq (sym (compare.suc-suc n a.0)))
 
 -- ---- the locals below v for which a test holds
 
@@ -77,10 +90,6 @@ pub mark_told : {w owner flags : List ℕ} → Discovered w owner flags → {a :
 mark_told d {a} l p q = (d.flags_are a l).mark ∙ sym p ∙ q
 
 -- ---- the answer: its head, then the intervals
-
-pub head_made : (w : List ℕ) (b o flags count : ℕ) {v k s i m : ℕ} → v ≡ get_or (outs w o) 0 0 → k ∷ s ∷ i ∷ [] ≡ kind_words (kind_of w o) → m ≡ one_if (not (eqb flags 0))
-    → b ∷ o ∷ v ∷ k ∷ s ∷ i ∷ m ∷ flags ∷ count ∷ [] ≡ head_words w b o flags count
-head_made w b o flags count p q e = rw (p, e) (ap (λ (xs : List ℕ). b ∷ o ∷ get_or (outs w o) 0 0 ∷ (xs ++ (one_if (not (eqb flags 0)) ∷ flags ∷ count ∷ []))) q)
 
 -- a kind has three words, and so a head has nine
 kind_long : (k : AllocKind) → length (kind_words k) ≡ 3

@@ -44,14 +44,6 @@ module _ {n₀ : ℕ} {full out₀ : List ℕ} where
 
 -- ---- one word, and one after another
 
--- four stores at a place
-pub four : (l : List ℕ) (at a b c d : ℕ) → at + 4 ≤ length l → set (set (set (set l at a) (at + 1) b) (at + 2) c) (at + 3) d ≡ take at l ++ (a ∷ b ∷ c ∷ d ∷ []) ++ drop (at + 4) l
-four l at a b c d h =
-    let e1 : at + 1 ≡ suc at = omega arith in
-    let e2 : at + 2 ≡ suc (suc at) = omega arith in
-    let e3 : at + 3 ≡ suc (suc (suc at)) = omega arith in
-    rw (e1, e2, e3) (sets-eq (a ∷ b ∷ c ∷ d ∷ []) l at h)
-
 module _ (n x : ℕ) (out : List ℕ) where
   pub puts_none : length out < 4 * n + 4 → Puts n (x ∷ []) out out (n + 1)
   puts_none h = record { next = refl; left = sym (puts_past (length out) n (x ∷ []) out h) }

@@ -2,7 +2,7 @@
 use mathlib.Core.Path.{◌≡◌, refl, sym, ap, ◌∙◌, subst}
 use mathlib.Core.Bool.{Bool, true, false, cond}
 use mathlib.Core.List.{List, [], ◌∷◌, ◌++◌}
-use Prim.Native.Nat.{ℕ, ◌*◌, ◌/◌, ◌≤◌, ◌<◌}
+use Prim.Native.Nat.{ℕ, ◌*◌, ◌/◌, ◌≤◌}
 use native.Mathlib.Omega.{arith}
 use lib.ListN.{length, take, drop, length-append}
 use lib.Seq.{take_at, length-take-le}
@@ -17,13 +17,12 @@ use Rattle.sir_analyses.specs.Allocation.{rule12}
 use Rattle.sir_analyses.specs.Answers.{order_answer}
 use Rattle.sir_analyses.specs.Calls.{refusal}
 use Rattle.sir_analyses.specs.inner.Visiting.{VisitedAll, blocks_in, order_in, Listed}
-use Rattle.sir_analyses.specs.inner.Discovery.{alloc_sites, Capped}
+use Rattle.sir_analyses.specs.inner.Discovery.{alloc_sites}
 use Rattle.sir_analyses.specs.inner.Loading.{Prepared, VisitPrepared, VisitLoaded, Loaded}
 use Rattle.sir_analyses.specs.inner.Stages.{OrderStage, AcceptedStage}
-use Rattle.sir_analyses.proofs.allocation_liveness.Discovery.{sites_long, sites_most, sites_over}
+use Rattle.sir_analyses.proofs.allocation_liveness.Discovery.{sites_long, sites_most}
 use Rattle.sir_analyses.proofs.reverse_post_order.Postorder.{blocks_rpo_lem, order_answer_lem}
 use Rattle.sir_analyses.proofs.claims.order.OrderLength.{blocks_most, order_most}
-use Rattle.sir_analyses.proofs.Listing.{capped_past, capped_fits}
 
 -- an earlier rule decides
 decided : (xs ys : List (ℕ × Bool)) → (first xs ≡ 0 → ⊥) → first (xs ++ ys) ≡ first xs
@@ -91,10 +90,6 @@ module _ {w seen postorder : List ℕ} {n : ℕ} (good : WellFormed w) (v : Visi
 pub front_length : {A : Type 0} (n : ℕ) (xs : List A) → n ≤ length xs → n ≡ length (take n xs)
 front_length n xs h = sym (length-take-le n xs h)
 
--- more allocations than there can be bases
-pub found_over : {w old new : List ℕ} {r : ℕ} → WellFormed w → length old ≡ 512 → length new < r → Capped (alloc_sites w) 0 old new r → rule12 w ≡ true
-found_over {w} {old} good long h k = sites_over w good (let p = capped_past h k in omega arith)
-
 -- the words of the order
 pub order_stage : {w seen postorder : List ℕ} {n : ℕ} → WellFormed w → VisitedAll w seen postorder n → OrderStage w (take n postorder)
 order_stage {w} {postorder = postorder} {n = n} good v =
@@ -109,8 +104,8 @@ visit_refused {number = number} e t = record { number_is = e ∙ rw t; words_lon
     never z = omega arith
 
 -- the sites that were found fit, and are few
-pub found_few : (w : List ℕ) {old new : List ℕ} {r : ℕ} → length old ≡ 512 → r ≤ length new → Capped (alloc_sites w) 0 old new r → (take r new ≡ alloc_sites w) × (length (take r new) ≤ 512)
-found_few w h l c = let k = capped_fits l c in (k.list, omega (arith, ap length k.list, k.next, k.long))
+pub found_few : (w : List ℕ) {old new : List ℕ} {r : ℕ} → length old ≡ 512 → r ≤ length new → Listed (alloc_sites w) 0 old new r → (take r new ≡ alloc_sites w) × (length (take r new) ≤ 512)
+found_few w h l k = (k.list, omega (arith, ap length k.list, k.next, k.long))
 
 -- rule 12 does not apply
 pub visit_accepted : {w postorder visit sites : List ℕ} {number n k a : ℕ} → number ≡ 0 → n ≡ length w → rule12 w ≡ false → VisitPrepared w postorder visit sites k a → VisitLoaded w postorder visit sites number n k a

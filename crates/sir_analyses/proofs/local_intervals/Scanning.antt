@@ -2,19 +2,23 @@
 use mathlib.Core.Path.{◌≡◌, refl, sym, ap, ap₂, ◌∙◌}
 use mathlib.Core.Bool.{Bool, true, false, ◌&&◌, cond, ◌||◌}
 use mathlib.Core.List.{List, [], ◌∷◌, ◌++◌, foldr, append-nil, append_assoc}
-use Prim.Native.Nat.{ℕ, suc, ◌+◌, ◌*◌, ◌≤◌, ◌<◌}
+use Rattle.std.specs.Prelude.{Option, Some, None}
+use Rattle.std.specs.Bool.{then_some}
+use Rattle.std.specs.Option.{option_or}
+use Prim.Native.Nat.{ℕ, zero, suc, ◌+◌, ◌*◌, ◌≤◌, ◌<◌}
 use native.Mathlib.Omega.{arith}
 use native.Mathlib.Numerals.{add-one}
 use lib.ListN.{length, take, set, length-append, length-set}
 use lib.Seq.{take-suc-set}
 use lib.Dec.{eqb}
+use borrow.Author.Tests.{ne_eqb}
 use Rattle.plank_core.specs.Lists.{mem}
 use Rattle.plank_core.specs.inner.DenseIndexSet.{contains}
 use Rattle.sir_data.specs.Records.{operations, ops, ins, outs}
 use Rattle.sir_analyses.specs.Liveness.{Interval, Scan, closing, close, scan_op, block_end, end_open}
 use Rattle.sir_analyses.specs.Answers.{interval_words}
 use Rattle.sir_analyses.specs.inner.Tables.{OperandRows}
-use Rattle.sir_analyses.specs.inner.Scanning.{open_before, closed_by, scan_words}
+use Rattle.sir_analyses.specs.inner.Scanning.{open_before, closed_by, end_of, ending, scan_words}
 
 -- ---- the end that is open after the operations
 
@@ -24,6 +28,38 @@ end_either true true = refl
 end_either true false = refl
 end_either false true = refl
 end_either false false = refl
+
+-- the same as an option
+pub then_end : (t : Bool) → then_some t block_end ≡ end_of (end_open t)
+then_end true = refl
+then_end false = refl
+
+-- ---- ends as options
+
+-- what is left open, and what is closed
+pub end_kept : (d : Bool) (t : ℕ) → cond d (end_of t) None ≡ end_of (closed_by d t)
+end_kept true t = refl
+end_kept false t = refl
+
+pub end_opened : (d r : Bool) (h t : ℕ) → option_or (cond d None (end_of t)) (then_some r (h + 1)) ≡ end_of (open_before d r (h + 1) t)
+end_opened d r h t = rw (add-one h) (go d r t)
+  where
+    go : (d r : Bool) (t : ℕ) → option_or (cond d None (end_of t)) (then_some r (suc h)) ≡ end_of (open_before d r (suc h) t)
+    go true true t = refl
+    go true false t = refl
+    go false true zero = refl
+    go false true (suc t) = rw (ne_eqb (suc t) 0 (λ z. omega (arith, z)))
+    go false false zero = refl
+    go false false (suc t) = refl
+
+-- the interval that it closes
+pub ending_is : (b from t : ℕ) → ending b from (end_of t) ≡ closing b from t
+ending_is b from zero = refl
+ending_is b from (suc t) = rw (ne_eqb (suc t) 0 (λ z. omega (arith, z)))
+
+pub ending_few : (b from : ℕ) (to : Option ℕ) → length (interval_words (ending b from to)) ≤ 3
+ending_few b from None = omega arith
+ending_few b from (Some e) = omega arith
 
 -- ---- one step of the definition
 
@@ -82,15 +118,15 @@ abbrev scanned : List ℕ → ℕ → ℕ → ℕ → List ℕ → Scan
 scanned w b v end os = foldr (scan_op w b v) (record { open' = end; closed = [] }) os
 
 -- till is the open end, and the first n words of out are those of the intervals closed so far
-pub record Scanning (w : List ℕ) (b v end : ℕ) (os out : List ℕ) (till n : ℕ) : Type 0 where
-  pub opened : till ≡ (scanned w b v end os).open'
+pub record Scanning (w : List ℕ) (b v end : ℕ) (os out : List ℕ) (till : Option ℕ) (n : ℕ) : Type 0 where
+  pub opened : till ≡ end_of (scanned w b v end os).open'
   pub count : n ≡ length (interval_words (scanned w b v end os).closed)
   pub written : take n out ≡ interval_words (scanned w b v end os).closed
 
-pub scanning_starts : {w : List ℕ} {b v end : ℕ} {os out : List ℕ} → os ≡ [] → Scanning w b v end os out end 0
+pub scanning_starts : {w : List ℕ} {b v end : ℕ} {os out : List ℕ} → os ≡ [] → Scanning w b v end os out (end_of end) 0
 scanning_starts e = rw e (record { opened = refl; count = refl; written = refl })
 
-module _ {w : List ℕ} {b v end : ℕ} {os out : List ℕ} {till n : ℕ} (g : Scanning w b v end os out till n) where
+module _ {w : List ℕ} {b v end : ℕ} {os out : List ℕ} {till : Option ℕ} {n : ℕ} (g : Scanning w b v end os out till n) where
   -- an interval, if one is closed, is written after the others
   behind : (out' : List ℕ) (from to : ℕ) {r : ℕ} → r ≡ n + length (interval_words (closing b from to)) → take r out' ≡ take n out ++ interval_words (closing b from to)
       → (r ≡ length (interval_words ((scanned w b v end os).closed ++ closing b from to))) × (take r out' ≡ interval_words ((scanned w b v end os).closed ++ closing b from to))
@@ -101,27 +137,29 @@ module _ {w : List ℕ} {b v end : ℕ} {os out : List ℕ} {till n : ℕ} (g : 
       )
 
   pub scanning_more : (reads writes : List ℕ) (o : ℕ) → OperandRows w reads writes → o < operations w → v < 512
-      → (out' : List ℕ) {next closed r : ℕ} → next ≡ open_before (contains writes (512 * o + v)) (contains reads (512 * o + v)) (o + 1) till → closed ≡ closed_by (contains writes (512 * o + v)) till
-      → r ≡ n + length (interval_words (closing b (o + 1) closed)) → take r out' ≡ take n out ++ interval_words (closing b (o + 1) closed)
+      → (out' : List ℕ) {next closed : Option ℕ} {r : ℕ} → next ≡ option_or (cond (contains writes (512 * o + v)) None till) (then_some (contains reads (512 * o + v)) (o + 1)) → closed ≡ cond (contains writes (512 * o + v)) till None
+      → r ≡ n + length (interval_words (ending b (o + 1) closed)) → take r out' ≡ take n out ++ interval_words (ending b (o + 1) closed)
       → Scanning w b v end (o ∷ os) out' next r
   scanning_more reads writes o rows l h out' {closed = closed} p q s t =
       let c = scanned w b v end os in
       let x = rows.written o v l h in
       let y = rows.read o v l h in
-      let d : closed ≡ closed_by (mem v (outs w o)) c.open' = q ∙ ap₂ closed_by x g.opened in
-      let e : c.closed ++ closing b (o + 1) closed ≡ (scan_op w b v o c).closed = ap (λ (k : ℕ). c.closed ++ closing b (o + 1) k) d ∙ sym (scan_closed w b v o c) in
-      let f = behind out' (o + 1) closed s t in
+      let to : ℕ = closed_by (mem v (outs w o)) c.open' in
+      let d : closed ≡ end_of to = q ∙ ap₂ (λ (k : Bool) (u : Option ℕ). cond k u None) x g.opened ∙ end_kept (mem v (outs w o)) c.open' in
+      let i : ending b (o + 1) closed ≡ closing b (o + 1) to = ap (ending b (o + 1)) d ∙ ending_is b (o + 1) to in
+      let e : c.closed ++ closing b (o + 1) to ≡ (scan_op w b v o c).closed = sym (scan_closed w b v o c) in
+      let f = behind out' (o + 1) to (s ∙ ap (λ (is : List Interval). n + length (interval_words is)) i) (t ∙ ap (λ (is : List Interval). take n out ++ interval_words is) i) in
       record {
-        opened = p ∙ rw (x, y, g.opened) (sym (scan_open w b v o c));
+        opened = p ∙ rw (x, y, g.opened) (end_opened (mem v (outs w o)) (mem v (ins w o)) o c.open') ∙ ap end_of (sym (scan_open w b v o c));
         count = f.0 ∙ ap (λ (is : List Interval). length (interval_words is)) e;
         written = f.1 ∙ ap interval_words e;
       }
 
-  pub scanning_ends : os ≡ ops w b → (out' : List ℕ) {r : ℕ} → r ≡ n + length (interval_words (closing b 0 till)) → take r out' ≡ take n out ++ interval_words (closing b 0 till)
+  pub scanning_ends : os ≡ ops w b → (out' : List ℕ) {r : ℕ} → r ≡ n + length (interval_words (ending b 0 till)) → take r out' ≡ take n out ++ interval_words (ending b 0 till)
       → (r ≡ length (scan_words w b v end)) × (take r out' ≡ scan_words w b v end)
   scanning_ends k out' s t =
       let c = scanned w b v end os in
-      let e : interval_words (c.closed ++ closing b 0 till) ≡ scan_words w b v end =
-      ap (λ (u : ℕ). interval_words (c.closed ++ closing b 0 u)) g.opened ∙ ap (λ (ps : List ℕ). interval_words (close b 0 (scanned w b v end ps)).closed) k in
-      let f = behind out' 0 till s t in
+      let i : ending b 0 till ≡ closing b 0 c.open' = ap (ending b 0) g.opened ∙ ending_is b 0 c.open' in
+      let e : interval_words (c.closed ++ closing b 0 c.open') ≡ scan_words w b v end = ap (λ (ps : List ℕ). interval_words (close b 0 (scanned w b v end ps)).closed) k in
+      let f = behind out' 0 c.open' (s ∙ ap (λ (is : List Interval). n + length (interval_words is)) i) (t ∙ ap (λ (is : List Interval). take n out ++ interval_words is) i) in
       (f.0 ∙ ap length e, f.1 ∙ e)

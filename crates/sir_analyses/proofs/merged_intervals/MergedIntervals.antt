@@ -2,7 +2,12 @@
 use mathlib.Core.Path.{◌≡◌, refl, sym, ap, ap₂, ◌∙◌}
 use mathlib.Core.Bool.{Bool, true, false, not, ◌&&◌, ◌||◌, cond}
 use mathlib.Core.List.{List, [], ◌∷◌, ◌++◌, foldr, append_assoc}
-use Prim.Native.Nat.{ℕ, suc, ◌+◌, ◌-◌, ◌*◌, ◌≤◌, ◌<◌}
+use Rattle.std.specs.Prelude.{Option, Some, None}
+use Rattle.std.specs.Option.{option_or}
+use borrow.Author.Tests.{ne_eqb}
+use Rattle.sir_analyses.specs.inner.Scanning.{end_of, ending}
+use Rattle.sir_analyses.proofs.local_intervals.Scanning.{ending_is}
+use Prim.Native.Nat.{ℕ, zero, suc, ◌+◌, ◌-◌, ◌*◌, ◌≤◌, ◌<◌}
 use native.Mathlib.Omega.{arith}
 use native.Mathlib.Numerals.{add-one}
 use lib.ListN.{length, take, drop, set, replicate, length-take, length-drop, drop_of_length-le}
@@ -17,7 +22,7 @@ use Rattle.plank_core.specs.laws.DenseIndexSet.{contains_row, contains_cleared, 
 use Rattle.sir_data.specs.Records.{blocks, operations, locals, ops, ins, outs}
 use Rattle.sir_data.specs.inner.WellFormed.{WellFormed}
 use Rattle.sir_analyses.specs.Order.{is_visited}
-use Rattle.sir_analyses.specs.Liveness.{Set, has, remove_all, end_reads, settled, exit_set, Scan, end_open, closing}
+use Rattle.sir_analyses.specs.Liveness.{Set, has, remove_all, end_reads, settled, exit_set, Interval, Scan, end_open, closing}
 use Rattle.sir_analyses.specs.Answers.{interval_words}
 use Rattle.sir_analyses.specs.inner.Writing.{Puts}
 use Rattle.sir_analyses.specs.inner.Tables.{Same, SameRows, OperandRows, EndRows}
@@ -97,6 +102,19 @@ module _ (b o : ℕ) (t : Bool) (c : Scan) where
       go true = refl
       go false = refl
 
+-- the open end before an operation, and the end of the interval that it closes, as options
+till_passed : (t : Bool) (o k : ℕ) → cond t (option_or (end_of k) (Some (o + 1))) None ≡ end_of (cond t (cond (eqb k 0) (o + 1) k) 0)
+till_passed t o k = rw (add-one o) (go t k)
+  where
+    go : (t : Bool) (k : ℕ) → cond t (option_or (end_of k) (Some (suc o))) None ≡ end_of (cond t (cond (eqb k 0) (suc o) k) 0)
+    go true zero = refl
+    go true (suc k) = rw (ne_eqb (suc k) 0 (λ z. omega (arith, z)))
+    go false k = refl
+
+end_passed : (t : Bool) (k : ℕ) → cond t None (end_of k) ≡ end_of (cond t 0 k)
+end_passed true k = refl
+end_passed false k = refl
+
 -- an interval that is closed goes in front
 pub shut_words : (b from : ℕ) (c : Scan) → interval_words (shut b from c).closed ≡ interval_words (closing b from c.open') ++ interval_words c.closed
 shut_words b from c = go (eqb c.open' 0)
@@ -115,9 +133,9 @@ abbrev swept : List ℕ → Set → ℕ → List ℕ → Sweep
 swept w s b os = foldr (sweep_op w s b) (sweep_end w s b []) os
 
 -- live has the locals live before os, till is the open end, and the words of run from n on are those of the intervals closed so far
-pub record Sweeping (w reach : List ℕ) (b : ℕ) (os live run : List ℕ) (till n : ℕ) : Type 0 where
+pub record Sweeping (w reach : List ℕ) (b : ℕ) (os live run : List ℕ) (till : Option ℕ) (n : ℕ) : Type 0 where
   pub lives : (v : ℕ) → v < locals w → contains live v ≡ has (live_in w b os) v
-  pub opened : (s : Set) → length s ≡ locals w → Same reach s → till ≡ (swept w s b os).spans.open'
+  pub opened : (s : Set) → length s ≡ locals w → Same reach s → till ≡ end_of (swept w s b os).spans.open'
   pub written : (s : Set) → length s ≡ locals w → Same reach s → drop n run ≡ interval_words (swept w s b os).spans.closed
 
 module _ {w : List ℕ} (good : WellFormed w) (b : ℕ) (below : b < blocks w) where
@@ -146,42 +164,43 @@ module _ {w : List ℕ} (reach : List ℕ) (good : WellFormed w) (b : ℕ) (belo
       meets_live reach live s (live_in w b os) (omega (arith, good.sized.locals_most)) same (λ v h. f v (omega arith))
       ∙ ap nonempty (sym (sweep_live w b s (e ∙ sym (exit_size w good b below)) os))
 
-  pub sweeping_starts : (exits ends : List ℕ) {os live run : List ℕ} {till n : ℕ} → SameRows exits (settled w).1 (blocks w) → EndRows w ends
+  pub sweeping_starts : (exits ends : List ℕ) {os live run : List ℕ} {till : Option ℕ} {n : ℕ} → SameRows exits (settled w).1 (blocks w) → EndRows w ends
       → ((v : ℕ) → v < 512 → contains live v ≡ (contains exits (512 * b + v) || contains ends (512 * b + v)))
-      → till ≡ end_open (meets reach live) → length run ≤ n → os ≡ [] → Sweeping w reach b os live run till n
+      → till ≡ end_of (end_open (meets reach live)) → length run ≤ n → os ≡ [] → Sweeping w reach b os live run till n
   sweeping_starts exits ends {live = live} {run = run} {n = n} x y f t l e = rw e (record {
     lives = lives';
-    opened = λ s k same. t ∙ ap end_open (live_test [] live lives' s k same);
+    opened = λ s k same. t ∙ ap (λ (z : Bool). end_of (end_open z)) (live_test [] live lives' s k same);
     written = λ s k same. drop_of_length-le run {i = n} l;
   })
     where
       lives' : (v : ℕ) → v < locals w → contains live v ≡ has (live_in w b []) v
       lives' = lives_none good b below exits ends live x y f
 
-  module _ {os live run : List ℕ} {till n : ℕ} (g : Sweeping w reach b os live run till n) where
-    pub sweeping_more : (reads writes : List ℕ) (o : ℕ) → OperandRows w reads writes → o < operations w → (live' run' : List ℕ) {t : Bool} {next closed r : ℕ}
+  module _ {os live run : List ℕ} {till : Option ℕ} {n : ℕ} (g : Sweeping w reach b os live run till n) where
+    pub sweeping_more : (reads writes : List ℕ) (o : ℕ) → OperandRows w reads writes → o < operations w → (live' run' : List ℕ) {t : Bool} {next closed : Option ℕ} {r : ℕ}
         → ((v : ℕ) → v < 512 → contains live' v ≡ ((contains live v && not (contains writes (512 * o + v))) || contains reads (512 * o + v)))
-        → t ≡ meets reach live' → next ≡ cond t (cond (eqb till 0) (o + 1) till) 0 → closed ≡ cond t 0 till
-        → drop r run' ≡ interval_words (closing b (o + 1) closed) ++ drop n run
+        → t ≡ meets reach live' → next ≡ cond t (option_or till (Some (o + 1))) None → closed ≡ cond t None till
+        → drop r run' ≡ interval_words (ending b (o + 1) closed) ++ drop n run
         → Sweeping w reach b (o ∷ os) live' run' next r
     sweeping_more reads writes o rows l live' run' {closed = closed} f m p q t = record {
       lives = lives';
       opened = λ s e same.
           let c = swept w s b os in
-          p ∙ rw (m ∙ live_test (o ∷ os) live' lives' s e same, g.opened s e same) (sym (note_till b o (nonempty (live_before w s o c.live)) c.spans));
+          p ∙ rw (m ∙ live_test (o ∷ os) live' lives' s e same, g.opened s e same) (till_passed (nonempty (live_before w s o c.live)) o c.spans.open') ∙ ap end_of (sym (note_till b o (nonempty (live_before w s o c.live)) c.spans));
       written = λ s e same.
           let c = swept w s b os in
-          let z : closed ≡ cond (nonempty (live_before w s o c.live)) 0 c.spans.open' = q ∙ ap₂ (λ (x : Bool) (u : ℕ). cond x 0 u) (m ∙ live_test (o ∷ os) live' lives' s e same) (g.opened s e same) in
-          t ∙ ap₂ (λ (k : ℕ) (xs : List ℕ). interval_words (closing b (o + 1) k) ++ xs) z (g.written s e same) ∙ sym (note_words b o (nonempty (live_before w s o c.live)) c.spans);
+          let to : ℕ = cond (nonempty (live_before w s o c.live)) 0 c.spans.open' in
+          let z : closed ≡ end_of to = q ∙ ap₂ (λ (x : Bool) (u : Option ℕ). cond x None u) (m ∙ live_test (o ∷ os) live' lives' s e same) (g.opened s e same) ∙ end_passed (nonempty (live_before w s o c.live)) c.spans.open' in
+          t ∙ ap₂ (λ (is : List Interval) (xs : List ℕ). interval_words is ++ xs) (ap (ending b (o + 1)) z ∙ ending_is b (o + 1) to) (g.written s e same) ∙ sym (note_words b o (nonempty (live_before w s o c.live)) c.spans);
     }
       where
         lives' : (v : ℕ) → v < locals w → contains live' v ≡ has (live_in w b (o ∷ os)) v
         lives' = lives_more good b below os live g.lives reads writes o rows l live' f
 
-    pub sweeping_ends : os ≡ ops w b → (run' : List ℕ) (r : ℕ) → drop r run' ≡ interval_words (closing b 0 till) ++ drop n run
+    pub sweeping_ends : os ≡ ops w b → (run' : List ℕ) (r : ℕ) → drop r run' ≡ interval_words (ending b 0 till) ++ drop n run
         → (s : Set) → length s ≡ locals w → Same reach s → drop r run' ≡ interval_words (sweep_block w s b [])
     sweeping_ends k run' r t s e same =
-        t ∙ ap₂ (λ (u : ℕ) (xs : List ℕ). interval_words (closing b 0 u) ++ xs) (g.opened s e same) (g.written s e same)
+        t ∙ ap₂ (λ (is : List Interval) (xs : List ℕ). interval_words is ++ xs) (ap (ending b 0) (g.opened s e same) ∙ ending_is b 0 (swept w s b os).spans.open') (g.written s e same)
         ∙ sym (shut_words b 0 (swept w s b os).spans) ∙ ap (λ (ps : List ℕ). interval_words (shut b 0 (swept w s b ps).spans).closed) k
 
 -- ---- the blocks in turn

@@ -1,5 +1,5 @@
 -- The arrays in which allocations are listed and their pointers are followed.
-use Rattle.std.specs.Prelude.{◌≡◌, Bool, false, not, List, [], ◌∷◌, ◌++◌, map, reverse, ℕ, zero, suc, ◌+◌, ◌*◌, ◌≤◌, ◌<◌, length, get_or, take, eqb}
+use Rattle.std.specs.Prelude.{◌≡◌, Option, MatchOption, Bool, false, not, List, [], ◌∷◌, ◌++◌, map, reverse, ℕ, zero, suc, ◌+◌, ◌*◌, ◌≤◌, ◌<◌, length, get_or, take, eqb}
 use Rattle.plank_core.specs.Lists.{keep, one_if, ◌∈◌}
 use Rattle.plank_core.specs.inner.DenseIndexSet.{contains, members, row_of}
 use Rattle.sir_data.specs.Records.{locals, ops, code, outs}
@@ -25,11 +25,9 @@ alloc_sites w = map alloc_site (allocs w)
 unfoldable pub block_sites : List ℕ → ℕ → List ℕ
 block_sites w b = map (λ o. 1024 * b + o) (keep (λ o. is_alloc (code w o)) (ops w b))
 
--- a list stands in an array after its first `at`, up to r; where it does not fit, r is past the array's end
-pub record Capped (xs : List ℕ) (at : ℕ) (old new : List ℕ) (r : ℕ) : Type 0 where
-  pub fits : at + length xs ≤ length old → Listed xs at old new r
-  pub over : length old < at + length xs → length old < r
-  pub long : length new ≡ length old
+-- a list stands in an array after its first `at`, up to r; where it does not fit there is no r
+abbrev pub Capped : List ℕ → ℕ → List ℕ → List ℕ → Option ℕ → Type 0
+Capped xs at old new r = MatchOption r ((length old < at + length xs) × (length new ≡ length old)) (λ n. (n ≤ length new) × Listed xs at old new n)
 
 -- how many entries of an owner array are 0
 unfoldable pub zeros : List ℕ → ℕ

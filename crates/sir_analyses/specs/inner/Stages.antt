@@ -1,6 +1,7 @@
 -- The stages that questions read: the visit, liveness and pointers of an image's words. Each stage is one flat array with named
 -- parts, filled by one function; its record is all that a reader asks for.
-use Rattle.std.specs.Prelude.{◌≡◌, Bool, false, not, ◌&&◌, List, ℕ, ◌+◌, ◌-◌, ◌≤◌, ◌<◌, length, get_or, take, drop, replicate, eqb}
+use Rattle.std.specs.Prelude.{◌≡◌, Option, None, Some, Bool, false, not, ◌&&◌, List, ℕ, zero, suc, ◌+◌, ◌-◌, ◌≤◌, ◌<◌, length, get_or, take, drop, replicate, eqb}
+use Rattle.plank_core.specs.declared.index.AllocId.{AllocId}
 use Rattle.plank_core.specs.Lists.{mem}
 use Rattle.sir_data.specs.Records.{blocks, ins, outs}
 use Rattle.sir_data.specs.inner.WellFormed.{WellFormed}
@@ -82,6 +83,11 @@ sites_in pointers = part 2 (get_or pointers 0 0) pointers
 
 abbrev pub owners_in : List ℕ → List ℕ
 owners_in pointers = part 514 512 pointers
+
+-- the allocation that the number of an owner names: it is one less, and 0 names none
+abbrev pub owner_named : ℕ → Option AllocId
+owner_named zero = None
+owner_named (suc a) = Some (record { 0 = a })
 
 abbrev pub flags_in : List ℕ → List ℕ
 flags_in pointers = part 1026 512 pointers

@@ -1,11 +1,6 @@
 -- `rule_12` meets its contract. The invariant: the bases of the allocations left decide.
-use Prim.Native.Nat.{◌-◌, ◌≤◌}
-use lib.ListN.{length}
 use Rattle.sir_analyses.proofs.allocation_liveness.Discovery.{Deciding}
 use Rattle.sir_analyses.proofs.allocation_liveness.rule_12.Given as goal
 
 abbrev pub invariant-loop-a : goal.invariant-loop-a
-invariant-loop-a l = (l.a ≤ length l.sites) × Deciding l.words l.bases l.a
-
-abbrev pub decreases-loop-a : goal.decreases-loop-a
-decreases-loop-a l = length l.sites - l.a
+invariant-loop-a l = Deciding l.words l.bases l.a

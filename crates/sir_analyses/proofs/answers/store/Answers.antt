@@ -1,17 +1,11 @@
--- `store` meets its contract: four stores.
-use lib.ListN.{length-set}
+-- `store` meets its contract.
+use mathlib.Core.Path.{refl, ◌∙◌}
+use Prim.Native.Nat.{◌+◌, ◌-◌}
 use native.Mathlib.Omega.{arith}
-use Rattle.sir_analyses.proofs.answers.Writing.{four}
+use Rattle.std.proofs.lemmas.Slice.{put_mid-paste}
+use Rattle.sir_data.specs.Pages.{bytes_of}
 use Rattle.sir_analyses.proofs.answers.store.Goals as goal
 
-pub bounds-out-at-2 : goal.bounds-out-at-2
-bounds-out-at-2 c = simp length-set (omega arith)
-
-pub bounds-out-at-3 : goal.bounds-out-at-3
-bounds-out-at-3 c = simp length-set (omega arith)
-
-pub bounds-out-at-4 : goal.bounds-out-at-4
-bounds-out-at-4 c = simp length-set (omega arith)
-
 pub returns : goal.returns
-returns c = four c.args.out.now _ _ _ _ _ c.requires
+returns c =
+    put_mid-paste c.args.at (c.args.at + 4 - c.args.at) c.args.out.now c.copy_from_slice.new.self (bytes_of c.args.word) 4 (c.copy_from_slice.ensures.after ∙ c.to_le_bytes.ensures) (omega arith) refl

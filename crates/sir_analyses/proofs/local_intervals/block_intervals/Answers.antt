@@ -5,7 +5,7 @@ use Prim.Native.Nat.{◌+◌, ◌-◌, ◌≤◌, ◌<◌}
 use Rattle.plank_core.specs.Lists.{range}
 use Rattle.plank_core.specs.laws.Loops.{range_before, range_none}
 use Rattle.sir_data.specs.Records.{operations, block_word, ops}
-use Rattle.sir_analyses.proofs.local_intervals.Scanning.{scanning_starts, scanning_more, scanning_ends, closing_few}
+use Rattle.sir_analyses.proofs.local_intervals.Scanning.{scanning_starts, scanning_more, scanning_ends, ending_few}
 use native.Mathlib.Omega.{arith}
 use Rattle.sir_analyses.proofs.local_intervals.block_intervals.Goals as goal
 
@@ -15,7 +15,7 @@ block_operations-span-requires c = record { sized = c.requires.liveness_stage.we
 pub loop-o-init : goal.loop-o-init
 loop-o-init c =
     let span = c.block_operations-span in
-    (omega (arith, c.requires.liveness_stage.well_formed.in_range.ops_range c.args.b.0 c.requires.b_bound.0, span.ensures), omega arith, refl, omega arith, scanning_starts (range_none span.result.end span.result.end (omega arith)))
+    (omega (arith, c.requires.liveness_stage.well_formed.in_range.ops_range c.args.b.0 c.requires.b_bound.0, span.ensures), refl, omega arith, λ e k. rw k (scanning_starts (range_none span.result.end span.result.end (omega arith))))
 
 pub scan_op-s-requires : goal.scan_op-s-requires
 scan_op-s-requires c =
@@ -35,11 +35,10 @@ loop-o-preserved c =
     let h : l.o - 1 < operations c.args.words.now = omega (arith, c.requires.liveness_stage.well_formed.in_range.ops_range c.args.b.0 c.requires.b_bound.0, span.ensures) in
     let e : l.o - 1 + 1 ≡ l.o = omega arith in (
       omega arith,
-      omega arith,
-      omega (arith, p.auto, l.invariant.2),
-      omega (arith, p.ensures.0, closing_few c.args.b.0 (l.o - 1 + 1) f.result.closed),
-      rw (range_before l.o span.result.end (omega arith) (omega arith))
-          (scanning_more l.invariant.4 (reads_in c.args.live.now) (writes_in c.args.live.now) (l.o - 1) c.requires.liveness_stage.operands h c.requires.b_bound.1 p.new.out f.ensures.till_value f.ensures.closed_value p.ensures.0 p.ensures.1),
+      omega (arith, p.auto, l.invariant.1),
+      omega (arith, p.ensures.0, ending_few c.args.b.0 (l.o - 1 + 1) f.result.closed),
+      λ e k. rw (range_before l.o span.result.end (omega arith) (omega arith))
+          (scanning_more (l.invariant.3 e k) (reads_in c.args.live.now) (writes_in c.args.live.now) (l.o - 1) c.requires.liveness_stage.operands h c.requires.b_bound.1 p.new.out f.ensures.till_value f.ensures.closed_value p.ensures.0 p.ensures.1),
     )
 
 pub put_interval-requires : goal.put_interval-requires
@@ -48,7 +47,7 @@ put_interval-requires c =
 
 pub shape_of-run : goal.shape_of-run
 shape_of-run c =
-    omega (arith, c.put_interval.auto, c.loop-o.invariant.2)
+    omega (arith, c.put_interval.auto, c.loop-o.invariant.1)
 
 pub returns : goal.returns
 returns c =
@@ -59,5 +58,4 @@ returns c =
     let first : l.o ≡ block_word w b 4 = omega (arith, span.ensures) in
     let os : range l.o span.result.end ≡ ops w b = ap₂ range first span.ensures.1 in
     let p = c.put_interval in
-    let e = scanning_ends l.invariant.4 os p.new.out p.ensures.0 p.ensures.1 in
-    (omega (arith, p.ensures.0, closing_few b 0 l.till, c.requires.liveness_stage.well_formed.sized.operations_most, c.requires.liveness_stage.well_formed.in_range.ops_range b c.requires.b_bound.0, span.ensures), e.0, e.1)
+    (omega (arith, p.ensures.0, ending_few b 0 l.till, c.requires.liveness_stage.well_formed.sized.operations_most, c.requires.liveness_stage.well_formed.in_range.ops_range b c.requires.b_bound.0, span.ensures), λ e k. scanning_ends (l.invariant.3 e k) os p.new.out p.ensures.0 p.ensures.1)

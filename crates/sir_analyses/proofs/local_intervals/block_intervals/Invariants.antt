@@ -1,13 +1,11 @@
 -- `block_intervals` meets its contract. The invariant: the operations from o on are done, and their intervals written.
 use mathlib.Core.Path.{◌≡◌}
-use Prim.Native.Nat.{◌+◌, ◌*◌, ◌≤◌}
+use Rattle.sir_analyses.specs.inner.Scanning.{end_of}
+use Prim.Native.Nat.{ℕ, ◌+◌, ◌*◌, ◌≤◌}
 use lib.ListN.{length}
 use Rattle.plank_core.specs.Lists.{range}
 use Rattle.sir_analyses.proofs.local_intervals.Scanning.{Scanning}
 use Rattle.sir_analyses.proofs.local_intervals.block_intervals.Given as goal
 
 abbrev pub invariant-loop-o : goal.invariant-loop-o
-invariant-loop-o l = (l.first ≤ l.o) × (l.o ≤ l.initial.o) × (length l.run ≡ length l.initial.run) × (l.n + 3 * l.o ≤ 3 * l.initial.o) × Scanning l.words l.b.0 l.v.0 l.end (range l.o l.initial.o) l.run l.till l.n
-
-abbrev pub decreases-loop-o : goal.decreases-loop-o
-decreases-loop-o l = l.o
+invariant-loop-o l = (l.o-start ≤ l.o) × (length l.run ≡ length l.initial.run) × (l.n + 3 * l.o ≤ 3 * l.initial.o) × ((e : ℕ) → l.fn.end ≡ end_of e → Scanning l.words l.b.0 l.v.0 e (range l.o l.initial.o) l.run l.till l.n)

@@ -10,7 +10,6 @@ use Rattle.plank_core.specs.laws.Lists.{get_or_mem}
 use Rattle.plank_core.specs.laws.Loops.{bind_bind, bind_drop_step, bind_drop_end}
 use Rattle.sir_analyses.specs.Order.{blocks_rpo}
 use Rattle.sir_analyses.specs.Liveness.{exit_set, block_intervals}
-use Rattle.sir_analyses.specs.inner.Scanning.{scan_words}
 use Rattle.sir_analyses.proofs.claims.order.OrderLength.{rpo_below, blocks_most}
 use Rattle.sir_analyses.proofs.loading.Loads.{front_length}
 use Rattle.sir_analyses.proofs.answers.Writing.{putting_none, putting_as, putting_more, putting_all, puts_as}
@@ -23,77 +22,78 @@ pub rpo-order-requires : goal.rpo-order-requires
 rpo-order-requires c =
     (c.requires.visit_stage.long, c.requires.visit_stage.few)
 
-pub loop-i-init : goal.loop-i-init
-loop-i-init c =
-    (omega arith, search rules, omega arith, putting_as (ap (λ (l : List ℕ). bind l (in_block c.args.words.now c.args.v.0)) (sym (c.rpo-order.ensures ∙ c.requires.visit_stage.rpo_is))) putting_none)
+pub loop-id-init : goal.loop-id-init
+loop-id-init c =
+    (search rules, omega arith, putting_as (ap (λ (l : List ℕ). bind l (in_block c.args.words.now c.args.v.0)) (sym (c.rpo-order.ensures ∙ c.requires.visit_stage.rpo_is))) putting_none)
 
 pub open_end-end-requires : goal.open_end-end-requires
 open_end-end-requires c =
-    let L = c.loop-i in
+    let L = c.loop-id in
     let w = c.args.words.now in
     let order = c.rpo-order.result.now in
-    let t = c.loop-i-test.true in
-    let b = get_or order L.i 0 in
-    let below = rpo_below w c.requires.visit_stage.well_formed (c.rpo-order.ensures ∙ c.requires.visit_stage.rpo_is) b (get_or_mem order L.i 0 t) in
+    let t = c.loop-id-test.true in
+    let b = get_or order L.id-index 0 in
+    let below = rpo_below w c.requires.visit_stage.well_formed (c.rpo-order.ensures ∙ c.requires.visit_stage.rpo_is) b (get_or_mem order L.id-index 0 t) in
     let v : c.args.v.0 < 512 = omega (arith, c.requires.v_bound, c.requires.visit_stage.well_formed.sized.locals_most) in
     (c.requires.liveness_stage.long, omega (arith, below, c.requires.visit_stage.well_formed.sized.blocks_most), v)
 
 pub slice_bounds-block_intervals-end : goal.slice_bounds-block_intervals-end
 slice_bounds-block_intervals-end c =
-    omega (arith, c.loop-i.invariant.1)
+    omega (arith, c.loop-id.invariant.0)
 
 pub block_intervals-n-requires : goal.block_intervals-n-requires
 block_intervals-n-requires c =
-    let L = c.loop-i in
+    let L = c.loop-id in
     let w = c.args.words.now in
     let order = c.rpo-order.result.now in
-    let t = c.loop-i-test.true in
-    let b = get_or order L.i 0 in
-    let below = rpo_below w c.requires.visit_stage.well_formed (c.rpo-order.ensures ∙ c.requires.visit_stage.rpo_is) b (get_or_mem order L.i 0 t) in
+    let t = c.loop-id-test.true in
+    let b = get_or order L.id-index 0 in
+    let below = rpo_below w c.requires.visit_stage.well_formed (c.rpo-order.ensures ∙ c.requires.visit_stage.rpo_is) b (get_or_mem order L.id-index 0 t) in
     let v : c.args.v.0 < 512 = omega (arith, c.requires.v_bound, c.requires.visit_stage.well_formed.sized.locals_most) in
-    record { liveness_stage = c.requires.liveness_stage; b_bound = (below, v, omega (arith, L.invariant.1)) }
+    record { liveness_stage = c.requires.liveness_stage; b_bound = (below, v, omega (arith, L.invariant.0)) }
 
 pub slice_bounds-run-end : goal.slice_bounds-run-end
 slice_bounds-run-end c =
-    omega (arith, c.block_intervals-n.ensures.0, c.block_intervals-n.auto, c.loop-i.invariant.1)
+    omega (arith, c.block_intervals-n.ensures.0, c.block_intervals-n.auto, c.loop-id.invariant.0)
 
 pub slice_bounds-put_words-end : goal.slice_bounds-put_words-end
 slice_bounds-put_words-end c =
-    front_length _ _ (omega (arith, c.block_intervals-n.ensures.0, c.block_intervals-n.auto, c.loop-i.invariant.1))
+    front_length _ _ (omega (arith, c.block_intervals-n.ensures.0, c.block_intervals-n.auto, c.loop-id.invariant.0))
 
 pub put_words-m-requires : goal.put_words-m-requires
 put_words-m-requires c =
-    let L = c.loop-i in
+    let L = c.loop-id in
     let w = c.args.words.now in
     let i = c.block_intervals-n in
-    omega (arith, ap length i.ensures.2, i.ensures.1, i.ensures.0, L.invariant.2, ap length (c.rpo-order.ensures ∙ c.requires.visit_stage.rpo_is), blocks_most w c.requires.visit_stage.well_formed, c.requires.visit_stage.well_formed.sized.blocks_most)
+    let q = i.ensures.1 _ c.open_end-end.ensures in
+    omega (arith, ap length q.1, q.0, i.ensures.0, L.invariant.1, ap length (c.rpo-order.ensures ∙ c.requires.visit_stage.rpo_is), blocks_most w c.requires.visit_stage.well_formed, c.requires.visit_stage.well_formed.sized.blocks_most)
 
-pub loop-i-preserved : goal.loop-i-preserved
-loop-i-preserved c =
-    let L = c.loop-i in
+pub loop-id-preserved : goal.loop-id-preserved
+loop-id-preserved c =
+    let L = c.loop-id in
     let w = c.args.words.now in
     let order = c.rpo-order.result.now in
-    let t = c.loop-i-test.true in
-    let b = get_or order L.i 0 in
-    let below = rpo_below w c.requires.visit_stage.well_formed (c.rpo-order.ensures ∙ c.requires.visit_stage.rpo_is) b (get_or_mem order L.i 0 t) in
+    let t = c.loop-id-test.true in
+    let b = get_or order L.id-index 0 in
+    let below = rpo_below w c.requires.visit_stage.well_formed (c.rpo-order.ensures ∙ c.requires.visit_stage.rpo_is) b (get_or_mem order L.id-index 0 t) in
     let v : c.args.v.0 < 512 = omega (arith, c.requires.v_bound, c.requires.visit_stage.well_formed.sized.locals_most) in
     let i = c.block_intervals-n in
-    let e = i.ensures.2 ∙ ap (scan_words w b c.args.v.0) c.open_end-end.ensures ∙ interval_words_lem c.requires.visit_stage.well_formed b below (exits_in c.args.live.now) c.requires.liveness_stage.sets.exit_rows c.args.v.0 v c.requires.liveness_stage.ends in
+    let q = i.ensures.1 _ c.open_end-end.ensures in
+    let e = q.1 ∙ interval_words_lem c.requires.visit_stage.well_formed b below (exits_in c.args.live.now) c.requires.liveness_stage.sets.exit_rows c.args.v.0 v c.requires.liveness_stage.ends in
     let p = c.put_words-m.ensures in (
-      omega arith,
-      omega (arith, i.auto, L.invariant.1),
-      omega (arith, p.next, ap length i.ensures.2, i.ensures.1, i.ensures.0, L.invariant.2),
-      putting_more (putting_as (bind_drop_step (in_block w c.args.v.0) order L.i t) L.invariant.3) (puts_as e p),
+      omega (arith, i.auto, L.invariant.0),
+      omega (arith, p.next, ap length q.1, q.0, i.ensures.0, L.invariant.1),
+      putting_more (putting_as (bind_drop_step (in_block w c.args.v.0) order L.id-index t) L.invariant.2) (puts_as e p),
     )
 
 pub shape_of-out : goal.shape_of-out
-shape_of-out c = c.loop-i.invariant.3.long
+shape_of-out c = c.loop-id.invariant.2.long
 
 pub returns : goal.returns
 returns c =
-    let L = c.loop-i in
+    let L = c.loop-id in
     let w = c.args.words.now in (
-      omega (arith, L.invariant.2, L.invariant.0, ap length (c.rpo-order.ensures ∙ c.requires.visit_stage.rpo_is), blocks_most w c.requires.visit_stage.well_formed, c.requires.visit_stage.well_formed.sized.blocks_most),
+      omega (arith, L.invariant.1, ap length (c.rpo-order.ensures ∙ c.requires.visit_stage.rpo_is), blocks_most w c.requires.visit_stage.well_formed, c.requires.visit_stage.well_formed.sized.blocks_most),
       puts_as (sym (bind_bind (λ b. block_intervals w (exit_set w b) c.args.v.0 b) (λ i. i.block ∷ i.from ∷ i.to ∷ []) (blocks_rpo w)))
-          (putting_all (bind_drop_end (in_block w c.args.v.0) c.rpo-order.result.now L.i c.loop-i-test.false) L.invariant.3),
+          (putting_all (bind_drop_end (in_block w c.args.v.0) c.rpo-order.result.now L.id-index c.loop-id-test.false) L.invariant.2),
     )

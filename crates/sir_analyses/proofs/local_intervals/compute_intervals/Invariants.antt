@@ -1,7 +1,7 @@
 -- `compute_intervals` meets its contract. The invariant: the blocks left are to be put.
 use mathlib.Core.Path.{◌≡◌}
 use mathlib.Core.List.{List}
-use Prim.Native.Nat.{ℕ, ◌-◌, ◌*◌, ◌≤◌}
+use Prim.Native.Nat.{ℕ, ◌*◌, ◌≤◌}
 use lib.ListN.{length, drop}
 use Rattle.plank_core.specs.Lists.{bind}
 use Rattle.sir_analyses.specs.Order.{blocks_rpo}
@@ -14,8 +14,5 @@ use Rattle.sir_analyses.proofs.local_intervals.compute_intervals.Given as goal
 abbrev pub in_block : List ℕ → ℕ → ℕ → List ℕ
 in_block w v b = interval_words (block_intervals w (exit_set w b) v b)
 
-abbrev pub invariant-loop-i : goal.invariant-loop-i
-invariant-loop-i l = (l.i ≤ length l.order) × (length l.run ≡ 3075) × (l.m ≤ 3075 * l.i) × Putting 0 (bind (blocks_rpo l.words) (in_block l.words l.v.0)) l.initial.out (bind (drop l.i l.order) (in_block l.words l.v.0)) l.out l.m
-
-abbrev pub decreases-loop-i : goal.decreases-loop-i
-decreases-loop-i l = length l.order - l.i
+abbrev pub invariant-loop-id : goal.invariant-loop-id
+invariant-loop-id l = (length l.run ≡ 3075) × (l.m ≤ 3075 * l.id-index) × Putting 0 (bind (blocks_rpo l.words) (in_block l.words l.v.0)) l.initial.out (bind (drop l.id-index l.order) (in_block l.words l.v.0)) l.out l.m

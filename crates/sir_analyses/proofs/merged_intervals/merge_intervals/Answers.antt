@@ -7,8 +7,8 @@ use Rattle.plank_core.specs.Lists.{range}
 use Rattle.plank_core.specs.laws.Loops.{range_before, range_none}
 use Rattle.sir_data.specs.Records.{operations, block_word, ops}
 use Rattle.sir_analyses.specs.Answers.{interval_words}
-use Rattle.sir_analyses.specs.Liveness.{closing}
-use Rattle.sir_analyses.proofs.local_intervals.Scanning.{closing_few}
+use Rattle.sir_analyses.specs.inner.Scanning.{ending}
+use Rattle.sir_analyses.proofs.local_intervals.Scanning.{ending_few}
 use Rattle.sir_analyses.proofs.merged_intervals.MergedIntervals.{sweeping_starts, sweeping_more, sweeping_ends}
 use native.Mathlib.Omega.{arith}
 use Rattle.sir_analyses.proofs.merged_intervals.merge_intervals.Goals as goal
@@ -32,7 +32,6 @@ pub loop-o-init : goal.loop-o-init
 loop-o-init c =
     let span = c.block_operations-span in (
       omega (arith, c.requires.liveness_stage.well_formed.sized.operations_most, c.requires.liveness_stage.well_formed.in_range.ops_range c.args.b.0 c.requires.b_bound.0, c.block_operations-span.ensures),
-      omega arith,
       c.requires.b_bound.2,
       omega (arith, c.live_after.auto),
       omega (arith, c.requires.liveness_stage.well_formed.sized.operations_most, c.requires.liveness_stage.well_formed.in_range.ops_range c.args.b.0 c.requires.b_bound.0, c.block_operations-span.ensures),
@@ -42,19 +41,19 @@ loop-o-init c =
     )
 
 pub slice_bounds-live_before-end : goal.slice_bounds-live_before-end
-slice_bounds-live_before-end c = omega (arith, c.loop-o.invariant.3)
+slice_bounds-live_before-end c = omega (arith, c.loop-o.invariant.2)
 
 pub live_before-requires : goal.live_before-requires
 live_before-requires c =
-    (c.requires.liveness_stage.long, omega arith, c.loop-o.invariant.3)
+    (c.requires.liveness_stage.long, omega arith, c.loop-o.invariant.2)
 
 pub slice_bounds-intersects-end : goal.slice_bounds-intersects-end
 slice_bounds-intersects-end c =
-    omega (arith, c.live_before.auto, c.loop-o.invariant.3)
+    omega (arith, c.live_before.auto, c.loop-o.invariant.2)
 
 pub intersects-requires : goal.intersects-requires
 intersects-requires c =
-    (c.requires.b_bound.1, omega (arith, c.live_before.auto, c.loop-o.invariant.3))
+    (c.requires.b_bound.1, omega (arith, c.live_before.auto, c.loop-o.invariant.2))
 
 pub pass_op-p-requires : goal.pass_op-p-requires
 pass_op-p-requires c =
@@ -62,7 +61,7 @@ pass_op-p-requires c =
 
 pub put_interval_before-n-requires : goal.put_interval_before-n-requires
 put_interval_before-n-requires c =
-    (omega (arith, c.loop-o.invariant.4), omega (arith, c.loop-o.invariant.5, c.loop-o.invariant.2))
+    (omega (arith, c.loop-o.invariant.3), omega (arith, c.loop-o.invariant.4, c.loop-o.invariant.1))
 
 pub loop-o-preserved : goal.loop-o-preserved
 loop-o-preserved c =
@@ -73,26 +72,25 @@ loop-o-preserved c =
     let p = c.put_interval_before-n in
     let meeting = c.intersects.ensures in
     let test = c.loop-o-test.true in
-    let h : l.o - 1 < operations c.args.words.now = omega (arith, test, l.invariant.0, l.invariant.1, c.requires.liveness_stage.well_formed.in_range.ops_range c.args.b.0 c.requires.b_bound.0, span.ensures) in
-    let few = closing_few c.args.b.0 (l.o - 1 + 1) f.result.closed in
-    let e : p.result + length (interval_words (closing c.args.b.0 (l.o - 1 + 1) f.result.closed)) ≡ l.n = p.ensures.0 in (
+    let h : l.o - 1 < operations c.args.words.now = omega (arith, test, l.invariant.0, c.requires.liveness_stage.well_formed.in_range.ops_range c.args.b.0 c.requires.b_bound.0, span.ensures) in
+    let few = ending_few c.args.b.0 (l.o - 1 + 1) f.result.closed in
+    let e : p.result + length (interval_words (ending c.args.b.0 (l.o - 1 + 1) f.result.closed)) ≡ l.n = p.ensures.0 in (
       omega arith,
-      omega arith,
-      omega (arith, p.auto, l.invariant.2),
-      omega (arith, g.auto, l.invariant.3),
+      omega (arith, p.auto, l.invariant.1),
+      omega (arith, g.auto, l.invariant.2),
+      omega (arith, l.invariant.3),
       omega (arith, l.invariant.4),
-      omega (arith, l.invariant.5),
       rw (range_before l.o span.result.end (omega arith) (omega arith))
-          (sweeping_more c.args.reach.now c.requires.liveness_stage.well_formed c.args.b.0 c.requires.b_bound.0 l.invariant.6 (reads_in c.args.live.now) (writes_in c.args.live.now) (l.o - 1) c.requires.liveness_stage.operands h g.new.set p.new.run g.ensures
+          (sweeping_more c.args.reach.now c.requires.liveness_stage.well_formed c.args.b.0 c.requires.b_bound.0 l.invariant.5 (reads_in c.args.live.now) (writes_in c.args.live.now) (l.o - 1) c.requires.liveness_stage.operands h g.new.set p.new.run g.ensures
           meeting f.ensures.till_value f.ensures.closed_value p.ensures.1),
     )
 
 pub put_interval_before-requires : goal.put_interval_before-requires
-put_interval_before-requires c = (omega (arith, c.loop-o.invariant.4), omega (arith, c.loop-o.invariant.5, c.loop-o.invariant.2))
+put_interval_before-requires c = (omega (arith, c.loop-o.invariant.3), omega (arith, c.loop-o.invariant.4, c.loop-o.invariant.1))
 
 pub shape_of-run : goal.shape_of-run
 shape_of-run c =
-    omega (arith, c.put_interval_before.auto, c.loop-o.invariant.2, c.requires.b_bound.2)
+    omega (arith, c.put_interval_before.auto, c.loop-o.invariant.1, c.requires.b_bound.2)
 
 pub returns : goal.returns
 returns c =
@@ -103,4 +101,4 @@ returns c =
     let first : l.o ≡ block_word w b 4 = omega (arith, span.ensures) in
     let os : range l.o span.result.end ≡ ops w b = ap₂ range first span.ensures.1 in
     let p = c.put_interval_before in
-    (omega (arith, p.ensures.0, l.invariant.5), sweeping_ends c.args.reach.now c.requires.liveness_stage.well_formed b c.requires.b_bound.0 l.invariant.6 os p.new.run p.result p.ensures.1)
+    (omega (arith, p.ensures.0, l.invariant.4), sweeping_ends c.args.reach.now c.requires.liveness_stage.well_formed b c.requires.b_bound.0 l.invariant.5 os p.new.run p.result p.ensures.1)

@@ -14,7 +14,7 @@ block_count-count-requires c =
     omega (arith, c.requires.visit_stage.well_formed.sized.size)
 
 pub loop-b-init : goal.loop-b-init
-loop-b-init c = (omega arith, refl, populating_none)
+loop-b-init c = (refl, populating_none)
 
 pub is_visited-requires : goal.is_visited-requires
 is_visited-requires c =
@@ -22,11 +22,11 @@ is_visited-requires c =
 
 pub slice_bounds-merge_intervals-end : goal.slice_bounds-merge_intervals-end
 slice_bounds-merge_intervals-end c =
-    omega (arith, c.loop-b.invariant.1)
+    omega (arith, c.loop-b.invariant.0)
 
 pub merge_intervals-from-requires : goal.merge_intervals-from-requires
 merge_intervals-from-requires c =
-    record { liveness_stage = c.requires.liveness_stage; b_bound = (omega (arith, c.loop-b-test.true, c.block_count-count.ensures), c.requires.reach_len.0, c.loop-b.invariant.1) }
+    record { liveness_stage = c.requires.liveness_stage; b_bound = (omega (arith, c.loop-b-test.true, c.block_count-count.ensures), c.requires.reach_len.0, c.loop-b.invariant.0) }
 
 pub offset_bounds-run-from : goal.offset_bounds-run-from
 offset_bounds-run-from c = omega (arith, c.merge_intervals-from.ensures.0)
@@ -38,8 +38,8 @@ pub put_words-m-requires : goal.put_words-m-requires
 put_words-m-requires c =
     let L = c.loop-b in
     let i = c.merge_intervals-from in
-    let k : length i.new.run ≡ 3075 = omega (arith, i.auto, L.invariant.1) in
-    omega (arith, lent_most i.new.run 3075 i.result k, L.invariant.2.few, c.requires.reach_len.1, c.requires.visit_stage.well_formed.sized.blocks_most, c.block_count-count.ensures)
+    let k : length i.new.run ≡ 3075 = omega (arith, i.auto, L.invariant.0) in
+    omega (arith, lent_most i.new.run 3075 i.result k, L.invariant.1.few, c.requires.reach_len.1, c.requires.visit_stage.well_formed.sized.blocks_most, c.block_count-count.ensures)
 
 pub loop-b-preserved : goal.loop-b-preserved
 loop-b-preserved c =
@@ -51,17 +51,17 @@ loop-b-preserved c =
     elim c.if-is_visited.branch [
       | then-is_visited x ↦
           let run = x.merge_intervals-from.new.run in
-          let k : length run ≡ 3075 = omega (arith, x.merge_intervals-from.auto, L.invariant.1) in
-          rw (x.out-is, x.run-is, x.m-is) (k, populating_more L.invariant.2 h (sym seen ∙ x.if-is_visited.true) run x.merge_intervals-from.result k x.merge_intervals-from.ensures.1 x.put_words-m.ensures)
-      | else-is_visited x ↦ rw (x.out-is, x.run-is, x.m-is) (L.invariant.1, populating_on L.invariant.2 h (sym seen ∙ x.if-is_visited.false))
+          let k : length run ≡ 3075 = omega (arith, x.merge_intervals-from.auto, L.invariant.0) in
+          rw (x.out-is, x.run-is, x.m-is) (k, populating_more L.invariant.1 h (sym seen ∙ x.if-is_visited.true) run x.merge_intervals-from.result k x.merge_intervals-from.ensures.1 x.put_words-m.ensures)
+      | else-is_visited x ↦ rw (x.out-is, x.run-is, x.m-is) (L.invariant.0, populating_on L.invariant.1 h (sym seen ∙ x.if-is_visited.false))
     ] in
-    (omega arith, g.0, g.1)
+    (g.0, g.1)
 
 pub shape_of-out : goal.shape_of-out
-shape_of-out c = c.loop-b.invariant.2.long
+shape_of-out c = c.loop-b.invariant.1.long
 
 pub returns : goal.returns
 returns c =
     let L = c.loop-b in
     let count = c.block_count-count.ensures in
-    (omega (arith, L.invariant.0, L.invariant.2.few, count, c.requires.visit_stage.well_formed.sized.blocks_most), populating_all L.invariant.2 (omega (arith, c.loop-b-test.false, count)))
+    (omega (arith, L.invariant.1.few, count, c.requires.visit_stage.well_formed.sized.blocks_most), populating_all L.invariant.1 (omega (arith, c.loop-b-test.false, count)))
