@@ -79,21 +79,16 @@ pub fn visit_block(
         return n;
     }
     let span = block_operations(words, b);
-    let last = span.end;
     let mut m = n;
-    let mut o = span.start;
-    'calls: while o < last {
+    'calls: for o in span.start..span.end {
         let c = callee_plus_one(words, OpIdx(o));
         if c != 0 {
             m = visit_function(words, FunctionId(c - 1), seen, postorder, m);
         }
-        o += 1;
     }
     let count = successor_count(words, b);
-    let mut i: usize = 0;
-    'successors: while i < count {
+    'successors: for i in 0..count {
         m = visit_block(words, f, successor(words, b, i), seen, postorder, m);
-        i += 1;
     }
     push(postorder, m, 256 * (f.0 + 1) + b.0)
 }
@@ -118,9 +113,7 @@ fn function_blocks(postorder: &[u32], f: FunctionId, out: &mut [u32], at: usize)
     ensures { Listed (blocks_of f.0 postorder.now) at out.old out.new result }
 {
     let mut m = at;
-    let mut i = postorder.len();
-    while 0 < i {
-        i -= 1;
+    for i in (0..postorder.len()).rev() {
         let key = postorder[i];
         if key / 256 == f.0 + 1 {
             out[m] = key % 256;
@@ -136,9 +129,7 @@ pub fn blocks_rpo(postorder: &[u32], out: &mut [u32]) -> usize
     ensures { Listed (blocks_in postorder.now) 0 out.old out.new result }
 {
     let mut m: usize = 0;
-    let mut i = postorder.len();
-    while 0 < i {
-        i -= 1;
+    for i in (0..postorder.len()).rev() {
         let key = postorder[i];
         if key < 256 {
             m = function_blocks(postorder, FunctionId(key), out, m);
@@ -164,9 +155,7 @@ pub fn order_words(postorder: &[u32], out: &mut [u32]) -> usize
     ensures { Listed (order_in postorder.now) 0 out.old out.new result }
 {
     let mut m: usize = 0;
-    let mut i = postorder.len();
-    while 0 < i {
-        i -= 1;
+    for i in (0..postorder.len()).rev() {
         let key = postorder[i];
         if key < 256 {
             m = function_entry(postorder, FunctionId(key), out, m);
@@ -182,12 +171,10 @@ fn flag_visited(words: &[u32], seen: &[u64], flags: &mut [u32])
     ensures { (length flags.new ≡ 256) × ((b : ℕ) → b < blocks words.now → get_or flags.new b 0 ≡ one_if (contains seen.now (512 + b))) }
 {
     let count = block_count(words);
-    let mut b: u32 = 0;
-    while b < count {
+    for b in 0..count {
         if row_contains(seen, 1, b) {
             flags[b as usize] = 1;
         }
-        b += 1;
     }
 }
 

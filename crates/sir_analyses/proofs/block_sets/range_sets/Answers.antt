@@ -20,7 +20,7 @@ loop-o-init c =
     let e = c.block_operations-span.result.end in (
       omega (arith, c.requires.well_formed.in_range.ops_range c.args.b.0 c.requires.b_bound.0, c.block_operations-span.ensures),
       omega arith,
-      range_sets_start (range_none e e (omega arith)) c.clear.ensures,
+      range_sets_start (range_none e e (omega arith)) (rw c.requires.b_bound.1 at (c.fill.ensures.after (λ y p. p))),
     )
 
 pub writes-requires : goal.writes-requires

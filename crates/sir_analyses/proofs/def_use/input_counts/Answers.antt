@@ -41,11 +41,6 @@ bounds-counts-o c =
     let L = c.loop-o in
     omega (arith, L.invariant.1)
 
-pub overflow_add-o : goal.overflow_add-o
-overflow_add-o c =
-    let L = c.loop-o in
-    omega (arith, L.invariant.1)
-
 pub loop-o-preserved : goal.loop-o-preserved
 loop-o-preserved c =
     let L = c.loop-o in

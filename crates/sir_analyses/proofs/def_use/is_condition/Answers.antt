@@ -12,9 +12,9 @@ returns-in_default c =
     let none : condition a.words.now a.b.0 ≡ [] = sym c.in_default.ensures in
     sym (ap (mem a.local.0) none)
 
-pub returns : goal.returns
-returns c =
+pub returns-in-Local : goal.returns-in-Local
+returns-in-Local c =
     let v = c.in-Local.v.0 in
     let a = c.args in
     let one : condition a.words.now a.b.0 ≡ v ∷ [] = sym c.in-Local.ensures in
-    sym (ap (mem a.local.0) one ∙ or-false _)
+    c.eq.ensures ∙ sym (ap (mem a.local.0) one ∙ or-false _)

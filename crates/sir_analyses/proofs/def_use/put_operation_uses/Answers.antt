@@ -33,11 +33,6 @@ put_repeated-m-requires c =
     let q = putting_count (repeated_uses c.args.b.0 L.o (get_or c.args.counts.now L.o 0)) (operations_left c.args.words.now c.args.counts.now c.args.b.0 (L.o + 1) c.operations-span.result.end) {k = 2 ^ 59} (omega (arith, ap length (span_is c.args.words.now c.args.counts.now c.args.b.0 _ _ c.operations-span.ensures.0 c.operations-span.ensures.1), c.requires.b_bound_2)) (putting_as e L.invariant) in
     omega (arith, q, repeated_uses_length c.args.b.0 L.o (get_or c.args.counts.now L.o 0))
 
-pub overflow_add-o : goal.overflow_add-o
-overflow_add-o c =
-    let r = c.requires.well_formed.in_range.ops_range c.args.b.0 c.requires.b_bound.0 in
-    omega (arith, c.requires.b_bound.1)
-
 pub loop-o-preserved : goal.loop-o-preserved
 loop-o-preserved c =
     let L = c.loop-o in

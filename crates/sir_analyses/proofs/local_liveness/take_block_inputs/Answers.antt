@@ -34,10 +34,6 @@ pub overflow_add-n : goal.overflow_add-n
 overflow_add-n c =
     omega (arith, c.loop-i.invariant.few, inputs_few c.requires.well_formed c.args.b.0 c.requires.b_bound.0 c.block_inputs-inputs.ensures)
 
-pub overflow_add-i : goal.overflow_add-i
-overflow_add-i c =
-    omega (arith, inputs_few c.requires.well_formed c.args.b.0 c.requires.b_bound.0 c.block_inputs-inputs.ensures)
-
 pub loop-i-preserved : goal.loop-i-preserved
 loop-i-preserved c =
     let in_range = c.requires.b_bound.0 in

@@ -13,9 +13,6 @@ inputs-taken-requires c = record { sized = c.requires.well_formed.sized; in_rang
 pub loop-k-init : goal.loop-k-init
 loop-k-init c = (omega arith, adds_none (λ v u h. refl))
 
-pub overflow_cast-given : goal.overflow_cast-given
-overflow_cast-given c = omega (arith, c.type_inv.given c.loop-k.k)
-
 pub bounds-taken-k : goal.bounds-taken-k
 bounds-taken-k c =
     (edge_places c.requires.well_formed c.args.b.0 c.args.s.0 c.loop-k.k c.outputs-given.ensures c.inputs-taken.ensures c.requires.b_bound.0 c.requires.b_bound.1 c.loop-k-test.true).0

@@ -35,37 +35,34 @@ pub op_outputs-outputs-requires : goal.op_outputs-outputs-requires
 op_outputs-outputs-requires c =
     record { sized = c.requires.well_formed.sized; in_range = c.requires.well_formed.in_range; o_bound = c.requires.o_bound.0 }
 
-pub loop-k-init : goal.loop-k-init
-loop-k-init c = (omega arith, adds_none (λ v u h. and-false (mem u c.op_outputs-outputs.result.now)))
-
-pub overflow_cast-inputs : goal.overflow_cast-inputs
-overflow_cast-inputs c = omega (arith, c.type_inv.inputs c.loop-k.k)
+pub loop-v-init : goal.loop-v-init
+loop-v-init c = (omega arith, adds_none (λ v u h. and-false (mem u c.op_outputs-outputs.result.now)))
 
 pub add_run-requires : goal.add_run-requires
 add_run-requires c =
     let in_range = c.requires.o_bound.0 in
-    let l = c.loop-k in
-    let h = read_places c.requires.well_formed c.args.o.0 l.k c.op_inputs-inputs.ensures in_range c.loop-k-test.true in
+    let l = c.loop-v in
+    let h = read_places c.requires.well_formed c.args.o.0 l.v-index c.op_inputs-inputs.ensures in_range c.loop-v-test.true in
     record { row_in_bounds = omega (arith, l.invariant.1.long, h); by_index = λ v m. small c.requires.well_formed (c.requires.well_formed.in_range.written c.args.o.0 v in_range (rw c.op_outputs-outputs.ensures at m)) }
 
-pub loop-k-preserved : goal.loop-k-preserved
-loop-k-preserved c =
-    let l = c.loop-k in
+pub loop-v-preserved : goal.loop-v-preserved
+loop-v-preserved c =
+    let l = c.loop-v in
     let xs = c.op_inputs-inputs.result.now in
     let ys = c.op_outputs-outputs.result.now in
-    let a : Adds l.links (λ v u. mem u ys && eqb v (get_or xs l.k 0)) c.add_run.new.table =
-    adds_as (λ v u h. and_comm (eqb v (get_or xs l.k 0)) (mem u ys)) c.add_run.ensures in
-    (omega arith, adds_as (λ v u h. and_next (mem u ys) xs l.k c.loop-k-test.true v) (adds_then l.invariant.1 a))
+    let a : Adds l.links (λ v u. mem u ys && eqb v (get_or xs l.v-index 0)) c.add_run.new.table =
+    adds_as (λ v u h. and_comm (eqb v (get_or xs l.v-index 0)) (mem u ys)) c.add_run.ensures in
+    (omega arith, adds_as (λ v u h. and_next (mem u ys) xs l.v-index c.loop-v-test.true v) (adds_then l.invariant.1 a))
 
 pub shape_of-links : goal.shape_of-links
-shape_of-links c = c.loop-k.invariant.1.long
+shape_of-links c = c.loop-v.invariant.1.long
 
 pub returns : goal.returns
 returns c =
-    let l = c.loop-k in
+    let l = c.loop-v in
     let xs = c.op_inputs-inputs.result.now in
     let ys = c.op_outputs-outputs.result.now in
     let t : derives (code c.args.words.now c.args.o.0) ≡ true = ap derives (sym c.op_word.ensures) ∙ sym c.can_derive_pointer.ensures ∙ c.if-not-can_derive_pointer.false in
     let a : Adds c.args.links.now (λ v u. mem v xs && mem u ys) l.links =
-    adds_as (λ v u h. and_all (mem u ys) xs l.k c.loop-k-test.false v ∙ and_comm (mem u ys) (mem v xs)) l.invariant.1 in
+    adds_as (λ v u h. and_all (mem u ys) xs l.v-index c.loop-v-test.false v ∙ and_comm (mem u ys) (mem v xs)) l.invariant.1 in
     adds_as (λ v u h. rw t) (rw (c.op_inputs-inputs.ensures, c.op_outputs-outputs.ensures) at a)

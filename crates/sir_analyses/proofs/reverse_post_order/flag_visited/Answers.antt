@@ -30,14 +30,6 @@ pub bounds-flags-b : goal.bounds-flags-b
 bounds-flags-b c =
     omega (arith, c.loop-b.invariant.1.long, c.block_count-count.ensures, c.requires.well_formed.sized.blocks_most, c.loop-b-test.true)
 
-pub overflow_add-b : goal.overflow_add-b
-overflow_add-b c =
-    omega (arith, c.block_count-count.ensures, c.requires.well_formed.sized.blocks_most)
-
-pub loop-b-smaller : goal.loop-b-smaller
-loop-b-smaller c =
-    omega (arith, c.block_count-count.ensures, c.requires.well_formed.sized.blocks_most)
-
 pub loop-b-preserved : goal.loop-b-preserved
 loop-b-preserved c =
     let h : c.loop-b.b < 256 = omega (arith, c.block_count-count.ensures, c.requires.well_formed.sized.blocks_most, c.loop-b-test.true) in

@@ -9,6 +9,3 @@ use Rattle.sir_analyses.proofs.reverse_post_order.order_words.Given as goal
 
 abbrev pub invariant-loop-i : goal.invariant-loop-i
 invariant-loop-i l = (l.i ≤ length l.postorder) × Listing (order_in l.postorder) 0 l.initial.out (bind (reverse (take l.i l.postorder)) (function_of (λ f. entry_of f l.postorder))) l.out l.m
-
-abbrev pub decreases-loop-i : goal.decreases-loop-i
-decreases-loop-i l = l.i
