@@ -2,11 +2,11 @@
 ghost use Rattle.std.specs.Prelude.{◌≡◌, ◌++◌, ◌∷◌, [], ℕ, ◌+◌, ◌<◌, ◌≤◌, length, get_or, take, replicate};
 ghost use Rattle.plank_core.specs.Lists.{one_if};
 ghost use Rattle.plank_core.specs.inner.DenseIndexSet.{contains};
-ghost use Rattle.sir_data.specs.Records.{functions, blocks, operations, optional, callees};
+ghost use Rattle.sir_data.specs.Records.{functions, blocks, operations, callees};
 ghost use Rattle.sir_data.specs.inner.WellFormed.{WellFormed};
 ghost use Rattle.sir_analyses.specs.Order.{visit_function, visit_block};
 ghost use Rattle.sir_analyses.specs.inner.Stages.{OrderStage, VisitStage};
-ghost use Rattle.sir_analyses.specs.inner.Visiting.{Held, VisitStep, VisitedAll, blocks_of, blocks_in, entry_of, order_in, Listed};
+ghost use Rattle.sir_analyses.specs.inner.Visiting.{called, Held, VisitStep, VisitedAll, blocks_of, blocks_in, entry_of, order_in, Listed};
 
 use crate::stages::{RPO, VISIT, VISITED};
 use plank_core::index::{BlockId, FunctionId, OpIdx};
@@ -16,16 +16,16 @@ use sir_data::records::{
     successor_count,
 };
 
-// One more than the function that an operation calls, 0 where it calls none.
-fn callee_plus_one(words: &[u32], o: OpIdx) -> u32
+// The function that an operation calls, if it calls one.
+fn callee(words: &[u32], o: OpIdx) -> Option<FunctionId>
     requires well_formed { WellFormed words.now }
     requires o_bound { o.0 < operations words.now }
-    ensures { optional result ≡ callees words.now o.0 }
+    ensures { called result ≡ callees words.now o.0 }
 {
     if sir_data::codes::is_call(op_word(words, o, 0)) {
-        op_word(words, o, 5) + 1
+        Some(FunctionId(op_word(words, o, 5)))
     } else {
-        0
+        None
     }
 }
 
@@ -81,9 +81,8 @@ pub fn visit_block(
     let span = block_operations(words, b);
     let mut m = n;
     'calls: for o in span.start..span.end {
-        let c = callee_plus_one(words, OpIdx(o));
-        if c != 0 {
-            m = visit_function(words, FunctionId(c - 1), seen, postorder, m);
+        if let Some(g) = callee(words, OpIdx(o)) {
+            m = visit_function(words, g, seen, postorder, m);
         }
     }
     let count = successor_count(words, b);

@@ -2,10 +2,17 @@
 -- `seen` is a table of two sets, the functions seen and the blocks seen. `postorder` has what is finished, in that order: f for a
 -- function, 256 * (f + 1) + b for block b on behalf of function f.
 use Rattle.std.specs.Prelude.{◌≡◌, Bool, not, cond, List, [], ◌∷◌, ◌++◌, reverse, ℕ, zero, suc, ◌+◌, ◌-◌, ◌*◌, ◌/◌, ◌%◌, ◌≤◌, ◌<◌, length, take, eqb, leb, ltb}
+use Rattle.std.specs.Prelude.{Option, Some, None}
+use Rattle.plank_core.specs.declared.index.FunctionId.{FunctionId}
 use Rattle.plank_core.specs.Lists.{bind, mem, one_if}
 use Rattle.plank_core.specs.inner.DenseIndexSet.{contains}
 use Rattle.sir_data.specs.Records.{functions, blocks}
 use Rattle.sir_analyses.specs.Order.{Visit, visited}
+
+-- the function that an operation calls, if it calls one, as a list
+abbrev pub called : Option FunctionId → List ℕ
+called None = []
+called (Some f) = f.0 ∷ []
 
 -- the key of block b, finished on behalf of function f
 abbrev pub block_key : ℕ → ℕ → ℕ
