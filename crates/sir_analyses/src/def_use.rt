@@ -15,6 +15,14 @@ use plank_core::index::{BlockId, LocalId, OpIdx};
 use sir_data::records::{Tested, op_inputs, operation_count};
 use sir_data::view::{condition, operations, outputs};
 
+// How a block uses a local, as the numbers of the answer say it.
+#[derive(Clone, Copy)]
+enum UseKind {
+    Operation = 0,
+    Condition = 1,
+    Output = 2,
+}
+
 // How often a local is among some operands.
 fn count_local(run: &[u32], local: LocalId) -> u32
     requires { length run.now ≤ 4096 }
@@ -45,7 +53,7 @@ fn put_repeated(out: &mut [u8], n: usize, b: BlockId, o: OpIdx, times: u32) -> u
         if out.len() < 4 * m + 4 {
             return n + 3 * (times as usize);
         }
-        m = put_triple(out, m, b.0, 0, o.0);
+        m = put_triple(out, m, b.0, UseKind::Operation as u32, o.0);
     }
     m
 }
@@ -85,7 +93,7 @@ fn put_condition_use(words: &[u32], b: BlockId, local: LocalId, n: usize, out: &
     ensures { Puts n (condition_uses words.now local.0 b.0) out.old out.new result }
 {
     if is_condition(words, b, local) {
-        return put_triple(out, n, b.0, 1, 0);
+        return put_triple(out, n, b.0, UseKind::Condition as u32, 0);
     }
     n
 }
@@ -101,7 +109,7 @@ fn put_output_uses(words: &[u32], b: BlockId, local: LocalId, n: usize, out: &mu
     let mut m = n;
     for (k, v) in run.iter().enumerate() {
         if *v == local.0 {
-            m = put_triple(out, m, b.0, 2, k as u32);
+            m = put_triple(out, m, b.0, UseKind::Output as u32, k as u32);
         }
     }
     m

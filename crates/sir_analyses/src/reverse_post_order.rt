@@ -16,6 +16,10 @@ use sir_data::records::{
     successor_count,
 };
 
+// The rows of a table of what was seen.
+const SEEN_FUNCTIONS: usize = 0;
+const SEEN_BLOCKS: usize = 1;
+
 // The function that an operation calls, if it calls one.
 fn callee(words: &[u32], o: OpIdx) -> Option<FunctionId>
     requires well_formed { WellFormed words.now }
@@ -52,7 +56,7 @@ pub fn visit_function(
     requires held { Held words.now seen.old postorder.old n }
     ensures { VisitStep words.now (visit_function (functions words.now + blocks words.now) words.now f.0) seen.old postorder.old n seen.new postorder.new result }
 {
-    if !row_add(seen, 0, f.0) {
+    if !row_add(seen, SEEN_FUNCTIONS, f.0) {
         return n;
     }
     let m = visit_block(words, f, entry_block(words, f), seen, postorder, n);
@@ -75,7 +79,7 @@ pub fn visit_block(
     requires held { Held words.now seen.old postorder.old n }
     ensures { VisitStep words.now (visit_block (functions words.now + blocks words.now) words.now f.0 b.0) seen.old postorder.old n seen.new postorder.new result }
 {
-    if !row_add(seen, 1, b.0) {
+    if !row_add(seen, SEEN_BLOCKS, b.0) {
         return n;
     }
     let span = block_operations(words, b);
@@ -171,7 +175,7 @@ fn flag_visited(words: &[u32], seen: &[u64], flags: &mut [u32])
 {
     let count = block_count(words);
     for b in 0..count {
-        if row_contains(seen, 1, b) {
+        if row_contains(seen, SEEN_BLOCKS, b) {
             flags[b as usize] = 1;
         }
     }
