@@ -18,6 +18,7 @@ use sir_data::records::{
 
 // The rows of a table of what was seen.
 const SEEN_FUNCTIONS: usize = 0;
+
 const SEEN_BLOCKS: usize = 1;
 
 // The function that an operation calls, if it calls one.

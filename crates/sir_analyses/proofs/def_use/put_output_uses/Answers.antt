@@ -1,27 +1,14 @@
 -- `put_output_uses` meets its contract. The invariant: the places left are to be put.
 use mathlib.Core.Path.{◌≡◌, sym, ap, ◌∙◌}
-use mathlib.Core.List.{List, [], ◌∷◌}
-use Prim.Native.Nat.{ℕ, ◌+◌, ◌<◌}
+use mathlib.Core.List.{List}
+use Prim.Native.Nat.{ℕ, ◌<◌}
 use native.Mathlib.Omega.{arith}
 use lib.ListN.{length, get_or}
 use Rattle.sir_data.specs.Records.{outputs}
-use Rattle.sir_analyses.proofs.answers.Writing.{putting_none, putting_as, putting_count, putting_more, putting_all}
-use Rattle.sir_analyses.proofs.def_use.UseWords.{outputs_left, output_here, output_other, output_end, outputs_most}
+use Rattle.sir_analyses.proofs.answers.Writing.{putting_as, putting_more, putting_all}
+use Rattle.sir_analyses.proofs.def_use.UseWords.{output_here, output_other, output_end, outputs_most}
 use Rattle.sir_analyses.proofs.def_use.put_output_uses.Goals as goal
 use Rattle.sir_analyses.proofs.def_use.put_output_uses.Goals.{else-v-local, then-v-local}
-
-pub loop-k-init : goal.loop-k-init
-loop-k-init c = (omega arith, putting_none)
-
-pub put_triple-m-requires : goal.put_triple-m-requires
-put_triple-m-requires c =
-    let L = c.loop-k in
-    let w = c.args.words.now in
-    let is = c.outputs-run.ensures in
-    let h : L.k < length (outputs w c.args.b.0) = omega (arith, ap length is, c.loop-k-test.true) in
-    let same : get_or c.outputs-run.result.now L.k 0 ≡ get_or (outputs w c.args.b.0) L.k 0 = ap (λ (l : List ℕ). get_or l L.k 0) is in
-    let e = output_here w c.args.local.0 c.args.b.0 L.k h (sym same ∙ c.if-v-local.true) in
-    omega (arith, putting_count (c.args.b.0 ∷ 2 ∷ L.k ∷ []) (outputs_left w c.args.local.0 c.args.b.0 (L.k + 1)) c.requires.b_bound_2 (putting_as e L.invariant.1))
 
 pub overflow_cast-k : goal.overflow_cast-k
 overflow_cast-k c =
@@ -40,9 +27,6 @@ loop-k-preserved c =
         | else-v-local x ↦ rw (x.out-is, x.m-is) (putting_as (output_other w c.args.local.0 c.args.b.0 L.k h (λ y. x.if-v-local.false (same ∙ y))) L.invariant.1)
       ],
     )
-
-pub shape_of-out : goal.shape_of-out
-shape_of-out c = c.loop-k.invariant.1.long
 
 pub returns : goal.returns
 returns c =

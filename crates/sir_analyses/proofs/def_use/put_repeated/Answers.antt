@@ -21,9 +21,6 @@ overflow_add-m c =
     let e = repeated_uses_length c.args.b.0 c.args.o.0 c.args.times in
     omega (arith, putting_count (c.args.b.0 ∷ 0 ∷ c.args.o.0 ∷ []) (same_left c.args.b.0 c.args.o.0 (L._i + 1) c.args.times) {k = 2 ^ 59} (omega (arith, c.requires, e)) (putting_as (same_next c.args.b.0 c.args.o.0 L._i c.args.times c.loop-i-test.true) L.invariant.1))
 
-pub shape_of-out-then-out-m : goal.shape_of-out-then-out-m
-shape_of-out-then-out-m c = c.loop-i.invariant.1.long
-
 pub returns-then-out-m : goal.returns-then-out-m
 returns-then-out-m c =
     putting_past c.if-out-m.true (omega (arith, repeated_uses_length c.args.b.0 c.args.o.0 c.args.times)) c.loop-i.invariant.1
@@ -38,9 +35,6 @@ pub loop-i-preserved : goal.loop-i-preserved
 loop-i-preserved c =
     let L = c.loop-i in
     (omega arith, putting_more (putting_as (same_next c.args.b.0 c.args.o.0 L._i c.args.times c.loop-i-test.true) L.invariant.1) c.put_triple-m.ensures)
-
-pub shape_of-out : goal.shape_of-out
-shape_of-out c = c.loop-i.invariant.1.long
 
 pub returns : goal.returns
 returns c =

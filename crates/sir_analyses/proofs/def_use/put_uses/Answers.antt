@@ -1,7 +1,6 @@
 -- `put_uses` meets its contract. The invariant: the blocks left are to be put.
-use mathlib.Core.Path.{sym, ap, ◌∙◌}
-use mathlib.Core.List.{List}
-use Prim.Native.Nat.{ℕ, ◌+◌, ◌-◌, ◌^◌}
+use mathlib.Core.Path.{◌∙◌}
+use Prim.Native.Nat.{◌+◌, ◌-◌, ◌^◌}
 use native.Mathlib.Omega.{arith}
 use lib.ListN.{get_or, drop}
 use Rattle.plank_core.specs.Lists.{bind}
@@ -9,16 +8,8 @@ use Rattle.plank_core.specs.laws.Lists.{get_or_mem}
 use Rattle.plank_core.specs.laws.Loops.{bind_drop_step, bind_drop_end}
 use Rattle.sir_analyses.specs.inner.Uses.{block_uses}
 use Rattle.sir_analyses.proofs.claims.order.OrderLength.{rpo_below}
-use Rattle.sir_analyses.proofs.answers.Writing.{putting_none, putting_as, putting_count, putting_more, putting_all}
+use Rattle.sir_analyses.proofs.answers.Writing.{putting_as, putting_count, putting_more, putting_all}
 use Rattle.sir_analyses.proofs.def_use.put_uses.Goals as goal
-
-pub rpo-b-items-requires : goal.rpo-b-items-requires
-rpo-b-items-requires c =
-    (c.requires.visit_stage.long, c.requires.visit_stage.few)
-
-pub loop-b-init : goal.loop-b-init
-loop-b-init c =
-    (omega arith, putting_as (ap (λ (l : List ℕ). bind l (block_uses c.args.words.now c.args.counts.now c.args.local.0)) (sym (c.rpo-b-items.ensures ∙ c.requires.visit_stage.rpo_is))) putting_none)
 
 pub put_block_uses-m-requires : goal.put_block_uses-m-requires
 put_block_uses-m-requires c =
@@ -38,9 +29,6 @@ loop-b-preserved c =
     let g = block_uses w c.args.counts.now c.args.local.0 in
     let e = bind_drop_step g order L.b-index c.loop-b-test.true in
     (omega arith, putting_more (putting_as e L.invariant.1) c.put_block_uses-m.ensures)
-
-pub shape_of-out : goal.shape_of-out
-shape_of-out c = c.loop-b.invariant.1.long
 
 pub returns : goal.returns
 returns c =

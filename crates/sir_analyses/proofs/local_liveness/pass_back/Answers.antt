@@ -1,5 +1,5 @@
 -- `pass_back` meets its contract. The invariant: the blocks from place k of the order on are done.
-use mathlib.Core.Path.{◌≡◌, refl, sym, subst, ◌∙◌}
+use mathlib.Core.Path.{◌≡◌, refl, subst, ◌∙◌}
 use mathlib.Core.List.{List}
 use Prim.Native.Nat.{ℕ, ◌-◌}
 use lib.ListN.{get_or}
@@ -11,10 +11,6 @@ use Rattle.sir_analyses.proofs.local_liveness.Passes.{from_none, from_next, from
 use Rattle.sir_analyses.proofs.local_liveness.LivenessTables.{passing_on, pass_none, pass_as, pass_then}
 use native.Mathlib.Omega.{arith}
 use Rattle.sir_analyses.proofs.local_liveness.pass_back.Goals as goal
-
-pub rpo-order-requires : goal.rpo-order-requires
-rpo-order-requires c =
-    (c.requires.visit_stage.long, c.requires.visit_stage.few)
 
 pub loop-k-init : goal.loop-k-init
 loop-k-init c =
@@ -34,14 +30,6 @@ pub loop-k-preserved : goal.loop-k-preserved
 loop-k-preserved c =
     let l = c.loop-k in
     (omega arith, pass_as (pass_then l.invariant.1 c.propagate_liveness_to_predecessors-grew.ensures refl) (from_next c.args.words.now c.rpo-order.result.now l.k (omega (arith, l.invariant.0, c.loop-k-test.true)) (omega (arith, l.invariant.0, c.loop-k-test.true))))
-
-pub shape_of-live : goal.shape_of-live
-shape_of-live c =
-    c.loop-k.invariant.1.long
-
-pub shape_of-sent : goal.shape_of-sent
-shape_of-sent c =
-    c.loop-k.invariant.1.stepped.sent_long ∙ sym c.requires.passing.sent_long
 
 pub returns : goal.returns
 returns c =

@@ -37,9 +37,6 @@ loop-p-preserved c =
           (sends_then long l.invariant.1 r.ensures refl),
     )
 
-pub shape_of-exits : goal.shape_of-exits
-shape_of-exits c = c.loop-p.invariant.1.adds.long
-
 pub returns : goal.returns
 returns c =
     let l = c.loop-p in

@@ -16,19 +16,9 @@ use Rattle.sir_analyses.proofs.local_liveness.Sending.{output_small}
 use native.Mathlib.Omega.{arith}
 use Rattle.sir_analyses.proofs.local_liveness.send_moved.Goals as goal
 
-pub block_outputs-outputs-requires : goal.block_outputs-outputs-requires
-block_outputs-outputs-requires c =
-    record { sized = c.requires.well_formed.sized; in_range = c.requires.well_formed.in_range; b_bound = c.requires.p_bound.0 }
-
 pub loop-at-init : goal.loop-at-init
 loop-at-init c =
     (omega arith, sends_none (blocks c.args.words.now) c.args.exits.now (λ r i h. and-false (eqb r c.args.p.0)))
-
-pub overflow_cast-at : goal.overflow_cast-at
-overflow_cast-at c = omega (arith, c.type_inv.moved c.loop-at.at-index)
-
-pub offset_bounds-outputs-at : goal.offset_bounds-outputs-at
-offset_bounds-outputs-at c = omega (arith, c.type_inv.moved c.loop-at.at-index)
 
 pub bounds-outputs-at : goal.bounds-outputs-at
 bounds-outputs-at c =
@@ -66,9 +56,6 @@ loop-at-preserved c =
           (λ q v h. sym (and-or_distrib_left (eqb q p) (mem v (map (λ j. get_or xs j 0) (take l.at-index moved))) (eqb v (get_or xs at 0))) ∙ ap (λ (t : Bool). eqb q p && t) (mapped_next (λ j. get_or xs j 0) moved l.at-index i v))
           (sends_then long l.invariant.1 one refl),
     )
-
-pub shape_of-exits : goal.shape_of-exits
-shape_of-exits c = c.loop-at.invariant.1.adds.long
 
 pub returns : goal.returns
 returns c =

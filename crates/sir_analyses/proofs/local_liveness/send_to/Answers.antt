@@ -12,18 +12,6 @@ use Rattle.sir_analyses.proofs.local_liveness.Growth.{sends_as, sends_then, send
 use native.Mathlib.Omega.{arith}
 use Rattle.sir_analyses.proofs.local_liveness.send_to.Goals as goal
 
-pub row_union_with-passed-requires : goal.row_union_with-passed-requires
-row_union_with-passed-requires c =
-    (omega (arith, c.requires.p_bound, c.requires.well_formed.sized.blocks_most), c.requires.p_bound.1)
-
-pub send_moved-requires : goal.send_moved-requires
-send_moved-requires c =
-    record { well_formed = c.requires.well_formed; p_bound = (c.requires.p_bound.0, omega (arith, c.row_union_with-passed.auto, c.requires.p_bound)); by_index = c.requires.by_index }
-
-pub shape_of-exits : goal.shape_of-exits
-shape_of-exits c =
-    omega (arith, c.row_union_with-passed.auto, c.send_moved.auto)
-
 pub returns : goal.returns
 returns c =
     let w = c.args.words.now in

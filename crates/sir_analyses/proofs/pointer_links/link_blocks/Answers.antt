@@ -1,5 +1,5 @@
 -- `link_blocks` meets its contract. The invariant: the edges of the first i blocks are linked, and what these return is added.
-use mathlib.Core.Path.{◌∙◌, refl}
+use mathlib.Core.Path.{◌∙◌}
 use mathlib.Core.Bool.{◌&&◌}
 use Prim.Native.Nat.{◌<◌}
 use lib.ListN.{get_or}
@@ -9,19 +9,11 @@ use Rattle.plank_core.specs.laws.Lists.{get_or_mem}
 use Rattle.sir_data.specs.Records.{blocks, successors, returned}
 use Rattle.sir_analyses.specs.inner.Pointers.{passes_by}
 use Rattle.sir_analyses.proofs.claims.order.OrderLength.{rpo_below}
-use Rattle.sir_analyses.proofs.Tables.{adds_none}
 use Rattle.sir_analyses.proofs.Accepted.{returned_below}
 use Rattle.sir_analyses.proofs.block_sets.BlockSets.{small}
 use Rattle.sir_analyses.proofs.pointer_links.PointerLinks.{adds_listed, adds_all}
 use native.Mathlib.Omega.{arith}
 use Rattle.sir_analyses.proofs.pointer_links.link_blocks.Goals as goal
-
-pub rpo-id-items-requires : goal.rpo-id-items-requires
-rpo-id-items-requires c =
-    (c.requires.visit_stage.long, c.requires.visit_stage.few)
-
-pub loop-id-init : goal.loop-id-init
-loop-id-init c = (omega arith, adds_none (λ v u h. refl), adds_none (λ r v h. refl))
 
 pub link_edges-requires : goal.link_edges-requires
 link_edges-requires c =
@@ -52,12 +44,6 @@ loop-id-preserved c =
       adds_listed (λ b v u. any (λ t. passes_by w b t v u) (successors w b)) order l.id-index c.loop-id-test.true l.invariant.1 c.link_edges.ensures,
       adds_listed (λ b r v. eqb r 1 && mem v (returned w b)) order l.id-index c.loop-id-test.true l.invariant.2 (rw c.returned_outputs.ensures at c.add_run.ensures),
     )
-
-pub shape_of-links : goal.shape_of-links
-shape_of-links c = c.loop-id.invariant.1.long
-
-pub shape_of-causes : goal.shape_of-causes
-shape_of-causes c = c.loop-id.invariant.2.long
 
 pub returns : goal.returns
 returns c =

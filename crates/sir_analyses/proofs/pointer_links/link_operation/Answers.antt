@@ -1,6 +1,6 @@
 -- `link_operation` meets its contract. The invariant: the first k inputs are linked to the outputs.
 use mathlib.Core.Path.{◌≡◌, sym, ap, ◌∙◌}
-use mathlib.Core.Bool.{true, false, ◌&&◌, and_comm, and-false}
+use mathlib.Core.Bool.{true, false, ◌&&◌, and_comm}
 use lib.ListN.{get_or}
 use lib.Dec.{eqb}
 use Rattle.plank_core.specs.Lists.{mem}
@@ -14,29 +14,10 @@ use Rattle.sir_analyses.proofs.pointer_links.PointerLinks.{read_places}
 use native.Mathlib.Omega.{arith}
 use Rattle.sir_analyses.proofs.pointer_links.link_operation.Goals as goal
 
-pub op_word-requires : goal.op_word-requires
-op_word-requires c =
-    record { sized = c.requires.well_formed.sized; o_bound = c.requires.o_bound.0; k_bound = omega arith }
-
-pub can_derive_pointer-requires : goal.can_derive_pointer-requires
-can_derive_pointer-requires c =
-    omega (arith, c.requires.well_formed.in_range.code_most c.args.o.0 c.requires.o_bound.0, c.op_word.ensures)
-
 pub returns-then-not-can_derive_pointer : goal.returns-then-not-can_derive_pointer
 returns-then-not-can_derive_pointer c =
     let t : derives (code c.args.words.now c.args.o.0) ≡ false = ap derives (sym c.op_word.ensures) ∙ sym c.can_derive_pointer.ensures ∙ c.if-not-can_derive_pointer.true in
     adds_none (λ v u h. rw t)
-
-pub op_inputs-inputs-requires : goal.op_inputs-inputs-requires
-op_inputs-inputs-requires c =
-    record { sized = c.requires.well_formed.sized; in_range = c.requires.well_formed.in_range; o_bound = c.requires.o_bound.0 }
-
-pub op_outputs-outputs-requires : goal.op_outputs-outputs-requires
-op_outputs-outputs-requires c =
-    record { sized = c.requires.well_formed.sized; in_range = c.requires.well_formed.in_range; o_bound = c.requires.o_bound.0 }
-
-pub loop-v-init : goal.loop-v-init
-loop-v-init c = (omega arith, adds_none (λ v u h. and-false (mem u c.op_outputs-outputs.result.now)))
 
 pub add_run-requires : goal.add_run-requires
 add_run-requires c =
@@ -53,9 +34,6 @@ loop-v-preserved c =
     let a : Adds l.links (λ v u. mem u ys && eqb v (get_or xs l.v-index 0)) c.add_run.new.table =
     adds_as (λ v u h. and_comm (eqb v (get_or xs l.v-index 0)) (mem u ys)) c.add_run.ensures in
     (omega arith, adds_as (λ v u h. and_next (mem u ys) xs l.v-index c.loop-v-test.true v) (adds_then l.invariant.1 a))
-
-pub shape_of-links : goal.shape_of-links
-shape_of-links c = c.loop-v.invariant.1.long
 
 pub returns : goal.returns
 returns c =

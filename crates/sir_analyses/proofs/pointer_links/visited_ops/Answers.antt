@@ -1,21 +1,15 @@
 -- `visited_ops` meets its contract. The invariant: the operations of the first i blocks are added.
-use mathlib.Core.Path.{◌∙◌, refl}
+use mathlib.Core.Path.{◌∙◌}
 use Prim.Native.Nat.{◌+◌, ◌*◌}
 use lib.ListN.{get_or}
 use Rattle.plank_core.specs.Lists.{mem}
 use Rattle.plank_core.specs.laws.Lists.{get_or_mem}
 use Rattle.sir_data.specs.Records.{ops}
 use Rattle.sir_analyses.proofs.claims.order.OrderLength.{rpo_below}
-use Rattle.sir_analyses.proofs.Tables.{adds_none, cleared_long}
+use Rattle.sir_analyses.proofs.Tables.{cleared_long}
 use Rattle.sir_analyses.proofs.pointer_links.PointerLinks.{adds_listed, visited_all}
 use native.Mathlib.Omega.{arith}
 use Rattle.sir_analyses.proofs.pointer_links.visited_ops.Goals as goal
-
-pub rpo-b-items-requires : goal.rpo-b-items-requires
-rpo-b-items-requires c = (c.requires.visit_stage.long, c.requires.visit_stage.few)
-
-pub loop-b-init : goal.loop-b-init
-loop-b-init c = (omega arith, adds_none (λ r n h. refl))
 
 pub add_operations-requires : goal.add_operations-requires
 add_operations-requires c =
@@ -28,9 +22,6 @@ loop-b-preserved c =
     let l = c.loop-b in
     let w = c.args.words.now in
     (omega arith, adds_listed (λ b r n. mem (512 * r + n) (ops w b)) c.rpo-b-items.result.now l.b-index c.loop-b-test.true l.invariant.1 c.add_operations.ensures)
-
-pub shape_of-visited : goal.shape_of-visited
-shape_of-visited c = c.loop-b.invariant.1.long
 
 pub returns : goal.returns
 returns c =

@@ -3,23 +3,12 @@ use mathlib.Core.Path.{◌≡◌, sym, ◌∙◌}
 use mathlib.Core.Bool.{true}
 use Prim.Native.Nat.{◌+◌, ◌<◌}
 use native.Mathlib.Omega.{arith}
-use Rattle.plank_core.specs.laws.Loops.{range_all}
 use Rattle.sir_data.specs.Records.{blocks}
 use Rattle.sir_analyses.specs.Order.{is_visited, edges_from}
-use Rattle.sir_analyses.proofs.answers.Writing.{putting_none, putting_as, putting_count, putting_more, putting_all}
+use Rattle.sir_analyses.proofs.answers.Writing.{putting_as, putting_count, putting_more, putting_all}
 use Rattle.sir_analyses.proofs.predecessors.Edges.{predecessors_most, predecessors_left, visited_step, unvisited_step, visited_end}
 use Rattle.sir_analyses.proofs.predecessors.put_predecessors.Goals as goal
 use Rattle.sir_analyses.proofs.predecessors.put_predecessors.Goals.{else-is_visited, then-is_visited}
-
-pub block_count-count-requires : goal.block_count-count-requires
-block_count-count-requires c = omega (arith, c.requires.well_formed.sized)
-
-pub loop-p-init : goal.loop-p-init
-loop-p-init c = (omega arith, putting_as (rw (c.block_count-count.ensures, range_all)) putting_none)
-
-pub is_visited-requires : goal.is_visited-requires
-is_visited-requires c =
-    (c.requires.long, omega (arith, c.block_count-count.ensures, c.requires.well_formed.sized.blocks_most, c.loop-p-test.true))
 
 pub put_edges-m-requires : goal.put_edges-m-requires
 put_edges-m-requires c =
@@ -44,9 +33,6 @@ loop-p-preserved c =
         | else-is_visited x ↦ rw (x.out-is, x.m-is) (putting_as (unvisited_step w (λ q. edges_from w q c.args.b.0) L.p n c.loop-p-test.true (told ∙ x.if-is_visited.false)) L.invariant.1)
       ],
     )
-
-pub shape_of-out : goal.shape_of-out
-shape_of-out c = c.loop-p.invariant.1.long
 
 pub returns : goal.returns
 returns c =
