@@ -1,12 +1,12 @@
 // The order of functions and blocks, as `ReversePostOrder` of the source fills it, over arrays of fixed length.
-ghost use Rattle.std.specs.Prelude.{◌≡◌, ◌++◌, ◌∷◌, [], ℕ, ◌+◌, ◌<◌, ◌≤◌, length, get_or, take, replicate};
-ghost use Rattle.plank_core.specs.Lists.{one_if};
+ghost use Rattle.std.specs.Prelude.{◌≡◌, ◌++◌, ◌∷◌, [], ℕ, ◌+◌, ◌<◌, ◌≤◌, length, get_or, take, replicate, reverse, List};
+ghost use Rattle.plank_core.specs.Lists.{bind, one_if};
 ghost use Rattle.plank_core.specs.inner.DenseIndexSet.{contains};
 ghost use Rattle.sir_data.specs.Records.{functions, blocks, operations, callees};
 ghost use Rattle.sir_data.specs.inner.WellFormed.{WellFormed};
 ghost use Rattle.sir_analyses.specs.Order.{visit_function, visit_block};
 ghost use Rattle.sir_analyses.specs.inner.Stages.{OrderStage, VisitStage};
-ghost use Rattle.sir_analyses.specs.inner.Visiting.{called, Held, VisitStep, VisitedAll, blocks_of, blocks_in, entry_of, order_in, Listed};
+ghost use Rattle.sir_analyses.specs.inner.Visiting.{called, Held, VisitStep, VisitedAll, blocks_of, blocks_in, entry_of, order_in, function_of, Listed, EachListed};
 
 use crate::stages::{RPO, VISIT, VISITED};
 use plank_core::index::{BlockId, FunctionId, OpIdx};
@@ -127,19 +127,35 @@ fn function_blocks(postorder: &[u32], f: FunctionId, out: &mut [u32], at: usize)
     m
 }
 
-// The blocks of all functions, last finished first: the sequence of the order.
-pub fn blocks_rpo(postorder: &[u32], out: &mut [u32]) -> usize
-    requires { length (blocks_in postorder.now) ≤ length out.old }
-    ensures { Listed (blocks_in postorder.now) 0 out.old out.new result }
+// What `put` writes of each function, last finished first.
+fn each_function<F: Fn(&mut [u32], FunctionId, usize) -> usize>(
+    postorder: &[u32],
+    out: &mut [u32],
+    put: F,
+) -> usize
+    requires { (g : ℕ → List ℕ) × EachListed (F.pre put) (F.post put) g (length out.old) × (length (bind (reverse postorder.now) (function_of g)) ≤ length out.old) }
+    ensures { (g : ℕ → List ℕ) → EachListed (F.pre put) (F.post put) g (length out.old) → length (bind (reverse postorder.now) (function_of g)) ≤ length out.old → Listed (bind (reverse postorder.now) (function_of g)) 0 out.old out.new result }
 {
     let mut m: usize = 0;
     for i in (0..postorder.len()).rev() {
         let key = postorder[i];
         if key < 256 {
-            m = function_blocks(postorder, FunctionId(key), out, m);
+            m = put(out, FunctionId(key), m);
         }
     }
     m
+}
+
+// The blocks of all functions, last finished first: the sequence of the order.
+pub fn blocks_rpo(postorder: &[u32], out: &mut [u32]) -> usize
+    requires { length (blocks_in postorder.now) ≤ length out.old }
+    ensures { Listed (blocks_in postorder.now) 0 out.old out.new result }
+{
+    each_function(
+        postorder,
+        out,
+        |to, f, at| function_blocks(postorder, f, to, at),
+    )
 }
 
 // A function's id, its block count and its blocks, after the first `at` of `out`.
@@ -158,14 +174,11 @@ pub fn order_words(postorder: &[u32], out: &mut [u32]) -> usize
     requires { (length (order_in postorder.now) ≤ length out.old) × (length out.old < 65536) }
     ensures { Listed (order_in postorder.now) 0 out.old out.new result }
 {
-    let mut m: usize = 0;
-    for i in (0..postorder.len()).rev() {
-        let key = postorder[i];
-        if key < 256 {
-            m = function_entry(postorder, FunctionId(key), out, m);
-        }
-    }
-    m
+    each_function(
+        postorder,
+        out,
+        |to, f, at| function_entry(postorder, f, to, at),
+    )
 }
 
 // For each block whether it was seen, to an array that is empty at first.
