@@ -2,14 +2,10 @@
 use mathlib.Core.Path.{◌≡◌, sym}
 use mathlib.Core.List.{[], ◌∷◌}
 use Rattle.sir_data.specs.Records.{condition}
-use Rattle.sir_analyses.proofs.Tables.{adds_single, adds_nothing}
+use Rattle.sir_analyses.proofs.Tables.{adds_single}
 use Rattle.sir_analyses.proofs.block_sets.BlockSets.{tested_small}
 use native.Mathlib.Omega.{arith}
 use Rattle.sir_analyses.proofs.block_sets.add_condition.Goals as goal
-
-pub returns-in_default : goal.returns-in_default
-returns-in_default c = let a = c.args in
-    adds_nothing a.uses.now a.b.0 (condition a.words.now a.b.0) (sym c.in_default.ensures)
 
 pub row_add-requires : goal.row_add-requires
 row_add-requires c =

@@ -1,10 +1,10 @@
 -- `range_sets` meets its contract. The invariant: the sets are those of the operations from o on.
-use mathlib.Core.Path.{◌≡◌, ap, ◌∙◌}
+use mathlib.Core.Path.{ap, ◌∙◌}
 use Prim.Native.Nat.{◌-◌, ◌<◌}
 use lib.ListN.{length}
 use Rattle.plank_core.specs.laws.Loops.{range_before, range_none}
 use Rattle.plank_core.specs.laws.DenseIndexSet.{length_row}
-use Rattle.sir_data.specs.Records.{operations, block_word}
+use Rattle.sir_data.specs.Records.{operations}
 use Rattle.sir_analyses.specs.inner.Stages.{reads_in, writes_in}
 use Rattle.sir_analyses.proofs.stages.Parts.{length_part}
 use Rattle.sir_analyses.proofs.block_sets.BlockSets.{range_sets_start, range_sets_more}
@@ -40,12 +40,3 @@ loop-o-preserved c =
       rw (range_before l.o c.block_operations-span.result.end (omega arith) (omega arith), c.row_union_with-in-loop-o.ensures.1, c.row_of-in-loop-o-2.ensures, c.writes-in-loop-o.ensures, c.row_union_with.ensures.1, c.row_of-in-loop-o.ensures, c.reads.ensures, c.row_difference_with.ensures, c.row_of.ensures, c.writes.ensures)
           (range_sets_more (reads_in c.args.live.now) (writes_in c.args.live.now) (l.o - 1) c.requires.live_len.1 h l.invariant.2),
     )
-
-pub returns : goal.returns
-returns c =
-    let w = c.args.words.now in
-    let b = c.args.b.0 in
-    let l = c.loop-o in
-    let span = c.block_operations-span.ensures in
-    let first : l.o ≡ block_word w b 4 = omega (arith, span) in
-    rw (first, span.1) at l.invariant.2

@@ -27,7 +27,3 @@ loop-o-preserved c =
           (λ p q. get_or-set_other L.counts L.o p _ 0 (λ (y : p ≡ L.o). omega arith) ∙ L.invariant.2 p q)
           (get_or-set_same L.counts L.o _ 0 (omega (arith, L.invariant.1)) ∙ e),
     )
-
-pub returns : goal.returns
-returns c = let L = c.loop-o in
-    record { wide = L.invariant.1; count_is = λ p q. L.invariant.2 p (omega (arith, c.operation_count-last.ensures, c.loop-o-test.false)) }

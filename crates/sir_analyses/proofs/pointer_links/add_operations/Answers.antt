@@ -1,9 +1,7 @@
 -- `add_operations` meets its contract. The invariant: the operations below o are added.
-use mathlib.Core.Path.{◌≡◌, ap, ap₂}
+use mathlib.Core.Path.{◌≡◌}
 use Prim.Native.Nat.{◌+◌, ◌*◌, ◌/◌, ◌%◌}
 use lib.Dec.{eqb}
-use Rattle.plank_core.specs.Lists.{range, mem}
-use Rattle.sir_data.specs.Records.{block_word, ops}
 use Rattle.sir_analyses.specs.inner.Tables.{Adds}
 use Rattle.sir_analyses.proofs.Tables.{adds_as, adds_then}
 use Rattle.sir_analyses.proofs.pointer_links.PointerLinks.{adds_number}
@@ -17,11 +15,3 @@ loop-o-preserved c =
     let n : 512 * (l.o / 512) + l.o % 512 ≡ l.o = omega arith in
     let a : Adds l.visited (λ r i. eqb (512 * r + i) l.o) c.row_add.new.table = rw (c.row_add.ensures.1, n) (adds_number l.visited l.o) in
     (omega arith, omega arith, adds_as (λ r i h. range_more (512 * r + i) c.operations-span.result.start l.o l.invariant.0) (adds_then l.invariant.2 a))
-
-pub returns : goal.returns
-returns c = let l = c.loop-o in
-    let b = c.operations-span in
-    let w = c.args.words.now in
-    let last : l.o ≡ block_word w c.args.b.0 5 = omega (arith, b.ensures) in
-    let os : range b.result.start l.o ≡ ops w c.args.b.0 = ap₂ range b.ensures.0 last in
-    adds_as (λ r i h. ap (mem (512 * r + i)) os) l.invariant.2

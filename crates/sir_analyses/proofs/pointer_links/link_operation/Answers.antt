@@ -1,23 +1,18 @@
 -- `link_operation` meets its contract. The invariant: the first k inputs are linked to the outputs.
 use mathlib.Core.Path.{◌≡◌, sym, ap, ◌∙◌}
-use mathlib.Core.Bool.{true, false, ◌&&◌, and_comm}
+use mathlib.Core.Bool.{true, ◌&&◌, and_comm}
 use lib.ListN.{get_or}
 use lib.Dec.{eqb}
 use Rattle.plank_core.specs.Lists.{mem}
 use Rattle.sir_data.specs.Records.{code}
 use Rattle.sir_data.specs.Codes.{derives}
 use Rattle.sir_analyses.specs.inner.Tables.{Adds}
-use Rattle.sir_analyses.proofs.Tables.{adds_as, adds_then, adds_none}
+use Rattle.sir_analyses.proofs.Tables.{adds_as, adds_then}
 use Rattle.plank_core.specs.laws.Prefixes.{and_next, and_all}
 use Rattle.sir_analyses.proofs.block_sets.BlockSets.{small}
 use Rattle.sir_analyses.proofs.pointer_links.PointerLinks.{read_places}
 use native.Mathlib.Omega.{arith}
 use Rattle.sir_analyses.proofs.pointer_links.link_operation.Goals as goal
-
-pub returns-then-not-can_derive_pointer : goal.returns-then-not-can_derive_pointer
-returns-then-not-can_derive_pointer c =
-    let t : derives (code c.args.words.now c.args.o.0) ≡ false = ap derives (sym c.op_word.ensures) ∙ sym c.can_derive_pointer.ensures ∙ c.if-not-can_derive_pointer.true in
-    adds_none (λ v u h. rw t)
 
 pub add_run-requires : goal.add_run-requires
 add_run-requires c =

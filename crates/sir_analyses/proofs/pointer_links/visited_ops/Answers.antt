@@ -1,14 +1,10 @@
 -- `visited_ops` meets its contract. The invariant: the operations of the first i blocks are added.
 use mathlib.Core.Path.{◌∙◌}
-use Prim.Native.Nat.{◌+◌, ◌*◌}
 use lib.ListN.{get_or}
-use Rattle.plank_core.specs.Lists.{mem}
 use Rattle.plank_core.specs.laws.Lists.{get_or_mem}
-use Rattle.sir_data.specs.Records.{ops}
 use Rattle.sir_analyses.proofs.claims.order.OrderLength.{rpo_below}
 use Rattle.sir_analyses.proofs.Tables.{cleared_long}
-use Rattle.sir_analyses.proofs.pointer_links.PointerLinks.{adds_listed, visited_all}
-use native.Mathlib.Omega.{arith}
+use Rattle.sir_analyses.proofs.pointer_links.PointerLinks.{visited_all}
 use Rattle.sir_analyses.proofs.pointer_links.visited_ops.Goals as goal
 
 pub add_operations-requires : goal.add_operations-requires
@@ -16,12 +12,6 @@ add_operations-requires c =
     let l = c.loop-b in
     let order = c.rpo-b-items.result.now in
     record { well_formed = c.requires.visit_stage.well_formed; b_bound = (rpo_below c.args.words.now c.requires.visit_stage.well_formed (c.rpo-b-items.ensures ∙ c.requires.visit_stage.rpo_is) (get_or order l.b-index 0) (get_or_mem order l.b-index 0 c.loop-b-test.true), l.invariant.1.long ∙ cleared_long c.args.visited.now 16 c.requires.visited_value) }
-
-pub loop-b-preserved : goal.loop-b-preserved
-loop-b-preserved c =
-    let l = c.loop-b in
-    let w = c.args.words.now in
-    (omega arith, adds_listed (λ b r n. mem (512 * r + n) (ops w b)) c.rpo-b-items.result.now l.b-index c.loop-b-test.true l.invariant.1 c.add_operations.ensures)
 
 pub returns : goal.returns
 returns c =
