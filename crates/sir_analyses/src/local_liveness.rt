@@ -28,6 +28,7 @@ pub fn compute_liveness_at_block_entry(live: &[u64], b: BlockId) -> DenseIndexSe
 }
 
 // Takes the inputs of b out of a set: the positions of those that it had stand at the front of `moved`.
+// How many they are is returned, since the array is fixed and lent, as there is no heap.
 fn take_block_inputs(words: &[u32], b: BlockId, set: &mut [u64], moved: &mut [u32]) -> usize
     requires well_formed { WellFormed words.now }
     requires b_bound { (b.0 < blocks words.now) × (length set.old ≡ 8) × (length moved.old ≡ 512) }

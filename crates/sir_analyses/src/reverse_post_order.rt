@@ -34,7 +34,8 @@ fn callee(words: &[u32], o: OpIdx) -> Option<FunctionId>
     }
 }
 
-// Writes a key after the first n.
+// Writes a key after the first n. A key is a number and the count goes along, since the array is fixed and lent, as there is no heap: f
+// for a function, 256 * (f + 1) + b for block b on behalf of f.
 fn push(postorder: &mut [u32], n: usize, key: u32) -> usize
     requires { n < length postorder.old }
     ensures { (result ≡ n + 1) × (take result postorder.new ≡ take n postorder.old ++ (key ∷ [])) }
