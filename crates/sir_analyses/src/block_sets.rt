@@ -24,10 +24,8 @@ pub fn add_run(table: &mut [u64], row: usize, run: &[u32])
     requires by_index { (v : ℕ) → v ∈ run.now → v < 512 }
     ensures { Adds table.old (λ r i. eqb r row && mem i run.now) table.new }
 {
-    let mut k: usize = 0;
-    while k < run.len() {
-        row_add(table, row, run[k]);
-        k += 1;
+    for v in run {
+        row_add(table, row, *v);
     }
 }
 
@@ -49,10 +47,8 @@ pub fn operand_sets(words: &[u32], live: &mut [u64])
     ensures { OperandRows words.now (reads_in live.new) (writes_in live.new) × Emptied 16384 live.new }
 {
     let count = operation_count(words);
-    let mut o: u32 = 0;
-    while o < count {
+    for o in 0..count {
         operand_rows(words, OpIdx(o), live);
-        o += 1;
     }
 }
 
@@ -62,10 +58,9 @@ fn add_condition(words: &[u32], b: BlockId, uses: &mut [u64])
     requires b_bound { (b.0 < blocks words.now) × (length uses.old ≡ 2048) }
     ensures { Adds uses.old (λ r v. eqb r b.0 && mem v (condition words.now b.0)) uses.new }
 {
-    let Tested::Local(v) = tested_local(words, b) else {
-        return;
-    };
-    row_add(uses, b.0 as usize, v.0);
+    if let Tested::Local(v) = tested_local(words, b) {
+        row_add(uses, b.0 as usize, v.0);
+    }
 }
 
 // Adds what is read after the operations of block b, its condition and what it returns, to row b.
@@ -85,22 +80,8 @@ pub fn end_sets(words: &[u32], ends: &mut [u64])
     ensures { EndRows words.now ends.new }
 {
     let count = block_count(words);
-    let mut b: u32 = 0;
-    while b < count {
+    for b in 0..count {
         add_end(words, BlockId(b), ends);
-        b += 1;
-    }
-}
-
-// Empties two sets.
-fn clear(sets: &mut [u64])
-    requires { length sets.old ≡ 16 }
-    ensures { sets.new ≡ replicate 16 0 }
-{
-    let mut k: usize = 0;
-    while k < 16 {
-        sets[k] = 0;
-        k += 1;
     }
 }
 
@@ -111,12 +92,9 @@ fn range_sets(words: &[u32], b: BlockId, live: &[u64], sets: &mut [u64])
     requires b_bound { (b.0 < blocks words.now) × (length sets.old ≡ 16) }
     ensures { RangeSets words.now (ops words.now b.0) sets.new }
 {
-    clear(sets);
+    sets.fill(0);
     let span = block_operations(words, b);
-    let first = span.start as usize;
-    let mut o = span.end as usize;
-    while first < o {
-        o -= 1;
+    for o in (span.start as usize..span.end as usize).rev() {
         row_difference_with(sets, 0, row_of(writes(live), o));
         row_union_with(sets, 0, row_of(reads(live), o));
         row_union_with(sets, 1, row_of(writes(live), o));
@@ -134,7 +112,7 @@ fn update_range_sets(words: &[u32], b: BlockId, live: &[u64], kept: Span, sets: 
     ensures range_sets_2 { RangeSets words.now (ops words.now b.0) sets.new }
 {
     let span = block_operations(words, b);
-    if span.start == kept.start && span.end == kept.end {
+    if span == kept {
         return kept;
     }
     range_sets(words, b, live, sets);
@@ -177,11 +155,9 @@ pub fn block_sets(words: &[u32], live: &mut [u64])
     let mut sets = [0u64; 16];
     let mut kept = Span { start: 0, end: 0 };
     let count = block_count(words);
-    let mut b: u32 = 0;
-    while b < count {
+    for b in 0..count {
         kept = update_range_sets(words, BlockId(b), live, kept, &mut sets);
         block_rows(words, BlockId(b), &sets, live);
-        b += 1;
     }
 }
 
@@ -192,11 +168,9 @@ fn add_to_successors(words: &[u32], p: BlockId, preds: &mut [u64])
     ensures { Adds preds.old (λ b i. eqb i p.0 && mem b (successors words.now p.0)) preds.new }
 {
     let count = successor_count(words, p);
-    let mut i: usize = 0;
-    while i < count {
+    for i in 0..count {
         let s = successor(words, p, i);
         row_add(preds, s.0 as usize, p.0);
-        i += 1;
     }
 }
 
@@ -207,11 +181,9 @@ pub fn predecessor_sets(words: &[u32], visit: &[u32], preds: &mut [u64])
     ensures { PredecessorRows words.now preds.new }
 {
     let count = block_count(words);
-    let mut p: u32 = 0;
-    while p < count {
+    for p in 0..count {
         if is_visited(visit, BlockId(p)) {
             add_to_successors(words, BlockId(p), preds);
         }
-        p += 1;
     }
 }

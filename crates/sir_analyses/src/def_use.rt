@@ -15,21 +15,20 @@ use plank_core::index::{BlockId, LocalId, OpIdx};
 use sir_data::records::{Tested, op_inputs, operation_count};
 use sir_data::view::{condition, operations, outputs};
 
+// How a block uses a local, as the numbers of the answer say it.
+#[derive(Clone, Copy)]
+enum UseKind {
+    Operation = 0,
+    Condition = 1,
+    Output = 2,
+}
+
 // How often a local is among some operands.
 fn count_local(run: &[u32], local: LocalId) -> u32
     requires { length run.now ≤ 4096 }
     ensures { result ≡ length (positions local.0 run.now 0) }
 {
-    let mut n: u32 = 0;
-    let mut i: usize = 0;
-    while i < run.len() {
-        let v = run[i];
-        i += 1;
-        if v == local.0 {
-            n += 1;
-        }
-    }
-    n
+    run.iter().filter(|v| **v == local.0).count() as u32
 }
 
 // How often each operation reads a local.
@@ -39,10 +38,8 @@ pub fn input_counts(words: &[u32], local: LocalId, counts: &mut [u32])
     ensures { InputCounts words.now local.0 counts.new }
 {
     let last = operation_count(words);
-    let mut o: u32 = 0;
-    while o < last {
+    for o in 0..last {
         counts[o as usize] = count_local(op_inputs(words, OpIdx(o)), local);
-        o += 1;
     }
 }
 
@@ -52,13 +49,11 @@ fn put_repeated(out: &mut [u8], n: usize, b: BlockId, o: OpIdx, times: u32) -> u
     ensures { Puts n (repeated_uses b.0 o.0 times) out.old out.new result }
 {
     let mut m = n;
-    let mut i: u32 = 0;
-    while i < times {
+    for _i in 0..times {
         if out.len() < 4 * m + 4 {
             return n + 3 * (times as usize);
         }
-        m = put_triple(out, m, b.0, 0, o.0);
-        i += 1;
+        m = put_triple(out, m, b.0, UseKind::Operation as u32, o.0);
     }
     m
 }
@@ -71,12 +66,9 @@ fn put_operation_uses(words: &[u32], counts: &[u32], b: BlockId, n: usize, out: 
     ensures { Puts n (operation_uses words.now counts.now b.0) out.old out.new result }
 {
     let span = operations(words, b);
-    let last = span.end;
     let mut m = n;
-    let mut o = span.start;
-    while o < last {
+    for o in span.start..span.end {
         m = put_repeated(out, m, b, OpIdx(o), counts[o as usize]);
-        o += 1;
     }
     m
 }
@@ -87,10 +79,10 @@ fn is_condition(words: &[u32], b: BlockId, local: LocalId) -> bool
     requires b_bound { b.0 < blocks words.now }
     ensures { result ≡ mem local.0 (condition words.now b.0) }
 {
-    let Tested::Local(v) = condition(words, b) else {
-        return false;
-    };
-    local.0 == v.0
+    match condition(words, b) {
+        Tested::Local(v) => local == v,
+        _ => false,
+    }
 }
 
 // The use as a block's condition.
@@ -101,7 +93,7 @@ fn put_condition_use(words: &[u32], b: BlockId, local: LocalId, n: usize, out: &
     ensures { Puts n (condition_uses words.now local.0 b.0) out.old out.new result }
 {
     if is_condition(words, b, local) {
-        return put_triple(out, n, b.0, 1, 0);
+        return put_triple(out, n, b.0, UseKind::Condition as u32, 0);
     }
     n
 }
@@ -115,13 +107,9 @@ fn put_output_uses(words: &[u32], b: BlockId, local: LocalId, n: usize, out: &mu
 {
     let run = outputs(words, b);
     let mut m = n;
-    let mut k: u32 = 0;
-    while (k as usize) < run.len() {
-        let v = run[k as usize];
-        let place = k;
-        k += 1;
-        if v == local.0 {
-            m = put_triple(out, m, b.0, 2, place);
+    for (k, v) in run.iter().enumerate() {
+        if *v == local.0 {
+            m = put_triple(out, m, b.0, UseKind::Output as u32, k as u32);
         }
     }
     m
@@ -158,12 +146,9 @@ pub fn put_uses(
     requires counts_len { (length counts.now ≡ 1024) × (3 + length (uses_of words.now counts.now local.0) < 2 ^ 59) }
     ensures { Puts 0 (uses_of words.now counts.now local.0) out.old out.new result }
 {
-    let order = rpo(visit);
     let mut m: usize = 0;
-    let mut i: usize = 0;
-    while i < order.len() {
-        m = put_block_uses(words, counts, BlockId(order[i]), local, m, out);
-        i += 1;
+    for b in rpo(visit) {
+        m = put_block_uses(words, counts, BlockId(*b), local, m, out);
     }
     m
 }

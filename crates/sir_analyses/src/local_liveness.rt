@@ -28,6 +28,7 @@ pub fn compute_liveness_at_block_entry(live: &[u64], b: BlockId) -> DenseIndexSe
 }
 
 // Takes the inputs of b out of a set: the positions of those that it had stand at the front of `moved`.
+// How many they are is returned, since the array is fixed and lent, as there is no heap.
 fn take_block_inputs(words: &[u32], b: BlockId, set: &mut [u64], moved: &mut [u32]) -> usize
     requires well_formed { WellFormed words.now }
     requires b_bound { (b.0 < blocks words.now) × (length set.old ≡ 8) × (length moved.old ≡ 512) }
@@ -35,13 +36,11 @@ fn take_block_inputs(words: &[u32], b: BlockId, set: &mut [u64], moved: &mut [u3
 {
     let inputs = block_inputs(words, b);
     let mut n: usize = 0;
-    let mut i: usize = 0;
-    while i < inputs.len() {
-        if row_remove(set, 0, inputs[i]) {
+    for (i, v) in inputs.iter().enumerate() {
+        if row_remove(set, 0, *v) {
             moved[n] = i as u32;
             n += 1;
         }
-        i += 1;
     }
     n
 }
@@ -56,13 +55,8 @@ fn send_moved(words: &[u32], p: BlockId, moved: &[u32], exits: &mut [u64]) -> bo
     let outputs = block_outputs(words, p);
     let row = p.0 as usize;
     let mut grew = false;
-    let mut k: usize = 0;
-    while k < moved.len() {
-        let at = moved[k] as usize;
-        if row_add(exits, row, outputs[at]) {
-            grew = true;
-        }
-        k += 1;
+    for at in moved {
+        grew |= row_add(exits, row, outputs[*at as usize]);
     }
     grew
 }
@@ -75,10 +69,7 @@ fn send_to(words: &[u32], p: BlockId, set: &[u64], moved: &[u32], exits: &mut [u
     ensures { Sends (blocks words.now) exits.old (λ q i. eqb q p.0 && arrives words.now set.now moved.now p.0 i) exits.new result }
 {
     let passed = row_union_with(exits, p.0 as usize, set);
-    if send_moved(words, p, moved, exits) {
-        return true;
-    }
-    passed
+    passed | send_moved(words, p, moved, exits)
 }
 
 // Sends to each of some blocks. Whether an exit grew.
@@ -90,12 +81,8 @@ fn send_all(words: &[u32], ids: &[u32], set: &[u64], moved: &[u32], exits: &mut 
     ensures { Sends (blocks words.now) exits.old (λ q i. mem q ids.now && arrives words.now set.now moved.now q i) exits.new result }
 {
     let mut grew = false;
-    let mut k: usize = 0;
-    while k < ids.len() {
-        if send_to(words, BlockId(ids[k]), set, moved, exits) {
-            grew = true;
-        }
-        k += 1;
+    for p in ids {
+        grew |= send_to(words, BlockId(*p), set, moved, exits);
     }
     grew
 }
@@ -166,12 +153,8 @@ fn pass_back(
 {
     let order = rpo(visit);
     let mut grew = false;
-    let mut k = order.len();
-    while 0 < k {
-        k -= 1;
-        if propagate_liveness_to_predecessors(words, BlockId(order[k]), preds, live, sent) {
-            grew = true;
-        }
+    for k in (0..order.len()).rev() {
+        grew |= propagate_liveness_to_predecessors(words, BlockId(order[k]), preds, live, sent);
     }
     grew
 }

@@ -26,11 +26,8 @@ fn add_operations(words: &[u32], b: BlockId, visited: &mut [u64])
     ensures { Adds visited.old (λ r i. mem (512 * r + i) (ops words.now b.0)) visited.new }
 {
     let span = operations(words, b);
-    let end = span.end;
-    let mut o = span.start;
-    while o < end {
+    for o in span.start..span.end {
         row_add(visited, (o / 512) as usize, o % 512);
-        o += 1;
     }
 }
 
@@ -40,11 +37,8 @@ fn visited_ops(words: &[u32], visit: &[u32], visited: &mut [u64])
     requires visited_value { visited.old ≡ replicate 16 0 }
     ensures { (length visited.new ≡ 16) × ((o : ℕ) → o < 1024 → contains visited.new o ≡ is_visited_op words.now o) }
 {
-    let order = rpo(visit);
-    let mut i: usize = 0;
-    while i < order.len() {
-        add_operations(words, BlockId(order[i]), visited);
-        i += 1;
+    for b in rpo(visit) {
+        add_operations(words, BlockId(*b), visited);
     }
 }
 
@@ -59,10 +53,8 @@ fn link_operation(words: &[u32], o: OpIdx, links: &mut [u64])
     }
     let inputs = op_inputs(words, o);
     let outputs = op_outputs(words, o);
-    let mut k: usize = 0;
-    while k < inputs.len() {
-        add_run(links, inputs[k] as usize, outputs);
-        k += 1;
+    for v in inputs {
+        add_run(links, *v as usize, outputs);
     }
 }
 
@@ -74,12 +66,10 @@ fn add_escaping(words: &[u32], o: OpIdx, causes: &mut [u64])
 {
     let code = op_word(words, o, 0);
     let inputs = op_inputs(words, o);
-    let mut k: usize = 0;
-    while k < inputs.len() {
+    for (k, v) in inputs.iter().enumerate() {
         if operation_causes_ptr_escape(code, k) {
-            row_add(causes, ESCAPING, inputs[k]);
+            row_add(causes, ESCAPING, *v);
         }
-        k += 1;
     }
 }
 
@@ -92,13 +82,11 @@ fn link_operations(words: &[u32], visited: &[u64], links: &mut [u64], causes: &m
     ensures adds_2 { Adds causes.old (λ r v. any (λ o. is_visited_op words.now o && (eqb r 0 && escapes_by words.now o v)) (upto (operations words.now))) causes.new }
 {
     let count = operation_count(words);
-    let mut o: u32 = 0;
-    while o < count {
+    for o in 0..count {
         if row_contains(visited, (o / 512) as usize, o % 512) {
             link_operation(words, OpIdx(o), links);
             add_escaping(words, OpIdx(o), causes);
         }
-        o += 1;
     }
 }
 
@@ -110,10 +98,8 @@ fn link_edge(words: &[u32], b: BlockId, s: BlockId, links: &mut [u64])
 {
     let given = outputs(words, b);
     let taken = inputs(words, s);
-    let mut k: usize = 0;
-    while k < given.len() {
-        row_add(links, given[k] as usize, taken[k]);
-        k += 1;
+    for (k, v) in given.iter().enumerate() {
+        row_add(links, *v as usize, taken[k]);
     }
 }
 
@@ -124,11 +110,9 @@ fn link_edges(words: &[u32], b: BlockId, links: &mut [u64])
     ensures { Adds links.old (λ v u. any (λ s. passes_by words.now b.0 s v u) (successors words.now b.0)) links.new }
 {
     let count = successor_count(words, b);
-    let mut i: usize = 0;
-    while i < count {
+    for i in 0..count {
         let s = successor(words, b, i);
         link_edge(words, b, s, links);
-        i += 1;
     }
 }
 
@@ -139,13 +123,10 @@ fn link_blocks(words: &[u32], visit: &[u32], links: &mut [u64], causes: &mut [u6
     ensures adds { Adds links.old (λ v u. any (λ b. any (λ s. passes_by words.now b s v u) (successors words.now b)) (blocks_rpo words.now)) links.new }
     ensures adds_2 { Adds causes.old (λ r v. any (λ b. eqb r 1 && mem v (returned words.now b)) (blocks_rpo words.now)) causes.new }
 {
-    let order = rpo(visit);
-    let mut i: usize = 0;
-    while i < order.len() {
-        let b = BlockId(order[i]);
+    for id in rpo(visit) {
+        let b = BlockId(*id);
         link_edges(words, b, links);
         add_run(causes, RETURNED, returned_outputs(words, b));
-        i += 1;
     }
 }
 

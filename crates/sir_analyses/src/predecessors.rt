@@ -21,11 +21,8 @@ fn put_edges(words: &[u32], p: BlockId, b: BlockId, n: usize, out: &mut [u8]) ->
 {
     let count = successor_count(words, p);
     let mut m = n;
-    let mut i: usize = 0;
-    while i < count {
-        let s = successor(words, p, i);
-        i += 1;
-        if s.0 == b.0 {
+    for i in 0..count {
+        if successor(words, p, i) == b {
             m = put_word(out, m, p.0);
         }
     }
@@ -39,12 +36,9 @@ pub fn put_predecessors(words: &[u32], visit: &[u32], b: BlockId, out: &mut [u8]
 {
     let count = block_count(words);
     let mut m: usize = 0;
-    let mut p: u32 = 0;
-    while p < count {
-        let id = p;
-        p += 1;
-        if is_visited(visit, BlockId(id)) {
-            m = put_edges(words, BlockId(id), b, m, out);
+    for p in 0..count {
+        if is_visited(visit, BlockId(p)) {
+            m = put_edges(words, BlockId(p), b, m, out);
         }
     }
     m

@@ -1,12 +1,12 @@
 // The order of functions and blocks, as `ReversePostOrder` of the source fills it, over arrays of fixed length.
-ghost use Rattle.std.specs.Prelude.{◌≡◌, ◌++◌, ◌∷◌, [], ℕ, ◌+◌, ◌<◌, ◌≤◌, length, get_or, take, replicate};
-ghost use Rattle.plank_core.specs.Lists.{one_if};
+ghost use Rattle.std.specs.Prelude.{◌≡◌, ◌++◌, ◌∷◌, [], ℕ, ◌+◌, ◌<◌, ◌≤◌, length, get_or, take, replicate, reverse, List};
+ghost use Rattle.plank_core.specs.Lists.{bind, one_if};
 ghost use Rattle.plank_core.specs.inner.DenseIndexSet.{contains};
-ghost use Rattle.sir_data.specs.Records.{functions, blocks, operations, optional, callees};
+ghost use Rattle.sir_data.specs.Records.{functions, blocks, operations, callees};
 ghost use Rattle.sir_data.specs.inner.WellFormed.{WellFormed};
 ghost use Rattle.sir_analyses.specs.Order.{visit_function, visit_block};
 ghost use Rattle.sir_analyses.specs.inner.Stages.{OrderStage, VisitStage};
-ghost use Rattle.sir_analyses.specs.inner.Visiting.{Held, VisitStep, VisitedAll, blocks_of, blocks_in, entry_of, order_in, Listed};
+ghost use Rattle.sir_analyses.specs.inner.Visiting.{called, Held, VisitStep, VisitedAll, blocks_of, blocks_in, entry_of, order_in, function_of, Listed, EachListed};
 
 use crate::stages::{RPO, VISIT, VISITED};
 use plank_core::index::{BlockId, FunctionId, OpIdx};
@@ -16,20 +16,26 @@ use sir_data::records::{
     successor_count,
 };
 
-// One more than the function that an operation calls, 0 where it calls none.
-fn callee_plus_one(words: &[u32], o: OpIdx) -> u32
+// The rows of a table of what was seen.
+const SEEN_FUNCTIONS: usize = 0;
+
+const SEEN_BLOCKS: usize = 1;
+
+// The function that an operation calls, if it calls one.
+fn callee(words: &[u32], o: OpIdx) -> Option<FunctionId>
     requires well_formed { WellFormed words.now }
     requires o_bound { o.0 < operations words.now }
-    ensures { optional result ≡ callees words.now o.0 }
+    ensures { called result ≡ callees words.now o.0 }
 {
     if sir_data::codes::is_call(op_word(words, o, 0)) {
-        op_word(words, o, 5) + 1
+        Some(FunctionId(op_word(words, o, 5)))
     } else {
-        0
+        None
     }
 }
 
-// Writes a key after the first n.
+// Writes a key after the first n. A key is a number and the count goes along, since the array is fixed and lent, as there is no heap: f
+// for a function, 256 * (f + 1) + b for block b on behalf of f.
 fn push(postorder: &mut [u32], n: usize, key: u32) -> usize
     requires { n < length postorder.old }
     ensures { (result ≡ n + 1) × (take result postorder.new ≡ take n postorder.old ++ (key ∷ [])) }
@@ -52,7 +58,7 @@ pub fn visit_function(
     requires held { Held words.now seen.old postorder.old n }
     ensures { VisitStep words.now (visit_function (functions words.now + blocks words.now) words.now f.0) seen.old postorder.old n seen.new postorder.new result }
 {
-    if !row_add(seen, 0, f.0) {
+    if !row_add(seen, SEEN_FUNCTIONS, f.0) {
         return n;
     }
     let m = visit_block(words, f, entry_block(words, f), seen, postorder, n);
@@ -75,25 +81,19 @@ pub fn visit_block(
     requires held { Held words.now seen.old postorder.old n }
     ensures { VisitStep words.now (visit_block (functions words.now + blocks words.now) words.now f.0 b.0) seen.old postorder.old n seen.new postorder.new result }
 {
-    if !row_add(seen, 1, b.0) {
+    if !row_add(seen, SEEN_BLOCKS, b.0) {
         return n;
     }
     let span = block_operations(words, b);
-    let last = span.end;
     let mut m = n;
-    let mut o = span.start;
-    'calls: while o < last {
-        let c = callee_plus_one(words, OpIdx(o));
-        if c != 0 {
-            m = visit_function(words, FunctionId(c - 1), seen, postorder, m);
+    'calls: for o in span.start..span.end {
+        if let Some(g) = callee(words, OpIdx(o)) {
+            m = visit_function(words, g, seen, postorder, m);
         }
-        o += 1;
     }
     let count = successor_count(words, b);
-    let mut i: usize = 0;
-    'successors: while i < count {
+    'successors: for i in 0..count {
         m = visit_block(words, f, successor(words, b, i), seen, postorder, m);
-        i += 1;
     }
     push(postorder, m, 256 * (f.0 + 1) + b.0)
 }
@@ -118,13 +118,30 @@ fn function_blocks(postorder: &[u32], f: FunctionId, out: &mut [u32], at: usize)
     ensures { Listed (blocks_of f.0 postorder.now) at out.old out.new result }
 {
     let mut m = at;
-    let mut i = postorder.len();
-    while 0 < i {
-        i -= 1;
+    for i in (0..postorder.len()).rev() {
         let key = postorder[i];
         if key / 256 == f.0 + 1 {
             out[m] = key % 256;
             m += 1;
+        }
+    }
+    m
+}
+
+// What `put` writes of each function, last finished first.
+fn each_function<F: Fn(&mut [u32], FunctionId, usize) -> usize>(
+    postorder: &[u32],
+    out: &mut [u32],
+    put: F,
+) -> usize
+    requires { (g : ℕ → List ℕ) × EachListed (F.pre put) (F.post put) g (length out.old) × (length (bind (reverse postorder.now) (function_of g)) ≤ length out.old) }
+    ensures { (g : ℕ → List ℕ) → EachListed (F.pre put) (F.post put) g (length out.old) → length (bind (reverse postorder.now) (function_of g)) ≤ length out.old → Listed (bind (reverse postorder.now) (function_of g)) 0 out.old out.new result }
+{
+    let mut m: usize = 0;
+    for i in (0..postorder.len()).rev() {
+        let key = postorder[i];
+        if key < 256 {
+            m = put(out, FunctionId(key), m);
         }
     }
     m
@@ -135,16 +152,11 @@ pub fn blocks_rpo(postorder: &[u32], out: &mut [u32]) -> usize
     requires { length (blocks_in postorder.now) ≤ length out.old }
     ensures { Listed (blocks_in postorder.now) 0 out.old out.new result }
 {
-    let mut m: usize = 0;
-    let mut i = postorder.len();
-    while 0 < i {
-        i -= 1;
-        let key = postorder[i];
-        if key < 256 {
-            m = function_blocks(postorder, FunctionId(key), out, m);
-        }
-    }
-    m
+    each_function(
+        postorder,
+        out,
+        |to, f, at| function_blocks(postorder, f, to, at),
+    )
 }
 
 // A function's id, its block count and its blocks, after the first `at` of `out`.
@@ -163,16 +175,11 @@ pub fn order_words(postorder: &[u32], out: &mut [u32]) -> usize
     requires { (length (order_in postorder.now) ≤ length out.old) × (length out.old < 65536) }
     ensures { Listed (order_in postorder.now) 0 out.old out.new result }
 {
-    let mut m: usize = 0;
-    let mut i = postorder.len();
-    while 0 < i {
-        i -= 1;
-        let key = postorder[i];
-        if key < 256 {
-            m = function_entry(postorder, FunctionId(key), out, m);
-        }
-    }
-    m
+    each_function(
+        postorder,
+        out,
+        |to, f, at| function_entry(postorder, f, to, at),
+    )
 }
 
 // For each block whether it was seen, to an array that is empty at first.
@@ -182,12 +189,10 @@ fn flag_visited(words: &[u32], seen: &[u64], flags: &mut [u32])
     ensures { (length flags.new ≡ 256) × ((b : ℕ) → b < blocks words.now → get_or flags.new b 0 ≡ one_if (contains seen.now (512 + b))) }
 {
     let count = block_count(words);
-    let mut b: u32 = 0;
-    while b < count {
-        if row_contains(seen, 1, b) {
+    for b in 0..count {
+        if row_contains(seen, SEEN_BLOCKS, b) {
             flags[b as usize] = 1;
         }
-        b += 1;
     }
 }
 

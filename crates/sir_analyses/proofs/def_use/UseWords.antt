@@ -9,6 +9,8 @@ use lib.ListN.{length, get_or, drop, length-append, drop_of_length-le}
 use lib.Seq.{drop-cons}
 use lib.Dec.{eqb}
 use borrow.Author.Tests.{eq-eqb, ne_eqb, eqb-true, eqb-false}
+use Rattle.std.specs.List.{count_by}
+use Rattle.std.proofs.lemmas.List.Sums.{sum_by-cons}
 use Rattle.plank_core.specs.Lists.{range, upto, bind, mem}
 use Rattle.plank_core.specs.laws.Lists.{none}
 use Rattle.plank_core.specs.laws.Loops.{range_next, range_none, range_all, length_count, length_map_count, bind_append, bind_same, bind_bind}
@@ -24,6 +26,14 @@ use Rattle.sir_analyses.specs.inner.Uses.{InputCounts, repeated_uses, operation_
 use Rattle.sir_analyses.proofs.Accepted.{ops_few}
 
 -- ---- the places of a local in a list
+
+pub places_counted : (v : ℕ) (xs : List ℕ) (k : ℕ) → count_by (λ x. eqb x v) xs ≡ length (positions v xs k)
+places_counted v [] k = refl
+places_counted v (x ∷ xs) k = sum_by-cons (λ y. cond (eqb y v) 1 0) x xs ∙ go (eqb x v) (places_counted v xs (suc k))
+  where
+    go : (t : Bool) → count_by (λ y. eqb y v) xs ≡ length (positions v xs (suc k)) → cond t 1 0 + count_by (λ y. eqb y v) xs ≡ length (cond t (k ∷ positions v xs (suc k)) (positions v xs (suc k)))
+    go true h = omega (arith, h)
+    go false h = omega (arith, h)
 
 module _ (v : ℕ) (xs : List ℕ) (i : ℕ) where
   module _ (h : i < length xs) where

@@ -1,7 +1,7 @@
 -- Laws of tables that grow: whether a step, or several one after the other, add a member.
 use mathlib.Core.Path.{◌≡◌, refl, sym, ap, ap₂, ◌∙◌}
 use mathlib.Core.Logic.{⊎_elim}
-use mathlib.Core.Bool.{Bool, true, false, not, ◌&&◌, ◌||◌, or-false, and-not_self}
+use mathlib.Core.Bool.{Bool, true, false, not, ◌&&◌, ◌||◌, and-not_self}
 use mathlib.Core.List.{List}
 use Prim.Native.Nat.{ℕ, ◌+◌, ◌*◌, ◌/◌, ◌%◌, ◌≤◌, ◌<◌}
 use native.Mathlib.Omega.{arith}
@@ -160,10 +160,3 @@ module _ {n : ℕ} {t : List ℕ} {p : ℕ → ℕ → Bool} {t' : List ℕ} {to
 
 pub sends_none : (n : ℕ) (t : List ℕ) {p : ℕ → ℕ → Bool} → ((r i : ℕ) → i < 512 → p r i ≡ false) → Sends n t p t false
 sends_none n t e = record { adds = adds_none e; tells = sym (same_grew n t t (λ k l. refl)) }
-
--- a loop's flag: set where the step grew, else as it was
-pub told_set : (told : Bool) {later now : Bool} → later ≡ true → now ≡ true → now ≡ (told || later)
-told_set told l e = e ∙ sym (or_true_right told _ l)
-
-pub told_kept : (told : Bool) {later now : Bool} → later ≡ false → now ≡ told → now ≡ (told || later)
-told_kept told l e = e ∙ sym (ap (λ (x : Bool). told || x) l ∙ or-false told)

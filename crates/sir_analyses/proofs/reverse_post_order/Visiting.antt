@@ -16,8 +16,7 @@ use Rattle.plank_core.specs.laws.Lists.{get_or_mem}
 use Rattle.plank_core.specs.laws.Loops.{range_next, range_none, bind_snoc}
 use Rattle.plank_core.specs.inner.DenseIndexSet.{contains, added}
 use Rattle.plank_core.specs.laws.DenseIndexSet.{contains_added, contains_cleared, length_added}
-use Rattle.sir_data.specs.Records.{functions, blocks, operations, optional, init_function, main_plus_one, entry_block, ops, successors, code, extra, callees}
-use Rattle.sir_data.specs.Codes.{is_call}
+use Rattle.sir_data.specs.Records.{functions, blocks, operations, optional, init_function, main_plus_one, entry_block, ops, successors, callees}
 use Rattle.sir_data.specs.inner.WellFormed.{WellFormed}
 use Rattle.sir_analyses.specs.Order.{Visit, start, see_function, see_block, finish_function, finish_block, visit_function, visit_block}
 use Rattle.sir_analyses.specs.inner.Visiting.{block_key, keyed_block, keyed_function, Shows, unseen, Held, VisitStep, VisitedAll}
@@ -262,21 +261,15 @@ module _ (w : List ℕ) (o last : ℕ) where
   pub calls_end : last ≤ o → bind (range o last) (callees w) ≡ []
   calls_end h = rw (range_none o last h)
 
-  module _ (c : ℕ) (less : o < last) (e : optional c ≡ callees w o) where
-    pub calls_skip : c ≡ 0 → bind (range o last) (callees w) ≡ bind (range (o + 1) last) (callees w)
-    calls_skip z = ap (λ l. bind l (callees w)) (range_next o last less) ∙ ap (λ l. l ++ bind (range (o + 1) last) (callees w)) (sym e ∙ ap optional z)
+  module _ (less : o < last) where
+    pub calls_skip : [] ≡ callees w o → bind (range o last) (callees w) ≡ bind (range (o + 1) last) (callees w)
+    calls_skip e = ap (λ l. bind l (callees w)) (range_next o last less) ∙ ap (λ l. l ++ bind (range (o + 1) last) (callees w)) (sym e)
 
-    pub calls_call : (c ≡ 0 → ⊥) → bind (range o last) (callees w) ≡ (c - 1) ∷ bind (range (o + 1) last) (callees w)
-    calls_call z = ap (λ l. bind l (callees w)) (range_next o last less) ∙ ap (λ l. l ++ bind (range (o + 1) last) (callees w)) (sym e ∙ one_of c z)
+    pub calls_call : (g : ℕ) → g ∷ [] ≡ callees w o → bind (range o last) (callees w) ≡ g ∷ bind (range (o + 1) last) (callees w)
+    calls_call g e = ap (λ l. bind l (callees w)) (range_next o last less) ∙ ap (λ l. l ++ bind (range (o + 1) last) (callees w)) (sym e)
 
-pub call_below : {w : List ℕ} → WellFormed w → (o : ℕ) → o < operations w → is_call (code w o) ≡ true → extra w o 0 < functions w
-call_below {w} ok o l t = ok.in_range.callee o (extra w o 0) l (rw t (Memᴰ.head refl))
-
-pub callee_below : {w : List ℕ} → WellFormed w → (o c : ℕ) → o < operations w → optional c ≡ callees w o → (c ≡ 0 → ⊥) → c - 1 < functions w
-callee_below {w} ok o zero l e z = absurd (z refl)
-callee_below {w} ok o (suc c) l e z =
-    let h : c < functions w = ok.in_range.callee o c l (rw (← e) (Memᴰ.head refl)) in
-    omega arith
+pub callee_below : {w : List ℕ} → WellFormed w → (o g : ℕ) → o < operations w → g ∷ [] ≡ callees w o → g < functions w
+callee_below {w} ok o g l e = ok.in_range.callee o g l (rw (← e) (Memᴰ.head refl))
 
 pub successor_next : (w : List ℕ) (b i : ℕ) → i < length (successors w b) → drop i (successors w b) ≡ get_or (successors w b) i 0 ∷ drop (i + 1) (successors w b)
 successor_next w b i h = drop-cons (successors w b) i 0 h ∙ ap (λ k. get_or (successors w b) i 0 ∷ drop k (successors w b)) (sym (add-one i))

@@ -2,10 +2,18 @@
 -- `seen` is a table of two sets, the functions seen and the blocks seen. `postorder` has what is finished, in that order: f for a
 -- function, 256 * (f + 1) + b for block b on behalf of function f.
 use Rattle.std.specs.Prelude.{◌≡◌, Bool, not, cond, List, [], ◌∷◌, ◌++◌, reverse, ℕ, zero, suc, ◌+◌, ◌-◌, ◌*◌, ◌/◌, ◌%◌, ◌≤◌, ◌<◌, length, take, eqb, leb, ltb}
+use Rattle.std.specs.Prelude.{Option, Some, None}
+use Rattle.std.specs.Borrow.{MutBor}
+use Rattle.plank_core.specs.declared.index.FunctionId.{FunctionId}
 use Rattle.plank_core.specs.Lists.{bind, mem, one_if}
 use Rattle.plank_core.specs.inner.DenseIndexSet.{contains}
 use Rattle.sir_data.specs.Records.{functions, blocks}
 use Rattle.sir_analyses.specs.Order.{Visit, visited}
+
+-- the function that an operation calls, if it calls one, as a list
+abbrev pub called : Option FunctionId → List ℕ
+called None = []
+called (Some f) = f.0 ∷ []
 
 -- the key of block b, finished on behalf of function f
 abbrev pub block_key : ℕ → ℕ → ℕ
@@ -84,3 +92,8 @@ pub record Listed (xs : List ℕ) (at : ℕ) (old new : List ℕ) (r : ℕ) : Ty
   pub next : r ≡ at + length xs
   pub list : take r new ≡ take at old ++ xs
   pub long : length new ≡ length old
+
+-- in an array of that length, where there is room, calls may be made that write the list that g gives of a function
+pub record EachListed (pre : MutBor (List ℕ) → FunctionId → ℕ → Type 0) (post : MutBor (List ℕ) → FunctionId → ℕ → ℕ → MutBor (List ℕ) → Type 0) (g : ℕ → List ℕ) (long : ℕ) : Type 0 where
+  pub may : (to : MutBor (List ℕ)) (f : FunctionId) (at : ℕ) → f.0 < 256 → length to.now ≡ long → at + length (g f.0) ≤ long → pre to f at
+  pub writes : (to : MutBor (List ℕ)) (f : FunctionId) (at r : ℕ) (to' : MutBor (List ℕ)) → f.0 < 256 → length to.now ≡ long → at + length (g f.0) ≤ long → post to f at r to' → Listed (g f.0) at to.now to'.now r

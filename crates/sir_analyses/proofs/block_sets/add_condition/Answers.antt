@@ -2,14 +2,10 @@
 use mathlib.Core.Path.{◌≡◌, sym}
 use mathlib.Core.List.{[], ◌∷◌}
 use Rattle.sir_data.specs.Records.{condition}
-use Rattle.sir_analyses.proofs.Tables.{adds_single, adds_nothing}
+use Rattle.sir_analyses.proofs.Tables.{adds_single}
 use Rattle.sir_analyses.proofs.block_sets.BlockSets.{tested_small}
 use native.Mathlib.Omega.{arith}
 use Rattle.sir_analyses.proofs.block_sets.add_condition.Goals as goal
-
-pub returns-in_default : goal.returns-in_default
-returns-in_default c = let a = c.args in
-    adds_nothing a.uses.now a.b.0 (condition a.words.now a.b.0) (sym c.in_default.ensures)
 
 pub row_add-requires : goal.row_add-requires
 row_add-requires c =
@@ -17,8 +13,8 @@ row_add-requires c =
     let e : condition c.args.words.now c.args.b.0 ≡ v ∷ [] = sym c.in-Local.ensures in
     (omega (arith, c.requires.well_formed.sized.blocks_most), tested_small c.requires.well_formed c.args.b.0 v c.requires.b_bound.0 e)
 
-pub returns : goal.returns
-returns c =
+pub returns-in-Local : goal.returns-in-Local
+returns-in-Local c =
     let v = c.in-Local.v.0 in
     let e : condition c.args.words.now c.args.b.0 ≡ v ∷ [] = sym c.in-Local.ensures in
     rw c.row_add.ensures.1 (adds_single c.args.uses.now c.args.b.0 v (condition c.args.words.now c.args.b.0) e (tested_small c.requires.well_formed c.args.b.0 v c.requires.b_bound.0 e))

@@ -1,22 +1,15 @@
 -- `add_to_successors` meets its contract. The invariant: p stands in the rows of its first i successors.
-use mathlib.Core.Bool.{◌&&◌, and_comm, and-false}
+use mathlib.Core.Bool.{◌&&◌, and_comm}
 use Prim.Native.Nat.{◌≤◌, ◌<◌}
 use lib.ListN.{length, get_or}
 use lib.Dec.{eqb}
 use Rattle.plank_core.specs.laws.Lists.{get_or_mem}
 use Rattle.sir_data.specs.Records.{successors}
 use Rattle.sir_analyses.specs.inner.Tables.{Adds}
-use Rattle.sir_analyses.proofs.Tables.{adds_as, adds_then, adds_none, adds_one}
+use Rattle.sir_analyses.proofs.Tables.{adds_as, adds_then, adds_one}
 use Rattle.plank_core.specs.laws.Prefixes.{and_next, and_all}
 use native.Mathlib.Omega.{arith}
 use Rattle.sir_analyses.proofs.block_sets.add_to_successors.Goals as goal
-
-pub loop-i-init : goal.loop-i-init
-loop-i-init c = (omega arith, adds_none (λ r i h. and-false (eqb i c.args.p.0)))
-
-pub successor-s-requires : goal.successor-s-requires
-successor-s-requires c =
-    record { sized = c.requires.well_formed.sized; in_range = c.requires.well_formed.in_range; b_bound = c.requires.p_bound.0; i_in_bounds = omega (arith, c.successor_count-count.ensures) }
 
 pub row_add-requires : goal.row_add-requires
 row_add-requires c =
@@ -37,9 +30,6 @@ loop-i-preserved c =
     rw (c.row_add.ensures.1, c.successor-s.ensures)
     (adds_as (λ b n h. and_comm (eqb b (get_or (successors w p) l.i 0)) (eqb n p)) (adds_one l.preds (get_or (successors w p) l.i 0) p (omega (arith, c.requires.well_formed.sized.blocks_most)))) in
     (omega arith, adds_as (λ b n h. and_next (eqb n p) (successors w p) l.i i b) (adds_then l.invariant.1 a))
-
-pub shape_of-preds : goal.shape_of-preds
-shape_of-preds c = c.loop-i.invariant.1.long
 
 pub returns : goal.returns
 returns c =

@@ -1,6 +1,6 @@
 -- `block_sets` meets its contract. The invariant: the rows of the first b blocks are filled, and the two sets are those of the range
 -- `kept`.
-use mathlib.Core.Path.{refl, sym, ◌∙◌}
+use mathlib.Core.Path.{refl}
 use Prim.Native.Nat.{◌<◌}
 use Rattle.sir_data.specs.Records.{blocks}
 use Rattle.sir_analyses.specs.Liveness.{has, use_set}
@@ -14,16 +14,10 @@ use Rattle.sir_analyses.proofs.block_sets.block_sets.Goals as goal
 pub loop-b-init : goal.loop-b-init
 loop-b-init c = (omega arith, blocks_none c.args.words.now c.args.live.now c.requires.operand_rows.1, range_sets_start refl refl)
 
-pub slice_bounds-update_range_sets-end : goal.slice_bounds-update_range_sets-end
-slice_bounds-update_range_sets-end c = omega (arith, c.loop-b.invariant.2.long)
-
 pub update_range_sets-kept-requires : goal.update_range_sets-kept-requires
 update_range_sets-kept-requires c =
     let p = c.requires in
     record { well_formed = p.well_formed; live_len = (c.loop-b.invariant.1.long, blocks_operands c.loop-b.invariant.1 p.operand_rows.1.long p.operand_rows.0); b_bound = omega (arith, c.block_count-count.ensures); range_sets = c.loop-b.invariant.2 }
-
-pub slice_bounds-block_rows-end : goal.slice_bounds-block_rows-end
-slice_bounds-block_rows-end c = omega (arith, c.update_range_sets-kept.ensures.range_sets_2.long)
 
 pub block_rows-requires : goal.block_rows-requires
 block_rows-requires c =
@@ -37,10 +31,6 @@ pub loop-b-preserved : goal.loop-b-preserved
 loop-b-preserved c =
     let t = c.update_range_sets-kept.ensures in
     (omega arith, blocks_more c.loop-b.invariant.1 c.block_rows.ensures, rw t.end_value t.range_sets_2)
-
-pub shape_of-live : goal.shape_of-live
-shape_of-live c =
-    c.loop-b.invariant.1.long ∙ sym c.requires.operand_rows.1.long
 
 pub returns : goal.returns
 returns c =

@@ -1,6 +1,6 @@
 -- `end_sets` meets its contract. The invariant: the rows of the first b blocks are filled.
 use mathlib.Core.Path.{◌≡◌}
-use Prim.Native.Nat.{◌-◌, ◌≤◌}
+use Prim.Native.Nat.{◌≤◌}
 use lib.ListN.{length}
 use Rattle.plank_core.specs.Lists.{mem}
 use Rattle.sir_analyses.specs.Liveness.{end_reads}
@@ -9,6 +9,3 @@ use Rattle.sir_analyses.proofs.block_sets.end_sets.Given as goal
 
 abbrev pub invariant-loop-b : goal.invariant-loop-b
 invariant-loop-b l = (l.b ≤ l.count) × (length l.ends ≡ 2048) × Filled l.ends 256 l.b (λ r v. mem v (end_reads l.words r))
-
-abbrev pub decreases-loop-b : goal.decreases-loop-b
-decreases-loop-b l = l.count - l.b

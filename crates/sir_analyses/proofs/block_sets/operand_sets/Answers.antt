@@ -1,7 +1,5 @@
 -- `operand_sets` meets its contract. The invariant: the rows of the first o operations are filled.
-use mathlib.Core.Path.{sym, ◌∙◌}
 use native.Mathlib.Numerals.{add-one}
-use Rattle.sir_analyses.proofs.Tables.{cleared_long}
 use Rattle.sir_analyses.proofs.local_liveness.LivenessTables.{operands_none, operands_more, operands_all}
 use native.Mathlib.Omega.{arith}
 use Rattle.sir_analyses.proofs.block_sets.operand_sets.Goals as goal
@@ -10,17 +8,9 @@ pub loop-o-init : goal.loop-o-init
 loop-o-init c =
     (omega arith, operands_none c.args.words.now c.args.live.now c.requires.live_value)
 
-pub operand_rows-requires : goal.operand_rows-requires
-operand_rows-requires c =
-    record { well_formed = c.requires.well_formed; o_bound = (omega (arith, c.operation_count-count.ensures), c.loop-o.invariant.1.long) }
-
 pub loop-o-preserved : goal.loop-o-preserved
 loop-o-preserved c =
     (rw add-one c.loop-o-test.true, operands_more c.loop-o.invariant.1 c.operand_rows.ensures)
-
-pub shape_of-live : goal.shape_of-live
-shape_of-live c =
-    c.loop-o.invariant.1.long ∙ sym (cleared_long c.args.live.now 24576 c.requires.live_value)
 
 pub returns : goal.returns
 returns c =

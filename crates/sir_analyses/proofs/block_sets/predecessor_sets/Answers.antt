@@ -15,22 +15,11 @@ use native.Mathlib.Omega.{arith}
 use Rattle.sir_analyses.proofs.block_sets.predecessor_sets.Goals as goal
 use Rattle.sir_analyses.proofs.block_sets.predecessor_sets.Goals.{else-is_visited, then-is_visited}
 
-pub block_count-count-requires : goal.block_count-count-requires
-block_count-count-requires c = omega (arith, c.requires.visit_stage.well_formed.sized)
-
 pub loop-p-init : goal.loop-p-init
 loop-p-init c =
     let a = c.args in
     let e = c.requires.preds_value in
     (omega arith, cleared_long a.preds.now 2048 e, λ b i l h. cleared_row a.preds.now 2048 b i e ∙ rw (le-ltb i 0 (omega arith)))
-
-pub is_visited-requires : goal.is_visited-requires
-is_visited-requires c =
-    (c.requires.visit_stage.long, omega (arith, c.requires.visit_stage.well_formed.sized.blocks_most, c.block_count-count.ensures))
-
-pub add_to_successors-requires : goal.add_to_successors-requires
-add_to_successors-requires c =
-    record { well_formed = c.requires.visit_stage.well_formed; p_bound = (omega (arith, c.block_count-count.ensures), c.loop-p.invariant.1) }
 
 pub loop-p-preserved : goal.loop-p-preserved
 loop-p-preserved c =
@@ -44,10 +33,6 @@ loop-p-preserved c =
       a.long ∙ l.invariant.1,
       λ b i k n. a.same b i (omega (arith, l.invariant.1)) n ∙ ap (λ (x : Bool). x || (eqb i l.p && (is_visited w l.p && mem b (successors w l.p)))) (l.invariant.2 b i k n) ∙ below_more i l.p (λ q. is_visited w q && mem b (successors w q)),
     )
-
-pub shape_of-preds : goal.shape_of-preds
-shape_of-preds c =
-    omega (arith, cleared_long c.args.preds.now 2048 c.requires.preds_value)
 
 pub returns : goal.returns
 returns c =

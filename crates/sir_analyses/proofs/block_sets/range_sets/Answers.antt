@@ -1,59 +1,31 @@
 -- `range_sets` meets its contract. The invariant: the sets are those of the operations from o on.
-use mathlib.Core.Path.{◌≡◌, ap, ◌∙◌}
+use mathlib.Core.Path.{ap, ◌∙◌}
 use Prim.Native.Nat.{◌-◌, ◌<◌}
 use lib.ListN.{length}
 use Rattle.plank_core.specs.laws.Loops.{range_before, range_none}
 use Rattle.plank_core.specs.laws.DenseIndexSet.{length_row}
-use Rattle.sir_data.specs.Records.{operations, block_word}
+use Rattle.sir_data.specs.Records.{operations}
 use Rattle.sir_analyses.specs.inner.Stages.{reads_in, writes_in}
 use Rattle.sir_analyses.proofs.stages.Parts.{length_part}
 use Rattle.sir_analyses.proofs.block_sets.BlockSets.{range_sets_start, range_sets_more}
 use native.Mathlib.Omega.{arith}
 use Rattle.sir_analyses.proofs.block_sets.range_sets.Goals as goal
 
-pub block_operations-span-requires : goal.block_operations-span-requires
-block_operations-span-requires c =
-    let p = c.requires in record { sized = p.well_formed.sized; b_bound = p.b_bound.0 }
-
 pub loop-o-init : goal.loop-o-init
 loop-o-init c =
     let e = c.block_operations-span.result.end in (
       omega (arith, c.requires.well_formed.in_range.ops_range c.args.b.0 c.requires.b_bound.0, c.block_operations-span.ensures),
       omega arith,
-      range_sets_start (range_none e e (omega arith)) c.clear.ensures,
+      range_sets_start (range_none e e (omega arith)) (rw c.requires.b_bound.1 at (c.fill.ensures.after (λ y p. p))),
     )
-
-pub writes-requires : goal.writes-requires
-writes-requires c =
-    c.requires.live_len.0
-
-pub row_of-requires : goal.row_of-requires
-row_of-requires c =
-    omega (arith, ap length c.writes.ensures ∙ length_part 8192 8192 c.args.live.now (omega (arith, c.requires.live_len.0)), c.requires.well_formed.sized.operations_most, c.requires.well_formed.in_range.ops_range c.args.b.0 c.requires.b_bound.0, c.block_operations-span.ensures, c.loop-o.invariant.0, c.loop-o.invariant.1, c.loop-o-test.true)
 
 pub row_difference_with-requires : goal.row_difference_with-requires
 row_difference_with-requires c =
     (omega (arith, c.loop-o.invariant.2.long), ap length c.row_of.ensures ∙ length_row c.writes.result.now (c.loop-o.o - 1) (omega (arith, ap length c.writes.ensures ∙ length_part 8192 8192 c.args.live.now (omega (arith, c.requires.live_len.0)), c.requires.well_formed.sized.operations_most, c.requires.well_formed.in_range.ops_range c.args.b.0 c.requires.b_bound.0, c.block_operations-span.ensures, c.loop-o.invariant.0, c.loop-o.invariant.1, c.loop-o-test.true)))
 
-pub reads-requires : goal.reads-requires
-reads-requires c =
-    c.requires.live_len.0
-
-pub row_of-requires-in-loop-o : goal.row_of-requires-in-loop-o
-row_of-requires-in-loop-o c =
-    omega (arith, ap length c.reads.ensures ∙ length_part 0 8192 c.args.live.now (omega (arith, c.requires.live_len.0)), c.requires.well_formed.sized.operations_most, c.requires.well_formed.in_range.ops_range c.args.b.0 c.requires.b_bound.0, c.block_operations-span.ensures, c.loop-o.invariant.0, c.loop-o.invariant.1, c.loop-o-test.true)
-
 pub row_union_with-requires : goal.row_union_with-requires
 row_union_with-requires c =
     (omega (arith, c.row_difference_with.auto, c.loop-o.invariant.2.long), ap length c.row_of-in-loop-o.ensures ∙ length_row c.reads.result.now (c.loop-o.o - 1) (omega (arith, ap length c.reads.ensures ∙ length_part 0 8192 c.args.live.now (omega (arith, c.requires.live_len.0)), c.requires.well_formed.sized.operations_most, c.requires.well_formed.in_range.ops_range c.args.b.0 c.requires.b_bound.0, c.block_operations-span.ensures, c.loop-o.invariant.0, c.loop-o.invariant.1, c.loop-o-test.true)))
-
-pub writes-requires-in-loop-o : goal.writes-requires-in-loop-o
-writes-requires-in-loop-o c =
-    c.requires.live_len.0
-
-pub row_of-requires-in-loop-o-2 : goal.row_of-requires-in-loop-o-2
-row_of-requires-in-loop-o-2 c =
-    omega (arith, ap length c.writes-in-loop-o.ensures ∙ length_part 8192 8192 c.args.live.now (omega (arith, c.requires.live_len.0)), c.requires.well_formed.sized.operations_most, c.requires.well_formed.in_range.ops_range c.args.b.0 c.requires.b_bound.0, c.block_operations-span.ensures, c.loop-o.invariant.0, c.loop-o.invariant.1, c.loop-o-test.true)
 
 pub row_union_with-requires-in-loop-o : goal.row_union_with-requires-in-loop-o
 row_union_with-requires-in-loop-o c =
@@ -68,16 +40,3 @@ loop-o-preserved c =
       rw (range_before l.o c.block_operations-span.result.end (omega arith) (omega arith), c.row_union_with-in-loop-o.ensures.1, c.row_of-in-loop-o-2.ensures, c.writes-in-loop-o.ensures, c.row_union_with.ensures.1, c.row_of-in-loop-o.ensures, c.reads.ensures, c.row_difference_with.ensures, c.row_of.ensures, c.writes.ensures)
           (range_sets_more (reads_in c.args.live.now) (writes_in c.args.live.now) (l.o - 1) c.requires.live_len.1 h l.invariant.2),
     )
-
-pub shape_of-sets : goal.shape_of-sets
-shape_of-sets c =
-    omega (arith, c.loop-o.invariant.2.long, c.requires.b_bound)
-
-pub returns : goal.returns
-returns c =
-    let w = c.args.words.now in
-    let b = c.args.b.0 in
-    let l = c.loop-o in
-    let span = c.block_operations-span.ensures in
-    let first : l.o ≡ block_word w b 4 = omega (arith, span) in
-    rw (first, span.1) at l.invariant.2

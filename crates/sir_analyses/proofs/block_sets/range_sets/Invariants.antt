@@ -5,7 +5,4 @@ use Rattle.sir_analyses.specs.inner.Tables.{RangeSets}
 use Rattle.sir_analyses.proofs.block_sets.range_sets.Given as goal
 
 abbrev pub invariant-loop-o : goal.invariant-loop-o
-invariant-loop-o l = (l.first ≤ l.o) × (l.o ≤ l.initial.o) × RangeSets l.words (range l.o l.initial.o) l.sets
-
-abbrev pub decreases-loop-o : goal.decreases-loop-o
-decreases-loop-o l = l.o
+invariant-loop-o l = (l.o-start ≤ l.o) × (l.o ≤ l.initial.o) × RangeSets l.words (range l.o l.initial.o) l.sets

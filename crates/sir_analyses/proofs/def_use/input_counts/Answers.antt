@@ -1,5 +1,5 @@
 -- `input_counts` meets its contract. The invariant: the operations before o are counted.
-use mathlib.Core.Path.{◌≡◌, sym, ap, ◌∙◌}
+use mathlib.Core.Path.{◌≡◌, ap, ◌∙◌}
 use mathlib.Core.List.{List}
 use Prim.Native.Nat.{ℕ, ◌<◌}
 use native.Mathlib.Omega.{arith}
@@ -11,40 +11,11 @@ use Rattle.sir_analyses.specs.Liveness.{positions}
 use Rattle.sir_analyses.proofs.def_use.UseWords.{inputs_most}
 use Rattle.sir_analyses.proofs.def_use.input_counts.Goals as goal
 
-pub loop-o-init : goal.loop-o-init
-loop-o-init c = (omega arith, c.requires.counts_len, λ p h. absurd (omega arith))
-
-pub op_inputs-requires : goal.op_inputs-requires
-op_inputs-requires c =
-    let L = c.loop-o in
-    let h : L.o < operations c.args.words.now = omega (arith, c.operation_count-last.ensures, c.loop-o-test.true) in
-    record { sized = c.requires.well_formed.sized; in_range = c.requires.well_formed.in_range; o_bound = h }
-
 pub count_local-requires : goal.count_local-requires
 count_local-requires c =
     let L = c.loop-o in
     let h : L.o < operations c.args.words.now = omega (arith, c.operation_count-last.ensures, c.loop-o-test.true) in
     omega (arith, ap length c.op_inputs.ensures, inputs_most c.args.words.now c.requires.well_formed L.o h)
-
-pub overflow_cast-counts : goal.overflow_cast-counts
-overflow_cast-counts c =
-    let L = c.loop-o in
-    omega (arith, L.invariant.1)
-
-pub offset_bounds-counts-o : goal.offset_bounds-counts-o
-offset_bounds-counts-o c =
-    let L = c.loop-o in
-    omega (arith, L.invariant.1)
-
-pub bounds-counts-o : goal.bounds-counts-o
-bounds-counts-o c =
-    let L = c.loop-o in
-    omega (arith, L.invariant.1)
-
-pub overflow_add-o : goal.overflow_add-o
-overflow_add-o c =
-    let L = c.loop-o in
-    omega (arith, L.invariant.1)
 
 pub loop-o-preserved : goal.loop-o-preserved
 loop-o-preserved c =
@@ -56,12 +27,3 @@ loop-o-preserved c =
           (λ p q. get_or-set_other L.counts L.o p _ 0 (λ (y : p ≡ L.o). omega arith) ∙ L.invariant.2 p q)
           (get_or-set_same L.counts L.o _ 0 (omega (arith, L.invariant.1)) ∙ e),
     )
-
-pub shape_of-counts : goal.shape_of-counts
-shape_of-counts c =
-    let L = c.loop-o in
-    L.invariant.1 ∙ sym c.requires.counts_len
-
-pub returns : goal.returns
-returns c = let L = c.loop-o in
-    record { wide = L.invariant.1; count_is = λ p q. L.invariant.2 p (omega (arith, c.operation_count-last.ensures, c.loop-o-test.false)) }

@@ -1,12 +1,8 @@
 -- `put_condition_use` meets its contract.
 use mathlib.Core.Path.{sym, ◌∙◌}
 use Rattle.sir_analyses.proofs.answers.Writing.{puts_as, puts_nothing}
-use Rattle.sir_analyses.proofs.def_use.UseWords.{condition_use_lem, no_condition_use}
+use Rattle.sir_analyses.proofs.def_use.UseWords.{no_condition_use}
 use Rattle.sir_analyses.proofs.def_use.put_condition_use.Goals as goal
-
-pub returns-then-is_condition : goal.returns-then-is_condition
-returns-then-is_condition c =
-    puts_as (sym (condition_use_lem c.args.words.now c.args.local.0 c.args.b.0 (sym c.is_condition.ensures ∙ c.if-is_condition.true))) c.put_triple.ensures
 
 pub returns : goal.returns
 returns c =

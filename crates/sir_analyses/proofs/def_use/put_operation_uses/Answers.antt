@@ -4,27 +4,9 @@ use Prim.Native.Nat.{◌+◌, ◌^◌}
 use native.Mathlib.Omega.{arith}
 use lib.ListN.{length, get_or}
 use Rattle.sir_analyses.specs.inner.Uses.{repeated_uses}
-use Rattle.sir_analyses.proofs.answers.Writing.{putting_none, putting_as, putting_count, putting_more, putting_all, puts_as}
+use Rattle.sir_analyses.proofs.answers.Writing.{putting_as, putting_count, putting_more, putting_all, puts_as}
 use Rattle.sir_analyses.proofs.def_use.UseWords.{operations_left, operation_next, operation_end, repeated_uses_length, span_is}
 use Rattle.sir_analyses.proofs.def_use.put_operation_uses.Goals as goal
-
-pub loop-o-init : goal.loop-o-init
-loop-o-init c = putting_none
-
-pub overflow_cast-o : goal.overflow_cast-o
-overflow_cast-o c =
-    let r = c.requires.well_formed.in_range.ops_range c.args.b.0 c.requires.b_bound.0 in
-    omega (arith, c.requires.b_bound.1)
-
-pub offset_bounds-counts-o : goal.offset_bounds-counts-o
-offset_bounds-counts-o c =
-    let r = c.requires.well_formed.in_range.ops_range c.args.b.0 c.requires.b_bound.0 in
-    omega (arith, c.requires.b_bound.1)
-
-pub bounds-counts-o : goal.bounds-counts-o
-bounds-counts-o c =
-    let r = c.requires.well_formed.in_range.ops_range c.args.b.0 c.requires.b_bound.0 in
-    omega (arith, c.requires.b_bound.1)
 
 pub put_repeated-m-requires : goal.put_repeated-m-requires
 put_repeated-m-requires c =
@@ -33,19 +15,11 @@ put_repeated-m-requires c =
     let q = putting_count (repeated_uses c.args.b.0 L.o (get_or c.args.counts.now L.o 0)) (operations_left c.args.words.now c.args.counts.now c.args.b.0 (L.o + 1) c.operations-span.result.end) {k = 2 ^ 59} (omega (arith, ap length (span_is c.args.words.now c.args.counts.now c.args.b.0 _ _ c.operations-span.ensures.0 c.operations-span.ensures.1), c.requires.b_bound_2)) (putting_as e L.invariant) in
     omega (arith, q, repeated_uses_length c.args.b.0 L.o (get_or c.args.counts.now L.o 0))
 
-pub overflow_add-o : goal.overflow_add-o
-overflow_add-o c =
-    let r = c.requires.well_formed.in_range.ops_range c.args.b.0 c.requires.b_bound.0 in
-    omega (arith, c.requires.b_bound.1)
-
 pub loop-o-preserved : goal.loop-o-preserved
 loop-o-preserved c =
     let L = c.loop-o in
     let e = operation_next c.args.words.now c.args.counts.now c.args.b.0 L.o c.operations-span.result.end c.loop-o-test.true in
     putting_more (putting_as e L.invariant) c.put_repeated-m.ensures
-
-pub shape_of-out : goal.shape_of-out
-shape_of-out c = c.loop-o.invariant.long
 
 pub returns : goal.returns
 returns c =

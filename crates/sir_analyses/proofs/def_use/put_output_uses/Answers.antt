@@ -1,41 +1,18 @@
 -- `put_output_uses` meets its contract. The invariant: the places left are to be put.
 use mathlib.Core.Path.{◌≡◌, sym, ap, ◌∙◌}
-use mathlib.Core.List.{List, [], ◌∷◌}
-use Prim.Native.Nat.{ℕ, ◌+◌, ◌<◌}
+use mathlib.Core.List.{List}
+use Prim.Native.Nat.{ℕ, ◌<◌}
 use native.Mathlib.Omega.{arith}
 use lib.ListN.{length, get_or}
 use Rattle.sir_data.specs.Records.{outputs}
-use Rattle.sir_analyses.proofs.answers.Writing.{putting_none, putting_as, putting_count, putting_more, putting_all}
-use Rattle.sir_analyses.proofs.def_use.UseWords.{outputs_left, output_here, output_other, output_end, outputs_most}
+use Rattle.sir_analyses.proofs.answers.Writing.{putting_as, putting_more, putting_all}
+use Rattle.sir_analyses.proofs.def_use.UseWords.{output_here, output_other, output_end, outputs_most}
 use Rattle.sir_analyses.proofs.def_use.put_output_uses.Goals as goal
+use Rattle.sir_analyses.proofs.def_use.put_output_uses.Goals.{else-v-local, then-v-local}
 
-pub loop-k-init : goal.loop-k-init
-loop-k-init c = (omega arith, putting_none)
-
-pub overflow_add-k : goal.overflow_add-k
-overflow_add-k c =
-    let L = c.loop-k in
-    omega (arith, ap length c.outputs-run.ensures, outputs_most c.args.words.now c.args.local.0 c.args.b.0 L.k c.requires.well_formed c.requires.b_bound, c.loop-k-test.true)
-
-pub put_triple-m-requires : goal.put_triple-m-requires
-put_triple-m-requires c =
-    let L = c.loop-k in
-    let w = c.args.words.now in
-    let is = c.outputs-run.ensures in
-    let h : L.k < length (outputs w c.args.b.0) = omega (arith, ap length is, c.loop-k-test.true) in
-    let same : get_or c.outputs-run.result.now L.k 0 ≡ get_or (outputs w c.args.b.0) L.k 0 = ap (λ (l : List ℕ). get_or l L.k 0) is in
-    let e = output_here w c.args.local.0 c.args.b.0 L.k h (sym same ∙ c.if-v-local.true) in
-    omega (arith, putting_count (c.args.b.0 ∷ 2 ∷ L.k ∷ []) (outputs_left w c.args.local.0 c.args.b.0 (L.k + 1)) c.requires.b_bound_2 (putting_as e L.invariant.1))
-
-pub loop-k-preserved-then-v-local : goal.loop-k-preserved-then-v-local
-loop-k-preserved-then-v-local c =
-    let L = c.loop-k in
-    let w = c.args.words.now in
-    let is = c.outputs-run.ensures in
-    let h : L.k < length (outputs w c.args.b.0) = omega (arith, ap length is, c.loop-k-test.true) in
-    let same : get_or c.outputs-run.result.now L.k 0 ≡ get_or (outputs w c.args.b.0) L.k 0 = ap (λ (l : List ℕ). get_or l L.k 0) is in
-    let e = output_here w c.args.local.0 c.args.b.0 L.k h (sym same ∙ c.if-v-local.true) in
-    (omega arith, putting_more (putting_as e L.invariant.1) c.put_triple-m.ensures)
+pub overflow_cast-k : goal.overflow_cast-k
+overflow_cast-k c =
+    omega (arith, ap length c.outputs-run.ensures, outputs_most c.args.words.now c.args.local.0 c.args.b.0 c.loop-k.k c.requires.well_formed c.requires.b_bound, c.loop-k-test.true)
 
 pub loop-k-preserved : goal.loop-k-preserved
 loop-k-preserved c =
@@ -43,11 +20,13 @@ loop-k-preserved c =
     let w = c.args.words.now in
     let is = c.outputs-run.ensures in
     let h : L.k < length (outputs w c.args.b.0) = omega (arith, ap length is, c.loop-k-test.true) in
-    let same : get_or c.outputs-run.result.now L.k 0 ≡ get_or (outputs w c.args.b.0) L.k 0 = ap (λ (l : List ℕ). get_or l L.k 0) is in
-    (omega arith, putting_as (output_other w c.args.local.0 c.args.b.0 L.k h (λ y. c.if-v-local.false (same ∙ y))) L.invariant.1)
-
-pub shape_of-out : goal.shape_of-out
-shape_of-out c = c.loop-k.invariant.1.long
+    let same : get_or c.outputs-run.result.now L.k 0 ≡ get_or (outputs w c.args.b.0) L.k 0 = ap (λ (l : List ℕ). get_or l L.k 0) is in (
+      omega arith,
+      elim c.if-v-local.branch [
+        | then-v-local x ↦ rw (x.out-is, x.m-is) (putting_more (putting_as (output_here w c.args.local.0 c.args.b.0 L.k h (sym same ∙ x.if-v-local.true)) L.invariant.1) x.put_triple-m.ensures)
+        | else-v-local x ↦ rw (x.out-is, x.m-is) (putting_as (output_other w c.args.local.0 c.args.b.0 L.k h (λ y. x.if-v-local.false (same ∙ y))) L.invariant.1)
+      ],
+    )
 
 pub returns : goal.returns
 returns c =

@@ -1,5 +1,5 @@
 -- `put_output_uses` meets its contract. The invariant: the places left are to be put.
-use Prim.Native.Nat.{◌-◌, ◌≤◌}
+use Prim.Native.Nat.{◌≤◌}
 use lib.ListN.{length}
 use Rattle.sir_analyses.specs.inner.Uses.{output_uses}
 use Rattle.sir_analyses.proofs.answers.Writing.{Putting}
@@ -8,6 +8,3 @@ use Rattle.sir_analyses.proofs.def_use.put_output_uses.Given as goal
 
 abbrev pub invariant-loop-k : goal.invariant-loop-k
 invariant-loop-k l = (l.k ≤ length l.run) × Putting l.n (output_uses l.words l.local.0 l.b.0) l.initial.out (outputs_left l.words l.local.0 l.b.0 l.k) l.out l.m
-
-abbrev pub decreases-loop-k : goal.decreases-loop-k
-decreases-loop-k l = length l.run - l.k

@@ -13,16 +13,13 @@ pub overflow_mul-m : goal.overflow_mul-m
 overflow_mul-m c =
     let L = c.loop-i in
     let e = repeated_uses_length c.args.b.0 c.args.o.0 c.args.times in
-    omega (arith, putting_count (c.args.b.0 ∷ 0 ∷ c.args.o.0 ∷ []) (same_left c.args.b.0 c.args.o.0 (L.i + 1) c.args.times) {k = 2 ^ 59} (omega (arith, c.requires, e)) (putting_as (same_next c.args.b.0 c.args.o.0 L.i c.args.times c.loop-i-test.true) L.invariant.1))
+    omega (arith, putting_count (c.args.b.0 ∷ 0 ∷ c.args.o.0 ∷ []) (same_left c.args.b.0 c.args.o.0 (L._i + 1) c.args.times) {k = 2 ^ 59} (omega (arith, c.requires, e)) (putting_as (same_next c.args.b.0 c.args.o.0 L._i c.args.times c.loop-i-test.true) L.invariant.1))
 
 pub overflow_add-m : goal.overflow_add-m
 overflow_add-m c =
     let L = c.loop-i in
     let e = repeated_uses_length c.args.b.0 c.args.o.0 c.args.times in
-    omega (arith, putting_count (c.args.b.0 ∷ 0 ∷ c.args.o.0 ∷ []) (same_left c.args.b.0 c.args.o.0 (L.i + 1) c.args.times) {k = 2 ^ 59} (omega (arith, c.requires, e)) (putting_as (same_next c.args.b.0 c.args.o.0 L.i c.args.times c.loop-i-test.true) L.invariant.1))
-
-pub shape_of-out-then-out-m : goal.shape_of-out-then-out-m
-shape_of-out-then-out-m c = c.loop-i.invariant.1.long
+    omega (arith, putting_count (c.args.b.0 ∷ 0 ∷ c.args.o.0 ∷ []) (same_left c.args.b.0 c.args.o.0 (L._i + 1) c.args.times) {k = 2 ^ 59} (omega (arith, c.requires, e)) (putting_as (same_next c.args.b.0 c.args.o.0 L._i c.args.times c.loop-i-test.true) L.invariant.1))
 
 pub returns-then-out-m : goal.returns-then-out-m
 returns-then-out-m c =
@@ -32,17 +29,14 @@ pub put_triple-m-requires : goal.put_triple-m-requires
 put_triple-m-requires c =
     let L = c.loop-i in
     let e = repeated_uses_length c.args.b.0 c.args.o.0 c.args.times in
-    omega (arith, putting_count (c.args.b.0 ∷ 0 ∷ c.args.o.0 ∷ []) (same_left c.args.b.0 c.args.o.0 (L.i + 1) c.args.times) {k = 2 ^ 59} (omega (arith, c.requires, e)) (putting_as (same_next c.args.b.0 c.args.o.0 L.i c.args.times c.loop-i-test.true) L.invariant.1))
+    omega (arith, putting_count (c.args.b.0 ∷ 0 ∷ c.args.o.0 ∷ []) (same_left c.args.b.0 c.args.o.0 (L._i + 1) c.args.times) {k = 2 ^ 59} (omega (arith, c.requires, e)) (putting_as (same_next c.args.b.0 c.args.o.0 L._i c.args.times c.loop-i-test.true) L.invariant.1))
 
 pub loop-i-preserved : goal.loop-i-preserved
 loop-i-preserved c =
     let L = c.loop-i in
-    (omega arith, putting_more (putting_as (same_next c.args.b.0 c.args.o.0 L.i c.args.times c.loop-i-test.true) L.invariant.1) c.put_triple-m.ensures)
-
-pub shape_of-out : goal.shape_of-out
-shape_of-out c = c.loop-i.invariant.1.long
+    (omega arith, putting_more (putting_as (same_next c.args.b.0 c.args.o.0 L._i c.args.times c.loop-i-test.true) L.invariant.1) c.put_triple-m.ensures)
 
 pub returns : goal.returns
 returns c =
     let L = c.loop-i in
-    putting_all (same_end c.args.b.0 c.args.o.0 L.i c.args.times c.loop-i-test.false) L.invariant.1
+    putting_all (same_end c.args.b.0 c.args.o.0 L._i c.args.times c.loop-i-test.false) L.invariant.1

@@ -1,7 +1,6 @@
 -- `put_uses` meets its contract. The invariant: the blocks left are to be put.
-use mathlib.Core.Path.{sym, ap, ◌∙◌}
-use mathlib.Core.List.{List}
-use Prim.Native.Nat.{ℕ, ◌+◌, ◌-◌, ◌^◌}
+use mathlib.Core.Path.{◌∙◌}
+use Prim.Native.Nat.{◌+◌, ◌-◌, ◌^◌}
 use native.Mathlib.Omega.{arith}
 use lib.ListN.{get_or, drop}
 use Rattle.plank_core.specs.Lists.{bind}
@@ -9,39 +8,28 @@ use Rattle.plank_core.specs.laws.Lists.{get_or_mem}
 use Rattle.plank_core.specs.laws.Loops.{bind_drop_step, bind_drop_end}
 use Rattle.sir_analyses.specs.inner.Uses.{block_uses}
 use Rattle.sir_analyses.proofs.claims.order.OrderLength.{rpo_below}
-use Rattle.sir_analyses.proofs.answers.Writing.{putting_none, putting_as, putting_count, putting_more, putting_all}
+use Rattle.sir_analyses.proofs.answers.Writing.{putting_as, putting_count, putting_more, putting_all}
 use Rattle.sir_analyses.proofs.def_use.put_uses.Goals as goal
-
-pub rpo-order-requires : goal.rpo-order-requires
-rpo-order-requires c =
-    (c.requires.visit_stage.long, c.requires.visit_stage.few)
-
-pub loop-i-init : goal.loop-i-init
-loop-i-init c =
-    (omega arith, putting_as (ap (λ (l : List ℕ). bind l (block_uses c.args.words.now c.args.counts.now c.args.local.0)) (sym (c.rpo-order.ensures ∙ c.requires.visit_stage.rpo_is))) putting_none)
 
 pub put_block_uses-m-requires : goal.put_block_uses-m-requires
 put_block_uses-m-requires c =
-    let L = c.loop-i in
+    let L = c.loop-b in
     let w = c.args.words.now in
-    let order = c.rpo-order.result.now in
+    let order = c.rpo-b-items.result.now in
     let g = block_uses w c.args.counts.now c.args.local.0 in
-    let e = bind_drop_step g order L.i c.loop-i-test.true in
-    let q = putting_count (g (get_or order L.i 0)) (bind (drop (L.i + 1) order) g) {k = 2 ^ 59 - 3} (omega (arith, c.requires.counts_len.1)) (putting_as e L.invariant.1) in
-    record { well_formed = c.requires.visit_stage.well_formed; b_bound = (rpo_below w c.requires.visit_stage.well_formed (c.rpo-order.ensures ∙ c.requires.visit_stage.rpo_is) (get_or order L.i 0) (get_or_mem order L.i 0 c.loop-i-test.true), c.requires.counts_len.0); b_bound_2 = omega (arith, q) }
+    let e = bind_drop_step g order L.b-index c.loop-b-test.true in
+    let q = putting_count (g (get_or order L.b-index 0)) (bind (drop (L.b-index + 1) order) g) {k = 2 ^ 59 - 3} (omega (arith, c.requires.counts_len.1)) (putting_as e L.invariant.1) in
+    record { well_formed = c.requires.visit_stage.well_formed; b_bound = (rpo_below w c.requires.visit_stage.well_formed (c.rpo-b-items.ensures ∙ c.requires.visit_stage.rpo_is) (get_or order L.b-index 0) (get_or_mem order L.b-index 0 c.loop-b-test.true), c.requires.counts_len.0); b_bound_2 = omega (arith, q) }
 
-pub loop-i-preserved : goal.loop-i-preserved
-loop-i-preserved c =
-    let L = c.loop-i in
+pub loop-b-preserved : goal.loop-b-preserved
+loop-b-preserved c =
+    let L = c.loop-b in
     let w = c.args.words.now in
-    let order = c.rpo-order.result.now in
+    let order = c.rpo-b-items.result.now in
     let g = block_uses w c.args.counts.now c.args.local.0 in
-    let e = bind_drop_step g order L.i c.loop-i-test.true in
+    let e = bind_drop_step g order L.b-index c.loop-b-test.true in
     (omega arith, putting_more (putting_as e L.invariant.1) c.put_block_uses-m.ensures)
-
-pub shape_of-out : goal.shape_of-out
-shape_of-out c = c.loop-i.invariant.1.long
 
 pub returns : goal.returns
 returns c =
-    putting_all (bind_drop_end (block_uses c.args.words.now c.args.counts.now c.args.local.0) c.rpo-order.result.now c.loop-i.i c.loop-i-test.false) c.loop-i.invariant.1
+    putting_all (bind_drop_end (block_uses c.args.words.now c.args.counts.now c.args.local.0) c.rpo-b-items.result.now c.loop-b.b-index c.loop-b-test.false) c.loop-b.invariant.1

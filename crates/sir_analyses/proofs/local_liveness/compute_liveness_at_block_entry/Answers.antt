@@ -8,9 +8,6 @@ use Rattle.sir_analyses.proofs.local_liveness.Sending.{entry_words}
 use native.Mathlib.Omega.{arith}
 use Rattle.sir_analyses.proofs.local_liveness.compute_liveness_at_block_entry.Goals as goal
 
-pub exits-requires : goal.exits-requires
-exits-requires c = c.requires.0
-
 pub row_of-requires : goal.row_of-requires
 row_of-requires c =
     omega (arith, ap length c.exits.ensures ∙ length_part 22528 2048 c.args.live.now (omega (arith, c.requires)), c.requires)
@@ -19,10 +16,6 @@ pub row_union_with-requires : goal.row_union_with-requires
 row_union_with-requires c =
     (omega arith, ap length c.row_of.ensures ∙ length_row _ _ (omega (arith, ap length c.exits.ensures ∙ length_part 22528 2048 c.args.live.now (omega (arith, c.requires)), c.requires)))
 
-pub defs-requires : goal.defs-requires
-defs-requires c =
-    c.requires.0
-
 pub row_of-requires-2 : goal.row_of-requires-2
 row_of-requires-2 c =
     omega (arith, ap length c.defs.ensures ∙ length_part 18432 2048 c.args.live.now (omega (arith, c.requires)), c.requires)
@@ -30,10 +23,6 @@ row_of-requires-2 c =
 pub row_difference_with-requires : goal.row_difference_with-requires
 row_difference_with-requires c =
     (omega arith, ap length c.row_of-2.ensures ∙ length_row _ _ (omega (arith, ap length c.defs.ensures ∙ length_part 18432 2048 c.args.live.now (omega (arith, c.requires)), c.requires)))
-
-pub uses-requires : goal.uses-requires
-uses-requires c =
-    c.requires.0
 
 pub row_of-requires-3 : goal.row_of-requires-3
 row_of-requires-3 c =

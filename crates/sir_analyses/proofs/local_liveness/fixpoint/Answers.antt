@@ -1,33 +1,17 @@
 -- `fixpoint` meets its contract. The invariant: so many passes are done, and the definition goes on from the sets that the exits show.
-use mathlib.Core.Path.{refl, sym, ◌∙◌}
+use mathlib.Core.Path.{sym, ◌∙◌}
 use Rattle.sir_analyses.proofs.local_liveness.Passes.{settling_more, settling_ends, settling_few, settling_small}
 use Rattle.sir_analyses.proofs.local_liveness.LivenessTables.{passing_starts, passing_on}
 use native.Mathlib.Omega.{arith}
 use Rattle.sir_analyses.proofs.local_liveness.fixpoint.Goals as goal
 
-pub predecessor_sets-requires : goal.predecessor_sets-requires
-predecessor_sets-requires c =
-    record { visit_stage = c.requires.visit_stage; preds_value = refl }
-
 pub loop-preds-init : goal.loop-preds-init
 loop-preds-init c =
     passing_starts c.requires.visit_stage.well_formed c.requires.block_rows.0 c.requires.block_rows.1 c.predecessor_sets.ensures
 
-pub slice_bounds-pass_back-end-in-loop-preds : goal.slice_bounds-pass_back-end-in-loop-preds
-slice_bounds-pass_back-end-in-loop-preds c =
-    sym c.loop-preds.invariant.0.sent_long
-
-pub pass_back-grew-requires : goal.pass_back-grew-requires
-pass_back-grew-requires c =
-    record { visit_stage = c.requires.visit_stage; passing = c.loop-preds.invariant.0 }
-
 pub overflow_add-done : goal.overflow_add-done
 overflow_add-done c =
     omega (arith, settling_small c.requires.visit_stage.well_formed c.loop-preds.invariant.1)
-
-pub shape_of-live-then-not-grew : goal.shape_of-live-then-not-grew
-shape_of-live-then-not-grew c =
-    c.pass_back-grew.ensures.long ∙ c.loop-preds.invariant.0.long ∙ sym c.requires.block_rows.1.long
 
 pub returns-then-not-grew : goal.returns-then-not-grew
 returns-then-not-grew c =

@@ -1,5 +1,5 @@
 -- `pass_back` meets its contract. The invariant: the blocks from place k of the order on are done.
-use mathlib.Core.Path.{◌≡◌, refl, sym, subst, ◌∙◌}
+use mathlib.Core.Path.{◌≡◌, refl, subst, ◌∙◌}
 use mathlib.Core.List.{List}
 use Prim.Native.Nat.{ℕ, ◌-◌}
 use lib.ListN.{get_or}
@@ -7,22 +7,17 @@ use Rattle.plank_core.specs.Lists.{◌∈◌}
 use Rattle.plank_core.specs.laws.Lists.{get_or_mem}
 use Rattle.sir_analyses.specs.Order.{blocks_rpo}
 use Rattle.sir_analyses.proofs.claims.order.OrderProof.{blocks_below}
-use Rattle.sir_analyses.proofs.local_liveness.Growth.{told_set, told_kept}
 use Rattle.sir_analyses.proofs.local_liveness.Passes.{from_none, from_next, from_all}
 use Rattle.sir_analyses.proofs.local_liveness.LivenessTables.{passing_on, pass_none, pass_as, pass_then}
 use native.Mathlib.Omega.{arith}
 use Rattle.sir_analyses.proofs.local_liveness.pass_back.Goals as goal
 
-pub rpo-order-requires : goal.rpo-order-requires
-rpo-order-requires c =
-    (c.requires.visit_stage.long, c.requires.visit_stage.few)
-
 pub loop-k-init : goal.loop-k-init
 loop-k-init c =
     (omega arith, pass_as (pass_none c.requires.passing) (from_none c.args.words.now c.rpo-order.result.now))
 
-pub propagate_liveness_to_predecessors-requires : goal.propagate_liveness_to_predecessors-requires
-propagate_liveness_to_predecessors-requires c =
+pub propagate_liveness_to_predecessors-grew-requires : goal.propagate_liveness_to_predecessors-grew-requires
+propagate_liveness_to_predecessors-grew-requires c =
     let l = c.loop-k in
     let order = c.rpo-order.result.now in
     let is : order ≡ blocks_rpo c.args.words.now = c.rpo-order.ensures ∙ c.requires.visit_stage.rpo_is in
@@ -31,23 +26,10 @@ propagate_liveness_to_predecessors-requires c =
     let good = c.requires.visit_stage.well_formed in
     record { well_formed = good; b_bound = blocks_below c.args.words.now good b (subst (λ (bs : List ℕ). b ∈ bs) is m); passing = passing_on c.requires.passing l.invariant.1 }
 
-pub loop-k-preserved-then-propagate_liveness_to_predecessors : goal.loop-k-preserved-then-propagate_liveness_to_predecessors
-loop-k-preserved-then-propagate_liveness_to_predecessors c =
-    let l = c.loop-k in
-    (omega arith, pass_as (pass_then l.invariant.1 c.propagate_liveness_to_predecessors.ensures (told_set l.grew c.if-propagate_liveness_to_predecessors.true refl)) (from_next c.args.words.now c.rpo-order.result.now l.k (omega (arith, l.invariant.0, c.loop-k-test.true)) (omega (arith, l.invariant.0, c.loop-k-test.true))))
-
 pub loop-k-preserved : goal.loop-k-preserved
 loop-k-preserved c =
     let l = c.loop-k in
-    (omega arith, pass_as (pass_then l.invariant.1 c.propagate_liveness_to_predecessors.ensures (told_kept l.grew c.if-propagate_liveness_to_predecessors.false refl)) (from_next c.args.words.now c.rpo-order.result.now l.k (omega (arith, l.invariant.0, c.loop-k-test.true)) (omega (arith, l.invariant.0, c.loop-k-test.true))))
-
-pub shape_of-live : goal.shape_of-live
-shape_of-live c =
-    c.loop-k.invariant.1.long
-
-pub shape_of-sent : goal.shape_of-sent
-shape_of-sent c =
-    c.loop-k.invariant.1.stepped.sent_long ∙ sym c.requires.passing.sent_long
+    (omega arith, pass_as (pass_then l.invariant.1 c.propagate_liveness_to_predecessors-grew.ensures refl) (from_next c.args.words.now c.rpo-order.result.now l.k (omega (arith, l.invariant.0, c.loop-k-test.true)) (omega (arith, l.invariant.0, c.loop-k-test.true))))
 
 pub returns : goal.returns
 returns c =

@@ -7,6 +7,3 @@ use Rattle.sir_analyses.proofs.local_liveness.pass_back.Given as goal
 
 abbrev pub invariant-loop-k : goal.invariant-loop-k
 invariant-loop-k l = (l.k ≤ length l.order) × PassStep l.words (from l.words l.order l.k) l.initial.live l.live l.sent l.grew
-
-abbrev pub decreases-loop-k : goal.decreases-loop-k
-decreases-loop-k l = l.k

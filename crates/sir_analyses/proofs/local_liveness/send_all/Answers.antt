@@ -1,6 +1,6 @@
 -- `send_all` meets its contract. The invariant: the first k blocks have what is sent.
-use mathlib.Core.Path.{◌≡◌, refl, ap}
-use mathlib.Core.Bool.{◌&&◌, ◌||◌}
+use mathlib.Core.Path.{refl, ap}
+use mathlib.Core.Bool.{◌&&◌}
 use mathlib.Core.List.{List}
 use Prim.Native.Nat.{ℕ, ◌*◌, ◌≤◌, ◌<◌}
 use lib.ListN.{length, get_or}
@@ -9,40 +9,35 @@ use Rattle.plank_core.specs.Lists.{mem, ◌∈◌}
 use Rattle.plank_core.specs.laws.Lists.{get_or_mem}
 use Rattle.sir_data.specs.Records.{blocks}
 use Rattle.sir_analyses.specs.inner.Tables.{arrives}
-use Rattle.sir_analyses.proofs.local_liveness.Growth.{sends_as, sends_then, sends_none, told_set, told_kept}
+use Rattle.sir_analyses.proofs.local_liveness.Growth.{sends_as, sends_then, sends_none}
 use Rattle.plank_core.specs.laws.Prefixes.{and_taken}
 use native.Mathlib.Omega.{arith}
 use Rattle.sir_analyses.proofs.local_liveness.send_all.Goals as goal
-use Rattle.sir_analyses.proofs.local_liveness.send_all.Goals.{else-send_to, then-send_to}
 
-pub loop-k-init : goal.loop-k-init
-loop-k-init c =
+pub loop-p-init : goal.loop-p-init
+loop-p-init c =
     (omega arith, sends_none (blocks c.args.words.now) c.args.exits.now (λ q i h. refl))
 
-pub send_to-requires : goal.send_to-requires
-send_to-requires c =
-    let l = c.loop-k in
-    let i : l.k < length c.args.ids.now = omega arith in
-    let m : get_or c.args.ids.now l.k 0 ∈ c.args.ids.now = get_or_mem c.args.ids.now l.k 0 i in
+pub send_to-grew-requires : goal.send_to-grew-requires
+send_to-grew-requires c =
+    let l = c.loop-p in
+    let i : l.p-index < length c.args.ids.now = omega arith in
+    let m : get_or c.args.ids.now l.p-index 0 ∈ c.args.ids.now = get_or_mem c.args.ids.now l.p-index 0 i in
     record { well_formed = c.requires.well_formed; p_bound = (c.requires.by_index _ m, c.requires.set_len.0, omega (arith, l.invariant.1.adds.long, c.requires.set_len)); by_index = λ k n. c.requires.by_index_2 _ k m n }
 
-pub loop-k-preserved : goal.loop-k-preserved
-loop-k-preserved c =
+pub loop-p-preserved : goal.loop-p-preserved
+loop-p-preserved c =
     let w = c.args.words.now in
-    let l = c.loop-k in
-    let i : l.k < length c.args.ids.now = omega arith in
+    let l = c.loop-p in
+    let i : l.p-index < length c.args.ids.now = omega arith in
     let long : 8 * blocks w ≤ length c.args.exits.now = omega (arith, c.requires.set_len, c.requires.well_formed.sized.blocks_most) in
-    let r = c.send_to in
-    let told : c.if-send_to.grew ≡ (l.grew || r.result) = elim c.if-send_to.branch [ then-send_to x ↦ told_set l.grew x.if-send_to.true x.grew-is | else-send_to x ↦ told_kept l.grew x.if-send_to.false x.grew-is ] in (
+    let r = c.send_to-grew in (
       omega arith,
-      sends_as (λ q v h. and_taken c.args.ids.now l.k i (λ x. arrives w c.args.set.now c.args.moved.now x v) q)
-          (sends_then long l.invariant.1 r.ensures told),
+      sends_as (λ q v h. and_taken c.args.ids.now l.p-index i (λ x. arrives w c.args.set.now c.args.moved.now x v) q)
+          (sends_then long l.invariant.1 r.ensures refl),
     )
-
-pub shape_of-exits : goal.shape_of-exits
-shape_of-exits c = c.loop-k.invariant.1.adds.long
 
 pub returns : goal.returns
 returns c =
-    let l = c.loop-k in
-    sends_as (λ q v h. ap (λ (ps : List ℕ). mem q ps && arrives c.args.words.now c.args.set.now c.args.moved.now q v) (take_all l.k c.args.ids.now (omega arith))) l.invariant.1
+    let l = c.loop-p in
+    sends_as (λ q v h. ap (λ (ps : List ℕ). mem q ps && arrives c.args.words.now c.args.set.now c.args.moved.now q v) (take_all l.p-index c.args.ids.now (omega arith))) l.invariant.1

@@ -1,14 +1,11 @@
 -- `send_all` meets its contract. The invariant: the first k blocks have what is sent.
 use mathlib.Core.Bool.{◌&&◌}
-use Prim.Native.Nat.{◌-◌, ◌≤◌}
+use Prim.Native.Nat.{◌≤◌}
 use lib.ListN.{length, take}
 use Rattle.plank_core.specs.Lists.{mem}
 use Rattle.sir_data.specs.Records.{blocks}
 use Rattle.sir_analyses.specs.inner.Tables.{arrives, Sends}
 use Rattle.sir_analyses.proofs.local_liveness.send_all.Given as goal
 
-abbrev pub invariant-loop-k : goal.invariant-loop-k
-invariant-loop-k l = (l.k ≤ length l.ids) × Sends (blocks l.words) l.initial.exits (λ q i. mem q (take l.k l.ids) && arrives l.words l.set l.moved q i) l.exits l.grew
-
-abbrev pub decreases-loop-k : goal.decreases-loop-k
-decreases-loop-k l = length l.ids - l.k
+abbrev pub invariant-loop-p : goal.invariant-loop-p
+invariant-loop-p l = (l.p-index ≤ length l.ids) × Sends (blocks l.words) l.initial.exits (λ q i. mem q (take l.p-index l.ids) && arrives l.words l.set l.moved q i) l.exits l.grew

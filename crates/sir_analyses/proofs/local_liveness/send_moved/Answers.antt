@@ -1,6 +1,6 @@
 -- `send_moved` meets its contract. The invariant: the outputs at the first k positions are added.
-use mathlib.Core.Path.{◌≡◌, sym, ap, ◌∙◌}
-use mathlib.Core.Bool.{Bool, ◌&&◌, ◌||◌, and-false, and-or_distrib_left}
+use mathlib.Core.Path.{◌≡◌, refl, sym, ap, ◌∙◌}
+use mathlib.Core.Bool.{Bool, ◌&&◌, and-false, and-or_distrib_left}
 use mathlib.Core.List.{List, map}
 use Prim.Native.Nat.{ℕ, ◌*◌, ◌≤◌, ◌<◌}
 use lib.ListN.{length, get_or, take}
@@ -10,73 +10,58 @@ use Rattle.plank_core.specs.Lists.{mem}
 use Rattle.plank_core.specs.laws.Lists.{get_or_mem}
 use Rattle.sir_data.specs.Records.{blocks}
 use Rattle.sir_analyses.specs.inner.Tables.{Sends}
-use Rattle.sir_analyses.proofs.local_liveness.Growth.{sends_as, sends_then, sends_none, sends_one, told_set, told_kept}
+use Rattle.sir_analyses.proofs.local_liveness.Growth.{sends_as, sends_then, sends_none, sends_one}
 use Rattle.plank_core.specs.laws.Prefixes.{mapped_next}
 use Rattle.sir_analyses.proofs.local_liveness.Sending.{output_small}
 use native.Mathlib.Omega.{arith}
 use Rattle.sir_analyses.proofs.local_liveness.send_moved.Goals as goal
-use Rattle.sir_analyses.proofs.local_liveness.send_moved.Goals.{else-row_add, then-row_add}
 
-pub block_outputs-outputs-requires : goal.block_outputs-outputs-requires
-block_outputs-outputs-requires c =
-    record { sized = c.requires.well_formed.sized; in_range = c.requires.well_formed.in_range; b_bound = c.requires.p_bound.0 }
-
-pub loop-k-init : goal.loop-k-init
-loop-k-init c =
+pub loop-at-init : goal.loop-at-init
+loop-at-init c =
     (omega arith, sends_none (blocks c.args.words.now) c.args.exits.now (λ r i h. and-false (eqb r c.args.p.0)))
-
-pub overflow_cast-at : goal.overflow_cast-at
-overflow_cast-at c = omega (arith, c.type_inv.moved c.loop-k.k)
-
-pub offset_bounds-outputs-at : goal.offset_bounds-outputs-at
-offset_bounds-outputs-at c = omega (arith, c.type_inv.moved c.loop-k.k)
 
 pub bounds-outputs-at : goal.bounds-outputs-at
 bounds-outputs-at c =
-    let k = c.loop-k.k in
+    let k = c.loop-at.at-index in
     let i : k < length c.args.moved.now = omega arith in
     omega (arith, c.requires.by_index (get_or c.args.moved.now k 0) (get_or_mem c.args.moved.now k 0 i), ap length c.block_outputs-outputs.ensures)
 
-pub row_add-requires : goal.row_add-requires
-row_add-requires c =
-    let l = c.loop-k in
-    let i : l.k < length c.args.moved.now = omega arith in
-    let at : ℕ = get_or c.args.moved.now l.k 0 in (
+pub row_add-grew-requires : goal.row_add-grew-requires
+row_add-grew-requires c =
+    let l = c.loop-at in
+    let i : l.at-index < length c.args.moved.now = omega arith in
+    let at : ℕ = get_or c.args.moved.now l.at-index 0 in (
       omega (arith, l.invariant.1.adds.long, c.requires.p_bound, c.requires.well_formed.sized.blocks_most),
       output_small c.requires.well_formed c.args.p.0 c.requires.p_bound.0 c.block_outputs-outputs.ensures at
-          (omega (arith, c.requires.by_index at (get_or_mem c.args.moved.now l.k 0 i), ap length c.block_outputs-outputs.ensures)),
+          (omega (arith, c.requires.by_index at (get_or_mem c.args.moved.now l.at-index 0 i), ap length c.block_outputs-outputs.ensures)),
     )
 
-pub loop-k-preserved : goal.loop-k-preserved
-loop-k-preserved c =
+pub loop-at-preserved : goal.loop-at-preserved
+loop-at-preserved c =
     let in_range = c.requires.p_bound.0 in
-    let l = c.loop-k in
+    let l = c.loop-at in
     let p : ℕ = c.args.p.0 in
     let xs = c.block_outputs-outputs.result.now in
     let moved = c.args.moved.now in
-    let i : l.k < length moved = omega arith in
-    let at : ℕ = get_or moved l.k 0 in
+    let i : l.at-index < length moved = omega arith in
+    let at : ℕ = get_or moved l.at-index 0 in
     let small : get_or xs at 0 < 512 =
-    output_small c.requires.well_formed p in_range c.block_outputs-outputs.ensures at (omega (arith, c.requires.by_index at (get_or_mem moved l.k 0 i), ap length c.block_outputs-outputs.ensures)) in
+    output_small c.requires.well_formed p in_range c.block_outputs-outputs.ensures at (omega (arith, c.requires.by_index at (get_or_mem moved l.at-index 0 i), ap length c.block_outputs-outputs.ensures)) in
     let long : 8 * blocks c.args.words.now ≤ length c.args.exits.now = omega (arith, c.requires.p_bound, c.requires.well_formed.sized.blocks_most) in
-    let r = c.row_add in
+    let r = c.row_add-grew in
     let one : Sends (blocks c.args.words.now) l.exits (λ q v. eqb q p && eqb v (get_or xs at 0)) r.new.table r.result =
-    sends_one (blocks c.args.words.now) l.exits p in_range (omega (arith, l.invariant.1.adds.long)) (get_or xs at 0) small r.ensures.0 r.ensures.1 in
-    let told : c.if-row_add.grew ≡ (l.grew || r.result) = elim c.if-row_add.branch [ then-row_add x ↦ told_set l.grew x.if-row_add.true x.grew-is | else-row_add x ↦ told_kept l.grew x.if-row_add.false x.grew-is ] in (
+    sends_one (blocks c.args.words.now) l.exits p in_range (omega (arith, l.invariant.1.adds.long)) (get_or xs at 0) small r.ensures.0 r.ensures.1 in (
       omega arith,
       sends_as
-          (λ q v h. sym (and-or_distrib_left (eqb q p) (mem v (map (λ j. get_or xs j 0) (take l.k moved))) (eqb v (get_or xs at 0))) ∙ ap (λ (t : Bool). eqb q p && t) (mapped_next (λ j. get_or xs j 0) moved l.k i v))
-          (sends_then long l.invariant.1 one told),
+          (λ q v h. sym (and-or_distrib_left (eqb q p) (mem v (map (λ j. get_or xs j 0) (take l.at-index moved))) (eqb v (get_or xs at 0))) ∙ ap (λ (t : Bool). eqb q p && t) (mapped_next (λ j. get_or xs j 0) moved l.at-index i v))
+          (sends_then long l.invariant.1 one refl),
     )
-
-pub shape_of-exits : goal.shape_of-exits
-shape_of-exits c = c.loop-k.invariant.1.adds.long
 
 pub returns : goal.returns
 returns c =
-    let l = c.loop-k in
+    let l = c.loop-at in
     let p : ℕ = c.args.p.0 in
     let xs = c.block_outputs-outputs.result.now in
     let moved = c.args.moved.now in
-    let e : take l.k moved ≡ moved = take_all l.k moved (omega arith) in
+    let e : take l.at-index moved ≡ moved = take_all l.at-index moved (omega arith) in
     sends_as (λ q v h. ap (λ (ms : List ℕ). eqb q p && mem v (map (λ j. get_or xs j 0) ms)) e ∙ ap (λ (ys : List ℕ). eqb q p && mem v (map (λ j. get_or ys j 0) moved)) c.block_outputs-outputs.ensures) l.invariant.1

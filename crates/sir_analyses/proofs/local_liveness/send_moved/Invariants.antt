@@ -1,7 +1,7 @@
 -- `send_moved` meets its contract. The invariant: the outputs at the first k positions are added.
 use mathlib.Core.Bool.{◌&&◌}
 use mathlib.Core.List.{map}
-use Prim.Native.Nat.{◌-◌, ◌≤◌}
+use Prim.Native.Nat.{◌≤◌}
 use lib.ListN.{length, get_or, take}
 use lib.Dec.{eqb}
 use Rattle.plank_core.specs.Lists.{mem}
@@ -9,8 +9,5 @@ use Rattle.sir_data.specs.Records.{blocks}
 use Rattle.sir_analyses.specs.inner.Tables.{Sends}
 use Rattle.sir_analyses.proofs.local_liveness.send_moved.Given as goal
 
-abbrev pub invariant-loop-k : goal.invariant-loop-k
-invariant-loop-k l = (l.k ≤ length l.moved) × Sends (blocks l.words) l.initial.exits (λ r i. eqb r l.row && mem i (map (λ j. get_or l.outputs j 0) (take l.k l.moved))) l.exits l.grew
-
-abbrev pub decreases-loop-k : goal.decreases-loop-k
-decreases-loop-k l = length l.moved - l.k
+abbrev pub invariant-loop-at : goal.invariant-loop-at
+invariant-loop-at l = (l.at-index ≤ length l.moved) × Sends (blocks l.words) l.initial.exits (λ r i. eqb r l.row && mem i (map (λ j. get_or l.outputs j 0) (take l.at-index l.moved))) l.exits l.grew

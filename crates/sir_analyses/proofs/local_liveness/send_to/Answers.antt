@@ -8,34 +8,9 @@ use Rattle.plank_core.specs.Lists.{mem}
 use Rattle.plank_core.specs.inner.DenseIndexSet.{contains}
 use Rattle.sir_data.specs.Records.{blocks}
 use Rattle.sir_analyses.specs.inner.Tables.{outputs_at}
-use Rattle.sir_analyses.proofs.local_liveness.Growth.{sends_as, sends_then, sends_union, told_set, told_kept}
+use Rattle.sir_analyses.proofs.local_liveness.Growth.{sends_as, sends_then, sends_union}
 use native.Mathlib.Omega.{arith}
 use Rattle.sir_analyses.proofs.local_liveness.send_to.Goals as goal
-
-pub row_union_with-passed-requires : goal.row_union_with-passed-requires
-row_union_with-passed-requires c =
-    (omega (arith, c.requires.p_bound, c.requires.well_formed.sized.blocks_most), c.requires.p_bound.1)
-
-pub send_moved-requires : goal.send_moved-requires
-send_moved-requires c =
-    record { well_formed = c.requires.well_formed; p_bound = (c.requires.p_bound.0, omega (arith, c.row_union_with-passed.auto, c.requires.p_bound)); by_index = c.requires.by_index }
-
-pub shape_of-exits-then-send_moved : goal.shape_of-exits-then-send_moved
-shape_of-exits-then-send_moved c =
-    omega (arith, c.row_union_with-passed.auto, c.send_moved.auto)
-
-pub returns-then-send_moved : goal.returns-then-send_moved
-returns-then-send_moved c =
-    let w = c.args.words.now in
-    let p : ℕ = c.args.p.0 in
-    let long : 8 * blocks w ≤ length c.args.exits.now = omega (arith, c.requires.p_bound, c.requires.well_formed.sized.blocks_most) in
-    let u = c.row_union_with-passed in
-    sends_as (λ q v h. sym (and-or_distrib_left (eqb q p) (contains c.args.set.now v) (mem v (outputs_at w p c.args.moved.now))))
-    (sends_then long (sends_union (blocks w) c.args.exits.now p c.requires.p_bound.0 long c.args.set.now u.ensures.0 u.ensures.1) c.send_moved.ensures (told_set u.result c.if-send_moved.true refl))
-
-pub shape_of-exits : goal.shape_of-exits
-shape_of-exits c =
-    omega (arith, c.row_union_with-passed.auto, c.send_moved.auto)
 
 pub returns : goal.returns
 returns c =
@@ -44,4 +19,4 @@ returns c =
     let long : 8 * blocks w ≤ length c.args.exits.now = omega (arith, c.requires.p_bound, c.requires.well_formed.sized.blocks_most) in
     let u = c.row_union_with-passed in
     sends_as (λ q v h. sym (and-or_distrib_left (eqb q p) (contains c.args.set.now v) (mem v (outputs_at w p c.args.moved.now))))
-    (sends_then long (sends_union (blocks w) c.args.exits.now p c.requires.p_bound.0 long c.args.set.now u.ensures.0 u.ensures.1) c.send_moved.ensures (told_kept u.result c.if-send_moved.false refl))
+    (sends_then long (sends_union (blocks w) c.args.exits.now p c.requires.p_bound.0 long c.args.set.now u.ensures.0 u.ensures.1) c.send_moved.ensures refl)

@@ -7,35 +7,14 @@ use native.Mathlib.Omega.{arith}
 use Rattle.plank_core.specs.Lists.{◌∈◌}
 use Rattle.plank_core.specs.inner.DenseIndexSet.{row_of, members}
 use Rattle.plank_core.specs.laws.DenseIndexSet.{length_row}
-use Rattle.sir_analyses.proofs.local_liveness.SetAnswers.{front_members, members_fit}
-use Rattle.sir_analyses.proofs.loading.Loads.{front_length}
+use Rattle.sir_analyses.proofs.local_liveness.SetAnswers.{front_members}
 use Rattle.sir_analyses.proofs.local_liveness.Stepping.{row_fits, block_small, listed_below, moved_below, sent_to}
 use Rattle.sir_analyses.proofs.local_liveness.send_to_predecessors.Goals as goal
-
-pub take_block_inputs-n-requires : goal.take_block_inputs-n-requires
-take_block_inputs-n-requires c =
-    record { well_formed = c.requires.well_formed.0; b_bound = (c.requires.b_bound.0, omega (arith, c.requires.b_bound.1), omega arith) }
-
-pub row_of-requires : goal.row_of-requires
-row_of-requires c =
-    row_fits c.args.preds.now (block_small c.requires.well_formed.0 c.requires.b_bound.0) c.requires.well_formed.1.preds_long
 
 pub list-count-requires : goal.list-count-requires
 list-count-requires c =
     let preds = c.args.preds.now in
     (ap length c.row_of.ensures ∙ length_row preds c.args.b.0 (row_fits preds (block_small c.requires.well_formed.0 c.requires.b_bound.0) c.requires.well_formed.1.preds_long), omega arith)
-
-pub slice_bounds-ids-end : goal.slice_bounds-ids-end
-slice_bounds-ids-end c =
-    members_fit c.row_of.result.now c.list-count.new.out c.list-count.ensures.0 c.list-count.auto.out
-
-pub slice_bounds-send_all-end : goal.slice_bounds-send_all-end
-slice_bounds-send_all-end c =
-    front_length _ _ (members_fit c.row_of.result.now c.list-count.new.out c.list-count.ensures.0 c.list-count.auto.out)
-
-pub slice_bounds-send_all-end-3 : goal.slice_bounds-send_all-end-3
-slice_bounds-send_all-end-3 c =
-    front_length _ _ (omega (arith, c.take_block_inputs-n.ensures.0, c.take_block_inputs-n.auto))
 
 pub send_all-requires : goal.send_all-requires
 send_all-requires c =

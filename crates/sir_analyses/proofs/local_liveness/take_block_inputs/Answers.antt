@@ -4,17 +4,10 @@ use Prim.Native.Nat.{◌<◌}
 use native.Mathlib.Nat.{zero-add}
 use lib.ListN.{length, get_or}
 use Rattle.plank_core.specs.inner.DenseIndexSet.{contains, removed}
-use Rattle.sir_analyses.proofs.local_liveness.Sending.{taking_starts, taking_told, taking_found, taking_missed, taking_ends, inputs_few, inputs_once, input_small}
+use Rattle.sir_analyses.proofs.local_liveness.Sending.{taking_told, taking_found, taking_missed, taking_ends, inputs_few, inputs_once, input_small}
 use native.Mathlib.Omega.{arith}
 use Rattle.sir_analyses.proofs.local_liveness.take_block_inputs.Goals as goal
 use Rattle.sir_analyses.proofs.local_liveness.take_block_inputs.Goals.{else-row_remove, then-row_remove}
-
-pub block_inputs-inputs-requires : goal.block_inputs-inputs-requires
-block_inputs-inputs-requires c =
-    record { sized = c.requires.well_formed.sized; in_range = c.requires.well_formed.in_range; b_bound = c.requires.b_bound.0 }
-
-pub loop-i-init : goal.loop-i-init
-loop-i-init c = taking_starts _ _ _
 
 pub row_remove-requires : goal.row_remove-requires
 row_remove-requires c =
@@ -29,14 +22,6 @@ pub bounds-moved-n : goal.bounds-moved-n
 bounds-moved-n c =
     let l = c.loop-i in
     omega (arith, l.invariant.few, l.invariant.moved_long, c.requires.b_bound, inputs_few c.requires.well_formed c.args.b.0 c.requires.b_bound.0 c.block_inputs-inputs.ensures)
-
-pub overflow_add-n : goal.overflow_add-n
-overflow_add-n c =
-    omega (arith, c.loop-i.invariant.few, inputs_few c.requires.well_formed c.args.b.0 c.requires.b_bound.0 c.block_inputs-inputs.ensures)
-
-pub overflow_add-i : goal.overflow_add-i
-overflow_add-i c =
-    omega (arith, inputs_few c.requires.well_formed c.args.b.0 c.requires.b_bound.0 c.block_inputs-inputs.ensures)
 
 pub loop-i-preserved : goal.loop-i-preserved
 loop-i-preserved c =
@@ -53,12 +38,6 @@ loop-i-preserved c =
     let e : r.new.table ≡ removed l.set (get_or xs l.i 0) = rw zero-add at r.ensures.1 in
     let t : r.result ≡ contains c.args.set.now (get_or xs l.i 0) = rw zero-add at r.ensures.0 ∙ taking_told once set_long h small l.invariant in
     elim c.if-row_remove.branch [ then-row_remove x ↦ rw (x.moved-is, x.n-is) (taking_found once set_long h small l.invariant (sym t ∙ x.if-row_remove.true) (omega (arith, l.invariant.few, l.invariant.moved_long, c.requires.b_bound, inputs_few c.requires.well_formed b in_range same)) e) | else-row_remove x ↦ rw (x.moved-is, x.n-is) (taking_missed once set_long h small l.invariant (sym t ∙ x.if-row_remove.false) e) ]
-
-pub shape_of-set : goal.shape_of-set
-shape_of-set c = c.loop-i.invariant.set_long
-
-pub shape_of-moved : goal.shape_of-moved
-shape_of-moved c = c.loop-i.invariant.moved_long
 
 pub returns : goal.returns
 returns c =

@@ -5,14 +5,6 @@ use Rattle.plank_core.specs.laws.DenseIndexSet.{length_row}
 use Rattle.sir_analyses.proofs.local_liveness.Stepping.{row_fits, set_fits, unsent}
 use Rattle.sir_analyses.proofs.local_liveness.unsent.Goals as goal
 
-pub compute_liveness_at_block_entry-entry-requires : goal.compute_liveness_at_block_entry-entry-requires
-compute_liveness_at_block_entry-entry-requires c =
-    (c.requires.0, c.requires.1)
-
-pub row_of-requires : goal.row_of-requires
-row_of-requires c =
-    row_fits c.args.sent.now c.requires.1 c.requires.2
-
 pub row_difference_with-requires : goal.row_difference_with-requires
 row_difference_with-requires c =
     let sent = c.args.sent.now in

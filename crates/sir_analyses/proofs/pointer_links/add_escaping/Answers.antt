@@ -1,5 +1,5 @@
 -- `add_escaping` meets its contract. The invariant: of the first k inputs, those that escape are added.
-use mathlib.Core.Path.{◌≡◌, refl, sym, ◌∙◌}
+use mathlib.Core.Path.{◌≡◌, sym, ◌∙◌}
 use mathlib.Core.Bool.{true, false}
 use lib.ListN.{length, get_or}
 use Rattle.sir_data.specs.Records.{code, ins}
@@ -10,21 +10,6 @@ use Rattle.sir_analyses.proofs.pointer_links.PointerLinks.{escaping_at, escaping
 use native.Mathlib.Omega.{arith}
 use Rattle.sir_analyses.proofs.pointer_links.add_escaping.Goals as goal
 use Rattle.sir_analyses.proofs.pointer_links.add_escaping.Goals.{else-operation_causes_ptr_escape, then-operation_causes_ptr_escape}
-
-pub op_word-code-requires : goal.op_word-code-requires
-op_word-code-requires c =
-    record { sized = c.requires.well_formed.sized; o_bound = c.requires.o_bound.0; k_bound = omega arith }
-
-pub op_inputs-inputs-requires : goal.op_inputs-inputs-requires
-op_inputs-inputs-requires c =
-    record { sized = c.requires.well_formed.sized; in_range = c.requires.well_formed.in_range; o_bound = c.requires.o_bound.0 }
-
-pub loop-k-init : goal.loop-k-init
-loop-k-init c = (omega arith, adds_none (λ r v h. refl))
-
-pub operation_causes_ptr_escape-requires : goal.operation_causes_ptr_escape-requires
-operation_causes_ptr_escape-requires c =
-    omega (arith, c.requires.well_formed.in_range.code_most c.args.o.0 c.requires.o_bound.0, c.op_word-code.ensures)
 
 pub row_add-requires : goal.row_add-requires
 row_add-requires c =
@@ -41,9 +26,6 @@ loop-k-preserved c =
     let a : Adds l.causes (escaping_at code xs l.k) c.if-operation_causes_ptr_escape.causes =
     elim c.if-operation_causes_ptr_escape.branch [ then-operation_causes_ptr_escape x ↦ let t : escaping code l.k ≡ true = sym e ∙ x.if-operation_causes_ptr_escape.true in rw (x.causes-is, x.row_add.ensures.1) (adds_as (λ r v i. rw t) (adds_one l.causes 0 (get_or xs l.k 0) h)) | else-operation_causes_ptr_escape x ↦ let t : escaping code l.k ≡ false = sym e ∙ x.if-operation_causes_ptr_escape.false in rw x.causes-is (adds_none (λ r v i. rw t)) ] in
     (omega arith, adds_counted (escaping_at code xs) l.k l.invariant.1 a)
-
-pub shape_of-causes : goal.shape_of-causes
-shape_of-causes c = c.loop-k.invariant.1.long
 
 pub returns : goal.returns
 returns c =

@@ -1,29 +1,13 @@
 -- `add_operations` meets its contract. The invariant: the operations below o are added.
-use mathlib.Core.Path.{◌≡◌, ap, ap₂}
-use Prim.Native.Nat.{◌+◌, ◌*◌, ◌/◌, ◌%◌, ◌<◌}
+use mathlib.Core.Path.{◌≡◌}
+use Prim.Native.Nat.{◌+◌, ◌*◌, ◌/◌, ◌%◌}
 use lib.Dec.{eqb}
-use Rattle.plank_core.specs.Lists.{range, mem}
-use Rattle.plank_core.specs.laws.Loops.{range_none}
-use Rattle.sir_data.specs.Records.{operations, block_word, ops}
 use Rattle.sir_analyses.specs.inner.Tables.{Adds}
-use Rattle.sir_analyses.proofs.Tables.{adds_as, adds_then, adds_none}
+use Rattle.sir_analyses.proofs.Tables.{adds_as, adds_then}
 use Rattle.sir_analyses.proofs.pointer_links.PointerLinks.{adds_number}
 use Rattle.plank_core.specs.laws.Prefixes.{range_more}
 use native.Mathlib.Omega.{arith}
 use Rattle.sir_analyses.proofs.pointer_links.add_operations.Goals as goal
-
-pub loop-o-init : goal.loop-o-init
-loop-o-init c = let first = c.operations-span.result.start in (
-  omega arith,
-  omega (arith, c.requires.well_formed.in_range.ops_range c.args.b.0 c.requires.b_bound.0, c.operations-span.ensures),
-  adds_none (λ r i h. ap (mem (512 * r + i)) (range_none first first (omega arith))),
-)
-
-pub row_add-requires : goal.row_add-requires
-row_add-requires c =
-    let l = c.loop-o in
-    let h : l.o < operations c.args.words.now = omega (arith, c.requires.well_formed.in_range.ops_range c.args.b.0 c.requires.b_bound.0, c.operations-span.ensures) in
-    (omega (arith, c.requires.well_formed.sized.operations_most, l.invariant.2.long), omega arith)
 
 pub loop-o-preserved : goal.loop-o-preserved
 loop-o-preserved c =
@@ -31,14 +15,3 @@ loop-o-preserved c =
     let n : 512 * (l.o / 512) + l.o % 512 ≡ l.o = omega arith in
     let a : Adds l.visited (λ r i. eqb (512 * r + i) l.o) c.row_add.new.table = rw (c.row_add.ensures.1, n) (adds_number l.visited l.o) in
     (omega arith, omega arith, adds_as (λ r i h. range_more (512 * r + i) c.operations-span.result.start l.o l.invariant.0) (adds_then l.invariant.2 a))
-
-pub shape_of-visited : goal.shape_of-visited
-shape_of-visited c = c.loop-o.invariant.2.long
-
-pub returns : goal.returns
-returns c = let l = c.loop-o in
-    let b = c.operations-span in
-    let w = c.args.words.now in
-    let last : l.o ≡ block_word w c.args.b.0 5 = omega (arith, b.ensures) in
-    let os : range b.result.start l.o ≡ ops w c.args.b.0 = ap₂ range b.ensures.0 last in
-    adds_as (λ r i h. ap (mem (512 * r + i)) os) l.invariant.2

@@ -1,5 +1,5 @@
 -- `link_blocks` meets its contract. The invariant: the edges of the first i blocks are linked, and what these return is added.
-use mathlib.Core.Path.{◌∙◌, refl}
+use mathlib.Core.Path.{◌∙◌}
 use mathlib.Core.Bool.{◌&&◌}
 use Prim.Native.Nat.{◌<◌}
 use lib.ListN.{get_or}
@@ -9,58 +9,44 @@ use Rattle.plank_core.specs.laws.Lists.{get_or_mem}
 use Rattle.sir_data.specs.Records.{blocks, successors, returned}
 use Rattle.sir_analyses.specs.inner.Pointers.{passes_by}
 use Rattle.sir_analyses.proofs.claims.order.OrderLength.{rpo_below}
-use Rattle.sir_analyses.proofs.Tables.{adds_none}
 use Rattle.sir_analyses.proofs.Accepted.{returned_below}
 use Rattle.sir_analyses.proofs.block_sets.BlockSets.{small}
 use Rattle.sir_analyses.proofs.pointer_links.PointerLinks.{adds_listed, adds_all}
 use native.Mathlib.Omega.{arith}
 use Rattle.sir_analyses.proofs.pointer_links.link_blocks.Goals as goal
 
-pub rpo-order-requires : goal.rpo-order-requires
-rpo-order-requires c =
-    (c.requires.visit_stage.long, c.requires.visit_stage.few)
-
-pub loop-i-init : goal.loop-i-init
-loop-i-init c = (omega arith, adds_none (λ v u h. refl), adds_none (λ r v h. refl))
-
 pub link_edges-requires : goal.link_edges-requires
 link_edges-requires c =
-    let l = c.loop-i in
-    let order = c.rpo-order.result.now in
-    record { well_formed = c.requires.visit_stage.well_formed; b_bound = (rpo_below c.args.words.now c.requires.visit_stage.well_formed (c.rpo-order.ensures ∙ c.requires.visit_stage.rpo_is) (get_or order l.i 0) (get_or_mem order l.i 0 c.loop-i-test.true), l.invariant.1.long ∙ c.requires.links_len.0) }
+    let l = c.loop-id in
+    let order = c.rpo-id-items.result.now in
+    record { well_formed = c.requires.visit_stage.well_formed; b_bound = (rpo_below c.args.words.now c.requires.visit_stage.well_formed (c.rpo-id-items.ensures ∙ c.requires.visit_stage.rpo_is) (get_or order l.id-index 0) (get_or_mem order l.id-index 0 c.loop-id-test.true), l.invariant.1.long ∙ c.requires.links_len.0) }
 
 pub returned_outputs-requires : goal.returned_outputs-requires
 returned_outputs-requires c =
-    let l = c.loop-i in
-    let order = c.rpo-order.result.now in
-    record { sized = c.requires.visit_stage.well_formed.sized; in_range = c.requires.visit_stage.well_formed.in_range; b_bound = rpo_below c.args.words.now c.requires.visit_stage.well_formed (c.rpo-order.ensures ∙ c.requires.visit_stage.rpo_is) (get_or order l.i 0) (get_or_mem order l.i 0 c.loop-i-test.true) }
+    let l = c.loop-id in
+    let order = c.rpo-id-items.result.now in
+    record { sized = c.requires.visit_stage.well_formed.sized; in_range = c.requires.visit_stage.well_formed.in_range; b_bound = rpo_below c.args.words.now c.requires.visit_stage.well_formed (c.rpo-id-items.ensures ∙ c.requires.visit_stage.rpo_is) (get_or order l.id-index 0) (get_or_mem order l.id-index 0 c.loop-id-test.true) }
 
 pub add_run-requires : goal.add_run-requires
 add_run-requires c =
-    let l = c.loop-i in
+    let l = c.loop-id in
     let w = c.args.words.now in
-    let order = c.rpo-order.result.now in
-    let h : get_or order l.i 0 < blocks w = rpo_below w c.requires.visit_stage.well_formed (c.rpo-order.ensures ∙ c.requires.visit_stage.rpo_is) (get_or order l.i 0) (get_or_mem order l.i 0 c.loop-i-test.true) in
-    record { row_in_bounds = omega (arith, l.invariant.2.long, c.requires.links_len.1); by_index = λ v m. small c.requires.visit_stage.well_formed (returned_below c.args.words.now c.requires.visit_stage.well_formed (get_or order l.i 0) v h (rw c.returned_outputs.ensures at m)) }
+    let order = c.rpo-id-items.result.now in
+    let h : get_or order l.id-index 0 < blocks w = rpo_below w c.requires.visit_stage.well_formed (c.rpo-id-items.ensures ∙ c.requires.visit_stage.rpo_is) (get_or order l.id-index 0) (get_or_mem order l.id-index 0 c.loop-id-test.true) in
+    record { row_in_bounds = omega (arith, l.invariant.2.long, c.requires.links_len.1); by_index = λ v m. small c.requires.visit_stage.well_formed (returned_below c.args.words.now c.requires.visit_stage.well_formed (get_or order l.id-index 0) v h (rw c.returned_outputs.ensures at m)) }
 
-pub loop-i-preserved : goal.loop-i-preserved
-loop-i-preserved c =
-    let l = c.loop-i in
+pub loop-id-preserved : goal.loop-id-preserved
+loop-id-preserved c =
+    let l = c.loop-id in
     let w = c.args.words.now in
-    let order = c.rpo-order.result.now in (
+    let order = c.rpo-id-items.result.now in (
       omega arith,
-      adds_listed (λ b v u. any (λ t. passes_by w b t v u) (successors w b)) order l.i c.loop-i-test.true l.invariant.1 c.link_edges.ensures,
-      adds_listed (λ b r v. eqb r 1 && mem v (returned w b)) order l.i c.loop-i-test.true l.invariant.2 (rw c.returned_outputs.ensures at c.add_run.ensures),
+      adds_listed (λ b v u. any (λ t. passes_by w b t v u) (successors w b)) order l.id-index c.loop-id-test.true l.invariant.1 c.link_edges.ensures,
+      adds_listed (λ b r v. eqb r 1 && mem v (returned w b)) order l.id-index c.loop-id-test.true l.invariant.2 (rw c.returned_outputs.ensures at c.add_run.ensures),
     )
-
-pub shape_of-links : goal.shape_of-links
-shape_of-links c = c.loop-i.invariant.1.long
-
-pub shape_of-causes : goal.shape_of-causes
-shape_of-causes c = c.loop-i.invariant.2.long
 
 pub returns : goal.returns
 returns c =
-    let l = c.loop-i in
+    let l = c.loop-id in
     let w = c.args.words.now in
-    let order = c.rpo-order.result.now in record { adds = rw (c.rpo-order.ensures ∙ c.requires.visit_stage.rpo_is) at (adds_all (λ b v u. any (λ t. passes_by w b t v u) (successors w b)) order l.i c.loop-i-test.false l.invariant.1); adds_2 = rw (c.rpo-order.ensures ∙ c.requires.visit_stage.rpo_is) at (adds_all (λ b r v. eqb r 1 && mem v (returned w b)) order l.i c.loop-i-test.false l.invariant.2) }
+    let order = c.rpo-id-items.result.now in record { adds = rw (c.rpo-id-items.ensures ∙ c.requires.visit_stage.rpo_is) at (adds_all (λ b v u. any (λ t. passes_by w b t v u) (successors w b)) order l.id-index c.loop-id-test.false l.invariant.1); adds_2 = rw (c.rpo-id-items.ensures ∙ c.requires.visit_stage.rpo_is) at (adds_all (λ b r v. eqb r 1 && mem v (returned w b)) order l.id-index c.loop-id-test.false l.invariant.2) }

@@ -1,24 +1,11 @@
 -- `link_edge` meets its contract. The invariant: the first k outputs are linked.
-use mathlib.Core.Path.{◌≡◌, refl}
+use mathlib.Core.Path.{◌≡◌}
 use lib.ListN.{length, get_or}
 use Rattle.sir_analyses.specs.inner.Tables.{Adds}
-use Rattle.sir_analyses.proofs.Tables.{adds_none, adds_one}
+use Rattle.sir_analyses.proofs.Tables.{adds_one}
 use Rattle.sir_analyses.proofs.pointer_links.PointerLinks.{passed, adds_counted, edge_places}
 use native.Mathlib.Omega.{arith}
 use Rattle.sir_analyses.proofs.pointer_links.link_edge.Goals as goal
-
-pub inputs-taken-requires : goal.inputs-taken-requires
-inputs-taken-requires c = record { sized = c.requires.well_formed.sized; in_range = c.requires.well_formed.in_range; b_bound = c.requires.well_formed.in_range.successor c.args.b.0 c.args.s.0 c.requires.b_bound.0 c.requires.b_bound.1 }
-
-pub loop-k-init : goal.loop-k-init
-loop-k-init c = (omega arith, adds_none (λ v u h. refl))
-
-pub overflow_cast-given : goal.overflow_cast-given
-overflow_cast-given c = omega (arith, c.type_inv.given c.loop-k.k)
-
-pub bounds-taken-k : goal.bounds-taken-k
-bounds-taken-k c =
-    (edge_places c.requires.well_formed c.args.b.0 c.args.s.0 c.loop-k.k c.outputs-given.ensures c.inputs-taken.ensures c.requires.b_bound.0 c.requires.b_bound.1 c.loop-k-test.true).0
 
 pub row_add-requires : goal.row_add-requires
 row_add-requires c =
@@ -34,9 +21,6 @@ loop-k-preserved c =
     let p = edge_places c.requires.well_formed c.args.b.0 c.args.s.0 l.k c.outputs-given.ensures c.inputs-taken.ensures c.requires.b_bound.0 c.requires.b_bound.1 c.loop-k-test.true in
     let a : Adds l.links (passed xs ys l.k) c.row_add.new.table = rw c.row_add.ensures.1 (adds_one l.links (get_or xs l.k 0) (get_or ys l.k 0) p.2) in
     (omega arith, adds_counted (passed xs ys) l.k l.invariant.1 a)
-
-pub shape_of-links : goal.shape_of-links
-shape_of-links c = c.loop-k.invariant.1.long
 
 pub returns : goal.returns
 returns c =

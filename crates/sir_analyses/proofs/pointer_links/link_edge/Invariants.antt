@@ -1,5 +1,5 @@
 -- `link_edge` meets its contract. The invariant: the first k outputs are linked.
-use Prim.Native.Nat.{◌-◌, ◌≤◌}
+use Prim.Native.Nat.{◌≤◌}
 use lib.ListN.{length}
 use Rattle.plank_core.specs.Lists.{upto, any}
 use Rattle.sir_analyses.specs.inner.Tables.{Adds}
@@ -8,6 +8,3 @@ use Rattle.sir_analyses.proofs.pointer_links.link_edge.Given as goal
 
 abbrev pub invariant-loop-k : goal.invariant-loop-k
 invariant-loop-k l = (l.k ≤ length l.given) × Adds l.initial.links (λ v u. any (λ j. passed l.given l.taken j v u) (upto l.k)) l.links
-
-abbrev pub decreases-loop-k : goal.decreases-loop-k
-decreases-loop-k l = length l.given - l.k

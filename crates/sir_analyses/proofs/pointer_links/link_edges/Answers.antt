@@ -1,21 +1,13 @@
 -- `link_edges` meets its contract. The invariant: the edges to the first i successors are linked.
-use mathlib.Core.Path.{refl, ◌∙◌}
+use mathlib.Core.Path.{◌∙◌}
 use Prim.Native.Nat.{◌≤◌, ◌<◌}
 use lib.ListN.{length}
 use Rattle.plank_core.specs.laws.Lists.{get_or_mem}
 use Rattle.sir_data.specs.Records.{successors}
 use Rattle.sir_analyses.specs.inner.Pointers.{passes_by}
-use Rattle.sir_analyses.proofs.Tables.{adds_none}
 use Rattle.sir_analyses.proofs.pointer_links.PointerLinks.{adds_listed, adds_all}
 use native.Mathlib.Omega.{arith}
 use Rattle.sir_analyses.proofs.pointer_links.link_edges.Goals as goal
-
-pub loop-i-init : goal.loop-i-init
-loop-i-init c = (omega arith, adds_none (λ v u h. refl))
-
-pub successor-s-requires : goal.successor-s-requires
-successor-s-requires c =
-    record { sized = c.requires.well_formed.sized; in_range = c.requires.well_formed.in_range; b_bound = c.requires.b_bound.0; i_in_bounds = omega (arith, c.successor_count-count.ensures) }
 
 pub link_edge-requires : goal.link_edge-requires
 link_edge-requires c =
@@ -31,9 +23,6 @@ loop-i-preserved c =
     let b = c.args.b.0 in
     let i : l.i < length (successors w b) = omega (arith, c.successor_count-count.ensures) in
     (omega arith, adds_listed (λ t v u. passes_by w b t v u) (successors w b) l.i i l.invariant.1 (rw c.successor-s.ensures at c.link_edge.ensures))
-
-pub shape_of-links : goal.shape_of-links
-shape_of-links c = c.loop-i.invariant.1.long
 
 pub returns : goal.returns
 returns c =

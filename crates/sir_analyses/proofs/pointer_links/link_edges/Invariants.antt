@@ -1,5 +1,5 @@
 -- `link_edges` meets its contract. The invariant: the edges to the first i successors are linked.
-use Prim.Native.Nat.{◌-◌, ◌≤◌}
+use Prim.Native.Nat.{◌≤◌}
 use lib.ListN.{take}
 use Rattle.plank_core.specs.Lists.{any}
 use Rattle.sir_data.specs.Records.{successors}
@@ -9,6 +9,3 @@ use Rattle.sir_analyses.proofs.pointer_links.link_edges.Given as goal
 
 abbrev pub invariant-loop-i : goal.invariant-loop-i
 invariant-loop-i l = (l.i ≤ l.count) × Adds l.initial.links (λ v u. any (λ s. passes_by l.words l.b.0 s v u) (take l.i (successors l.words l.b.0))) l.links
-
-abbrev pub decreases-loop-i : goal.decreases-loop-i
-decreases-loop-i l = l.count - l.i

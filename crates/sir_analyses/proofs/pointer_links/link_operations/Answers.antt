@@ -1,5 +1,5 @@
 -- `link_operations` meets its contract. The invariant: the visited operations below o are linked, and their escaping locals added.
-use mathlib.Core.Path.{◌≡◌, refl, sym, ap, ◌∙◌}
+use mathlib.Core.Path.{◌≡◌, sym, ap, ◌∙◌}
 use mathlib.Core.Bool.{◌&&◌}
 use Prim.Native.Nat.{◌+◌, ◌*◌, ◌/◌, ◌%◌, ◌<◌}
 use lib.Dec.{eqb}
@@ -14,21 +14,6 @@ use native.Mathlib.Omega.{arith}
 use Rattle.sir_analyses.proofs.pointer_links.link_operations.Goals as goal
 use Rattle.sir_analyses.proofs.pointer_links.link_operations.Goals.{else-row_contains, then-row_contains}
 
-pub loop-o-init : goal.loop-o-init
-loop-o-init c = (omega arith, adds_none (λ v u h. refl), adds_none (λ r v h. refl))
-
-pub row_contains-requires : goal.row_contains-requires
-row_contains-requires c =
-    (omega (arith, c.requires.visited_len.0, c.requires.well_formed.sized.operations_most, c.operation_count-count.ensures), omega arith)
-
-pub link_operation-requires : goal.link_operation-requires
-link_operation-requires c =
-    record { well_formed = c.requires.well_formed; o_bound = (omega (arith, c.operation_count-count.ensures), c.loop-o.invariant.1.long ∙ c.requires.links_len.0) }
-
-pub add_escaping-requires : goal.add_escaping-requires
-add_escaping-requires c =
-    record { well_formed = c.requires.well_formed; o_bound = (omega (arith, c.operation_count-count.ensures), c.loop-o.invariant.2.long ∙ c.requires.links_len.1) }
-
 pub loop-o-preserved : goal.loop-o-preserved
 loop-o-preserved c =
     let l = c.loop-o in
@@ -41,12 +26,6 @@ loop-o-preserved c =
     let b : Adds l.causes (λ r v. is_visited_op w l.o && (eqb r 0 && escapes_by w l.o v)) c.if-row_contains.causes =
     elim c.if-row_contains.branch [ then-row_contains x ↦ rw x.causes-is (adds_as (λ r v i. rw (sym seen ∙ x.if-row_contains.true)) x.add_escaping.ensures) | else-row_contains x ↦ rw x.causes-is (adds_none (λ r v i. rw (sym seen ∙ x.if-row_contains.false))) ] in
     (omega arith, adds_counted (λ p v u. is_visited_op w p && derives_by w p v u) l.o l.invariant.1 a, adds_counted (λ p r v. is_visited_op w p && (eqb r 0 && escapes_by w p v)) l.o l.invariant.2 b)
-
-pub shape_of-links : goal.shape_of-links
-shape_of-links c = c.loop-o.invariant.1.long
-
-pub shape_of-causes : goal.shape_of-causes
-shape_of-causes c = c.loop-o.invariant.2.long
 
 pub returns : goal.returns
 returns c =

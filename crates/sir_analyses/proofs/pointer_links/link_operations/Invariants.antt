@@ -1,6 +1,6 @@
 -- `link_operations` meets its contract. The invariant: the visited operations below o are linked, and their escaping locals added.
 use mathlib.Core.Bool.{◌&&◌}
-use Prim.Native.Nat.{◌-◌, ◌≤◌}
+use Prim.Native.Nat.{◌≤◌}
 use lib.Dec.{eqb}
 use Rattle.plank_core.specs.Lists.{upto, any}
 use Rattle.sir_analyses.specs.inner.Tables.{Adds}
@@ -10,6 +10,3 @@ use Rattle.sir_analyses.proofs.pointer_links.link_operations.Given as goal
 
 abbrev pub invariant-loop-o : goal.invariant-loop-o
 invariant-loop-o l = (l.o ≤ l.count) × Adds l.initial.links (λ v u. any (λ p. is_visited_op l.words p && derives_by l.words p v u) (upto l.o)) l.links × Adds l.initial.causes (λ r v. any (λ p. is_visited_op l.words p && (eqb r 0 && escapes_by l.words p v)) (upto l.o)) l.causes
-
-abbrev pub decreases-loop-o : goal.decreases-loop-o
-decreases-loop-o l = l.count - l.o

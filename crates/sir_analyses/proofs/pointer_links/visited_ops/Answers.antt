@@ -1,37 +1,18 @@
 -- `visited_ops` meets its contract. The invariant: the operations of the first i blocks are added.
-use mathlib.Core.Path.{◌∙◌, refl}
-use Prim.Native.Nat.{◌+◌, ◌*◌}
+use mathlib.Core.Path.{◌∙◌}
 use lib.ListN.{get_or}
-use Rattle.plank_core.specs.Lists.{mem}
 use Rattle.plank_core.specs.laws.Lists.{get_or_mem}
-use Rattle.sir_data.specs.Records.{ops}
 use Rattle.sir_analyses.proofs.claims.order.OrderLength.{rpo_below}
-use Rattle.sir_analyses.proofs.Tables.{adds_none, cleared_long}
-use Rattle.sir_analyses.proofs.pointer_links.PointerLinks.{adds_listed, visited_all}
-use native.Mathlib.Omega.{arith}
+use Rattle.sir_analyses.proofs.Tables.{cleared_long}
+use Rattle.sir_analyses.proofs.pointer_links.PointerLinks.{visited_all}
 use Rattle.sir_analyses.proofs.pointer_links.visited_ops.Goals as goal
-
-pub rpo-order-requires : goal.rpo-order-requires
-rpo-order-requires c = (c.requires.visit_stage.long, c.requires.visit_stage.few)
-
-pub loop-i-init : goal.loop-i-init
-loop-i-init c = (omega arith, adds_none (λ r n h. refl))
 
 pub add_operations-requires : goal.add_operations-requires
 add_operations-requires c =
-    let l = c.loop-i in
-    let order = c.rpo-order.result.now in
-    record { well_formed = c.requires.visit_stage.well_formed; b_bound = (rpo_below c.args.words.now c.requires.visit_stage.well_formed (c.rpo-order.ensures ∙ c.requires.visit_stage.rpo_is) (get_or order l.i 0) (get_or_mem order l.i 0 c.loop-i-test.true), l.invariant.1.long ∙ cleared_long c.args.visited.now 16 c.requires.visited_value) }
-
-pub loop-i-preserved : goal.loop-i-preserved
-loop-i-preserved c =
-    let l = c.loop-i in
-    let w = c.args.words.now in
-    (omega arith, adds_listed (λ b r n. mem (512 * r + n) (ops w b)) c.rpo-order.result.now l.i c.loop-i-test.true l.invariant.1 c.add_operations.ensures)
-
-pub shape_of-visited : goal.shape_of-visited
-shape_of-visited c = c.loop-i.invariant.1.long
+    let l = c.loop-b in
+    let order = c.rpo-b-items.result.now in
+    record { well_formed = c.requires.visit_stage.well_formed; b_bound = (rpo_below c.args.words.now c.requires.visit_stage.well_formed (c.rpo-b-items.ensures ∙ c.requires.visit_stage.rpo_is) (get_or order l.b-index 0) (get_or_mem order l.b-index 0 c.loop-b-test.true), l.invariant.1.long ∙ cleared_long c.args.visited.now 16 c.requires.visited_value) }
 
 pub returns : goal.returns
 returns c =
-    visited_all c.args.words.now c.loop-i.i c.requires.visited_value (c.rpo-order.ensures ∙ c.requires.visit_stage.rpo_is) c.loop-i-test.false c.loop-i.invariant.1
+    visited_all c.args.words.now c.loop-b.b-index c.requires.visited_value (c.rpo-b-items.ensures ∙ c.requires.visit_stage.rpo_is) c.loop-b-test.false c.loop-b.invariant.1

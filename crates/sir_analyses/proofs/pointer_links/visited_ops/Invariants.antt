@@ -1,13 +1,10 @@
 -- `visited_ops` meets its contract. The invariant: the operations of the first i blocks are added.
-use Prim.Native.Nat.{◌+◌, ◌-◌, ◌*◌, ◌≤◌}
+use Prim.Native.Nat.{◌+◌, ◌*◌, ◌≤◌}
 use lib.ListN.{length, take}
 use Rattle.plank_core.specs.Lists.{any, mem}
 use Rattle.sir_data.specs.Records.{ops}
 use Rattle.sir_analyses.specs.inner.Tables.{Adds}
 use Rattle.sir_analyses.proofs.pointer_links.visited_ops.Given as goal
 
-abbrev pub invariant-loop-i : goal.invariant-loop-i
-invariant-loop-i l = (l.i ≤ length l.order) × Adds l.initial.visited (λ r n. any (λ b. mem (512 * r + n) (ops l.words b)) (take l.i l.order)) l.visited
-
-abbrev pub decreases-loop-i : goal.decreases-loop-i
-decreases-loop-i l = length l.order - l.i
+abbrev pub invariant-loop-b : goal.invariant-loop-b
+invariant-loop-b l = (l.b-index ≤ length l.b-items) × Adds l.initial.visited (λ r n. any (λ b. mem (512 * r + n) (ops l.words b)) (take l.b-index l.b-items)) l.visited

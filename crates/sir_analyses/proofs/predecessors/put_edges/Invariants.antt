@@ -1,5 +1,5 @@
 -- `put_edges` meets its contract. The invariant: the edges of the successors left are to be put.
-use Prim.Native.Nat.{◌-◌, ◌≤◌}
+use Prim.Native.Nat.{◌≤◌}
 use Rattle.sir_analyses.specs.Order.{edges_from}
 use Rattle.sir_analyses.proofs.answers.Writing.{Putting}
 use Rattle.sir_analyses.proofs.predecessors.Edges.{edges_left}
@@ -7,6 +7,3 @@ use Rattle.sir_analyses.proofs.predecessors.put_edges.Given as goal
 
 abbrev pub invariant-loop-i : goal.invariant-loop-i
 invariant-loop-i l = (l.i ≤ l.count) × Putting l.n (edges_from l.words l.p.0 l.b.0) l.initial.out (edges_left l.words l.p.0 l.b.0 l.i) l.out l.m
-
-abbrev pub decreases-loop-i : goal.decreases-loop-i
-decreases-loop-i l = l.count - l.i

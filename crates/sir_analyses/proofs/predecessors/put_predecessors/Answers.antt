@@ -1,24 +1,14 @@
 -- `put_predecessors` meets its contract. The invariant: the predecessors from block p on are to be put.
 use mathlib.Core.Path.{◌≡◌, sym, ◌∙◌}
-use mathlib.Core.Bool.{true, false}
+use mathlib.Core.Bool.{true}
 use Prim.Native.Nat.{◌+◌, ◌<◌}
 use native.Mathlib.Omega.{arith}
-use Rattle.plank_core.specs.laws.Loops.{range_all}
 use Rattle.sir_data.specs.Records.{blocks}
 use Rattle.sir_analyses.specs.Order.{is_visited, edges_from}
-use Rattle.sir_analyses.proofs.answers.Writing.{putting_none, putting_as, putting_count, putting_more, putting_all}
+use Rattle.sir_analyses.proofs.answers.Writing.{putting_as, putting_count, putting_more, putting_all}
 use Rattle.sir_analyses.proofs.predecessors.Edges.{predecessors_most, predecessors_left, visited_step, unvisited_step, visited_end}
 use Rattle.sir_analyses.proofs.predecessors.put_predecessors.Goals as goal
-
-pub block_count-count-requires : goal.block_count-count-requires
-block_count-count-requires c = omega (arith, c.requires.well_formed.sized)
-
-pub loop-p-init : goal.loop-p-init
-loop-p-init c = (omega arith, putting_as (rw (c.block_count-count.ensures, range_all)) putting_none)
-
-pub is_visited-requires : goal.is_visited-requires
-is_visited-requires c =
-    (c.requires.long, omega (arith, c.block_count-count.ensures, c.requires.well_formed.sized.blocks_most, c.loop-p-test.true))
+use Rattle.sir_analyses.proofs.predecessors.put_predecessors.Goals.{else-is_visited, then-is_visited}
 
 pub put_edges-m-requires : goal.put_edges-m-requires
 put_edges-m-requires c =
@@ -30,27 +20,19 @@ put_edges-m-requires c =
     let e = visited_step w (λ q. edges_from w q c.args.b.0) L.p n c.loop-p-test.true t in
     record { well_formed = c.requires.well_formed; p_bound = h; b_bound = putting_count (edges_from w L.p c.args.b.0) (predecessors_left w c.args.b.0 (L.p + 1) n) (omega (arith, predecessors_most w c.requires.well_formed c.args.b.0)) (putting_as e L.invariant.1) }
 
-pub loop-p-preserved-then-is_visited : goal.loop-p-preserved-then-is_visited
-loop-p-preserved-then-is_visited c =
-    let L = c.loop-p in
-    let w = c.args.words.now in
-    let h : L.p < blocks w = omega (arith, c.block_count-count.ensures, c.loop-p-test.true) in
-    let n = c.block_count-count.result in
-    let t : is_visited w L.p ≡ true = sym (c.requires.visited_is L.p h) ∙ sym c.is_visited.ensures ∙ c.if-is_visited.true in
-    let e = visited_step w (λ q. edges_from w q c.args.b.0) L.p n c.loop-p-test.true t in
-    (omega arith, putting_more (putting_as e L.invariant.1) c.put_edges-m.ensures)
-
 pub loop-p-preserved : goal.loop-p-preserved
 loop-p-preserved c =
     let L = c.loop-p in
     let w = c.args.words.now in
     let h : L.p < blocks w = omega (arith, c.block_count-count.ensures, c.loop-p-test.true) in
     let n = c.block_count-count.result in
-    let t : is_visited w L.p ≡ false = sym (c.requires.visited_is L.p h) ∙ sym c.is_visited.ensures ∙ c.if-is_visited.false in
-    (omega arith, putting_as (unvisited_step w (λ q. edges_from w q c.args.b.0) L.p n c.loop-p-test.true t) L.invariant.1)
-
-pub shape_of-out : goal.shape_of-out
-shape_of-out c = c.loop-p.invariant.1.long
+    let told = sym (c.requires.visited_is L.p h) ∙ sym c.is_visited.ensures in (
+      omega arith,
+      elim c.if-is_visited.branch [
+        | then-is_visited x ↦ rw (x.out-is, x.m-is) (putting_more (putting_as (visited_step w (λ q. edges_from w q c.args.b.0) L.p n c.loop-p-test.true (told ∙ x.if-is_visited.true)) L.invariant.1) x.put_edges-m.ensures)
+        | else-is_visited x ↦ rw (x.out-is, x.m-is) (putting_as (unvisited_step w (λ q. edges_from w q c.args.b.0) L.p n c.loop-p-test.true (told ∙ x.if-is_visited.false)) L.invariant.1)
+      ],
+    )
 
 pub returns : goal.returns
 returns c =

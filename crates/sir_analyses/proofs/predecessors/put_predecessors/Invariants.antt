@@ -1,5 +1,5 @@
 -- `put_predecessors` meets its contract. The invariant: the predecessors from block p on are to be put.
-use Prim.Native.Nat.{◌-◌, ◌≤◌}
+use Prim.Native.Nat.{◌≤◌}
 use Rattle.sir_analyses.specs.Order.{predecessors}
 use Rattle.sir_analyses.proofs.answers.Writing.{Putting}
 use Rattle.sir_analyses.proofs.predecessors.Edges.{predecessors_left}
@@ -7,6 +7,3 @@ use Rattle.sir_analyses.proofs.predecessors.put_predecessors.Given as goal
 
 abbrev pub invariant-loop-p : goal.invariant-loop-p
 invariant-loop-p l = (l.p ≤ l.count) × Putting 0 (predecessors l.words l.b.0) l.initial.out (predecessors_left l.words l.b.0 l.p l.count) l.out l.m
-
-abbrev pub decreases-loop-p : goal.decreases-loop-p
-decreases-loop-p l = l.count - l.p

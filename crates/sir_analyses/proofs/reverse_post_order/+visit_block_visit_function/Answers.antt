@@ -12,7 +12,7 @@ use Rattle.sir_analyses.specs.inner.Visiting.{Held, VisitStep}
 use Rattle.sir_analyses.proofs.reverse_post_order.Visiting.{Entered, enter_function, enter_block, skip_function, skip_block, then, Going, going_none, going_as, going_more, going_all, fits, done_function, done_block, calls_end, calls_skip, calls_call, callee_below, successor_next, successor_below}
 use Rattle.sir_analyses.proofs.reverse_post_order.+visit_block_visit_function.Invariants.{fuel}
 use Rattle.sir_analyses.proofs.reverse_post_order.+visit_block_visit_function.Goals as goal
-use Rattle.sir_analyses.proofs.reverse_post_order.+visit_block_visit_function.Goals.{visit_block-then-c-ne0, visit_block-else-c-ne0}
+use Rattle.sir_analyses.proofs.reverse_post_order.+visit_block_visit_function.Goals.{visit_block-in-Some, visit_block-in_default}
 
 -- what `row_add` answers: whether the item was not seen
 was_new : {fresh : Bool} (seen : Bool) → fresh ≡ not seen → fresh ≡ true → seen ≡ false
@@ -53,7 +53,7 @@ visit_block-visit_function-m-requires t c =
     let calls = c.calls.invariant.1 in
     let entered = block_entered ok c.requires.held c.args.b.0 c.requires.b_bound c.row_add.ensures c.if-not-row_add.false in
     let operations_below = ok.in_range.ops_range c.args.b.0 c.requires.b_bound in
-    let below = callee_below ok c.calls.o _ (omega (arith, operations_below, c.block_operations-span.ensures, c.calls-test.true)) c.callee_plus_one-c.ensures c.if-c-ne0.true in
+    let below = callee_below ok c.calls.o _ (omega (arith, operations_below, c.block_operations-span.ensures, c.calls-test.true)) c.in-Some.ensures in
     (omega (arith, entered.fewer, c.decreases, calls.down), (ok, (below, calls.held)))
 
 pub visit_block-calls-preserved : goal.visit_block-calls-preserved
@@ -61,12 +61,11 @@ visit_block-calls-preserved t c =
     let w = c.args.words.now in
     let o = c.calls.o in
     let last = c.block_operations-span.result.end in
-    let turn = c.calls-test.true in
-    let e = c.callee_plus_one-c.ensures in (
+    let turn = c.calls-test.true in (
       omega (arith, c.calls.invariant.0),
-      elim c.if-c-ne0.branch [
-        | visit_block-then-c-ne0 x ↦ rw (x.seen-is, x.postorder-is, x.m-is) (going_more (going_as (calls_call w o last _ turn e x.if-c-ne0.true) c.calls.invariant.1) x.visit_function-m.ensures)
-        | visit_block-else-c-ne0 x ↦ rw (x.seen-is, x.postorder-is, x.m-is) (going_as (calls_skip w o last _ turn e x.if-c-ne0.false) c.calls.invariant.1)
+      elim c.match-callee.branch [
+        | visit_block-in-Some x ↦ rw (x.seen-is, x.postorder-is, x.m-is) (going_more (going_as (calls_call w o last turn _ x.in-Some.ensures) c.calls.invariant.1) x.visit_function-m.ensures)
+        | visit_block-in_default x ↦ rw (x.seen-is, x.postorder-is, x.m-is) (going_as (calls_skip w o last turn x.in_default.ensures) c.calls.invariant.1)
       ],
     )
 

@@ -1,6 +1,6 @@
 -- `visit_function` and `visit_block`, which call one another: unseen functions plus unseen blocks fall. The loops' invariants: some of
 -- what a block calls, or of its successors, is visited, the rest is left.
-use Rattle.std.proofs.Common.{ℕ, ◌+◌, ◌-◌, ◌≤◌, List, drop}
+use Rattle.std.proofs.Common.{ℕ, ◌+◌, ◌≤◌, List, drop}
 use Rattle.plank_core.specs.Lists.{range, bind}
 use Rattle.sir_data.specs.Records.{functions, blocks, callees, successors}
 use Rattle.sir_analyses.specs.Order.{visit_function, visit_block}
@@ -19,14 +19,8 @@ decreases-visit_function l = unseen l.words.now l.seen.now
 
 abbrev pub invariant-visit_block-calls : goal.invariant-visit_block-calls
 invariant-visit_block-calls l =
-    (l.initial.o ≤ l.o) × Going l.words (visit_function (fuel l.words) l.words) (bind (range l.initial.o l.last) (callees l.words)) l.initial.seen l.initial.postorder l.initial.m (bind (range l.o l.last) (callees l.words)) l.seen l.postorder l.m
-
-abbrev pub decreases-visit_block-calls : goal.decreases-visit_block-calls
-decreases-visit_block-calls l = l.last - l.o
+    (l.initial.o ≤ l.o) × Going l.words (visit_function (fuel l.words) l.words) (bind (range l.initial.o l.o-end) (callees l.words)) l.initial.seen l.initial.postorder l.initial.m (bind (range l.o l.o-end) (callees l.words)) l.seen l.postorder l.m
 
 abbrev pub invariant-visit_block-successors : goal.invariant-visit_block-successors
 invariant-visit_block-successors l =
     Going l.words (visit_block (fuel l.words) l.words l.f.0) (successors l.words l.b.0) l.initial.seen l.initial.postorder l.initial.m (drop l.i (successors l.words l.b.0)) l.seen l.postorder l.m
-
-abbrev pub decreases-visit_block-successors : goal.decreases-visit_block-successors
-decreases-visit_block-successors l = l.count - l.i

@@ -1,51 +1,14 @@
--- `blocks_rpo` meets its contract. The invariant: the keys before i are still to be read.
-use mathlib.Core.Path.{◌≡◌, ◌∙◌}
-use mathlib.Core.List.{List, ◌++◌, reverse}
-use Prim.Native.Nat.{ℕ, ◌-◌}
+-- `blocks_rpo` meets its contract.
 use native.Mathlib.Omega.{arith}
-use lib.ListN.{get_or, take}
-use borrow.Author.Tests.{lt-ltb, le-ltb}
-use Rattle.plank_core.specs.Lists.{bind}
-use Rattle.sir_analyses.specs.inner.Visiting.{function_of, blocks_of, blocks_in}
-use Rattle.sir_analyses.proofs.reverse_post_order.Postorder.{back_start, back_next, back_end}
-use Rattle.sir_analyses.proofs.Listing.{listing_none, listing_as, listing_fits, listing_more, listing_all}
+use Rattle.std.proofs.Common.{rules, of_calls}
+use Rattle.sir_analyses.specs.inner.Visiting.{blocks_of, blocks_in}
 use Rattle.sir_analyses.proofs.reverse_post_order.blocks_rpo.Goals as goal
 
-pub loop-i-init : goal.loop-i-init
+pub each_function-requires : goal.each_function-requires
 unfolding blocks_in
-loop-i-init c =
-    (omega arith, listing_as (back_start (function_of (λ f. blocks_of f c.args.postorder.now)) c.args.postorder.now) listing_none)
-
-pub function_blocks-m-requires : goal.function_blocks-m-requires
-function_blocks-m-requires c =
-    let L = c.loop-i in
-    let ks = c.args.postorder.now in
-    let g : ℕ → List ℕ = function_of (λ f. blocks_of f ks) in
-    let e : bind (reverse (take L.i ks)) g ≡ blocks_of (get_or ks (L.i - 1) 0) ks ++ bind (reverse (take (L.i - 1) ks)) g =
-    back_next g ks L.i c.loop-i-test.true L.invariant.0 ∙ rw (lt-ltb _ _ c.if-key-lt256.true) in
-    (c.if-key-lt256.true, listing_fits (blocks_of (get_or ks (L.i - 1) 0) ks) (bind (reverse (take (L.i - 1) ks)) g) (omega (arith, c.requires)) (listing_as e L.invariant.1))
-
-pub loop-i-preserved-then-key-lt256 : goal.loop-i-preserved-then-key-lt256
-loop-i-preserved-then-key-lt256 c =
-    let L = c.loop-i in
-    let ks = c.args.postorder.now in
-    let g : ℕ → List ℕ = function_of (λ f. blocks_of f ks) in
-    let e : bind (reverse (take L.i ks)) g ≡ blocks_of (get_or ks (L.i - 1) 0) ks ++ bind (reverse (take (L.i - 1) ks)) g =
-    back_next g ks L.i c.loop-i-test.true L.invariant.0 ∙ rw (lt-ltb _ _ c.if-key-lt256.true) in
-    (omega arith, listing_more (listing_as e L.invariant.1) c.function_blocks-m.ensures)
-
-pub loop-i-preserved : goal.loop-i-preserved
-loop-i-preserved c =
-    let L = c.loop-i in
-    let ks = c.args.postorder.now in
-    let g : ℕ → List ℕ = function_of (λ f. blocks_of f ks) in
-    let e : bind (reverse (take L.i ks)) g ≡ bind (reverse (take (L.i - 1) ks)) g =
-    back_next g ks L.i c.loop-i-test.true L.invariant.0 ∙ rw (le-ltb _ _ c.if-key-lt256.false) in
-    (omega arith, listing_as e L.invariant.1)
-
-pub shape_of-out : goal.shape_of-out
-shape_of-out c = c.loop-i.invariant.1.long
+each_function-requires c =
+    ((λ f. blocks_of f c.args.postorder.now), record { may = λ to f at a b r. search (rules, of_calls, arith); writes = λ to f at r to2 a b l e. search (rules, of_calls) }, c.requires)
 
 pub returns : goal.returns
-returns c =
-    listing_all (back_end (function_of (λ f. blocks_of f c.args.postorder.now)) c.args.postorder.now c.loop-i.i c.loop-i-test.false) c.loop-i.invariant.1
+unfolding blocks_in
+returns c = c.each_function.ensures (λ f. blocks_of f c.args.postorder.now) (record { may = λ to f at a b r. search (rules, of_calls, arith); writes = λ to f at r to2 a b l e. search (rules, of_calls) }) c.requires

@@ -9,6 +9,3 @@ use Rattle.sir_analyses.proofs.reverse_post_order.function_blocks.Given as goal
 
 abbrev pub invariant-loop-i : goal.invariant-loop-i
 invariant-loop-i l = (l.i ≤ length l.postorder) × Listing (blocks_of l.f.0 l.postorder) l.at l.initial.out (bind (reverse (take l.i l.postorder)) (block_of l.f.0)) l.out l.m
-
-abbrev pub decreases-loop-i : goal.decreases-loop-i
-decreases-loop-i l = l.i

@@ -1,0 +1,1 @@
+-- `callee` meets its contract.
