@@ -40,13 +40,10 @@ fn close_before(
     requires fits { Fits backward (closed_pieces b.0 from (number_at till.now) ids.now) cursors.old }
     ensures { Scatters backward (closed_pieces b.0 from (number_at till.now) ids.now) cursors.old out.old cursors.new out.new }
 {
-    let mut i: usize = 0;
-    while i < ids.len() {
-        let v = ids[i];
-        let to = till[v as usize];
-        i += 1;
+    for v in ids {
+        let to = till[*v as usize];
         if to != 0 {
-            prepend(cursors, v, &[b.0, from, to], out);
+            prepend(cursors, *v, &[b.0, from, to], out);
         }
     }
 }
@@ -114,10 +111,7 @@ fn sweep_block(
     let n = live_owners(owned, &set, &mut ids);
     set_ends(&ids[..n], BLOCK_END, &mut till);
     let span = block_operations(words, b);
-    let first = span.start;
-    let mut o = span.end;
-    while first < o {
-        o -= 1;
+    for o in (span.start..span.end).rev() {
         live_before(live, OpIdx(o), &mut set);
         let split = split_touched(live, owned, OpIdx(o), &set, &mut ids);
         let dead = list_row(&split.words, 1, &mut ids);
@@ -145,9 +139,8 @@ fn sweep_blocks(
     requires cursors_len { (length cursors.old ≡ length (allocs words.now)) × Fits backward (visited_pieces words.now) cursors.old }
     ensures { Scatters backward (visited_pieces words.now) cursors.old out.old cursors.new out.new }
 {
-    let mut b = block_count(words);
-    while 0 < b {
-        b -= 1;
+    let count = block_count(words);
+    for b in (0..count).rev() {
         if is_visited(visit, BlockId(b)) {
             sweep_block(words, live, owned, BlockId(b), cursors, out);
         }
@@ -171,13 +164,11 @@ fn put_heads(words: &[u32], pointers: &[u32], tops: &[usize], cursors: &mut [usi
     requires cursors_in_bounds { (length cursors.old ≤ length tops.now) × ((a : ℕ) → a < length cursors.old → number_at tops.now a ≡ number_at cursors.old a + length (interval_words (merged words.now a))) }
     ensures { Scatters backward (head_pieces words.now) cursors.old out.old cursors.new out.new }
 {
-    let mut a: usize = 0;
-    while a < cursors.len() {
+    for a in 0..cursors.len() {
         let count = (tops[a] - cursors[a]) / 3;
         let id = a as u32;
         let head = record_head(words, pointers, AllocId(id), count as u32);
         prepend(cursors, id, &head.words, out);
-        a += 1;
     }
 }
 

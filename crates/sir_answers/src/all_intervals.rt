@@ -45,13 +45,10 @@ fn close_ends(
     requires fits { Fits forward (closed_pieces b.0 from (number_at till.now) ids.now) cursors.old }
     ensures { Scatters forward (closed_pieces b.0 from (number_at till.now) ids.now) cursors.old out.old cursors.new out.new }
 {
-    let mut i: usize = 0;
-    while i < ids.len() {
-        let v = ids[i];
-        let to = till[v as usize];
-        i += 1;
+    for v in ids {
+        let to = till[*v as usize];
         if to != 0 {
-            append(cursors, v, &[b.0, from, to], out);
+            append(cursors, *v, &[b.0, from, to], out);
         }
     }
 }
@@ -61,10 +58,8 @@ pub fn set_ends(ids: &[u32], to: u32, till: &mut [u32])
     requires { (v : ℕ) → v ∈ ids.now → v < length till.old }
     ensures { (v : ℕ) → number_at till.new v ≡ cond (mem v ids.now) to (number_at till.old v) }
 {
-    let mut i: usize = 0;
-    while i < ids.len() {
-        till[ids[i] as usize] = to;
-        i += 1;
+    for v in ids {
+        till[*v as usize] = to;
     }
 }
 
@@ -73,10 +68,8 @@ pub fn open_ends(ids: &[u32], to: u32, till: &mut [u32])
     requires { (v : ℕ) → v ∈ ids.now → v < length till.old }
     ensures { (v : ℕ) → number_at till.new v ≡ cond (mem v ids.now && eqb (number_at till.old v) 0) to (number_at till.old v) }
 {
-    let mut i: usize = 0;
-    while i < ids.len() {
-        let v = ids[i] as usize;
-        i += 1;
+    for id in ids {
+        let v = *id as usize;
         if till[v] == 0 {
             till[v] = to;
         }
@@ -113,11 +106,8 @@ fn scan_operations(
     ensures scatters { Scatters forward (operations_pieces words.now b.0) cursors.old out.old cursors.new out.new }
 {
     let span = block_operations(words, b);
-    let first = span.start;
     let mut ids = [0u32; 512];
-    let mut o = span.end;
-    while first < o {
-        o -= 1;
+    for o in (span.start..span.end).rev() {
         let row = o as usize;
         let n = list_row(writes(live), row, &mut ids);
         close_ends(&ids[..n], till, b, o + 1, cursors, out);
@@ -168,10 +158,8 @@ fn scan_intervals(words: &[u32], visit: &[u32], live: &[u64], cursors: &mut [usi
     ensures { Scatters forward (local_pieces words.now) cursors.old out.old cursors.new out.new }
 {
     let order = rpo(visit);
-    let mut i: usize = 0;
-    while i < order.len() {
-        scan_block(words, live, BlockId(order[i]), cursors, out);
-        i += 1;
+    for b in order {
+        scan_block(words, live, BlockId(*b), cursors, out);
     }
 }
 

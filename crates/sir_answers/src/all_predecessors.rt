@@ -27,11 +27,9 @@ fn scan_edges(words: &[u32], p: BlockId, cursors: &mut [usize], out: &mut [u8])
 {
     let piece = [p.0];
     let count = successor_count(words, p);
-    let mut i: usize = 0;
-    while i < count {
+    for i in 0..count {
         let s = successor(words, p, i);
         append(cursors, s.0, &piece, out);
-        i += 1;
     }
 }
 
@@ -42,12 +40,9 @@ fn scan_predecessors(words: &[u32], visit: &[u32], cursors: &mut [usize], out: &
     ensures { Scatters forward (predecessor_pieces words.now) cursors.old out.old cursors.new out.new }
 {
     let count = block_count(words);
-    let mut p: u32 = 0;
-    while p < count {
-        let id = p;
-        p += 1;
-        if is_visited(visit, BlockId(id)) {
-            scan_edges(words, BlockId(id), cursors, out);
+    for p in 0..count {
+        if is_visited(visit, BlockId(p)) {
+            scan_edges(words, BlockId(p), cursors, out);
         }
     }
 }

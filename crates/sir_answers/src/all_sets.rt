@@ -60,10 +60,8 @@ fn put_entry_sets(words: &[u32], visit: &[u32], live: &[u64], out: &mut [u8]) ->
 {
     let count = block_count(words);
     let mut m: usize = 0;
-    let mut b: u32 = 0;
-    while b < count {
+    for b in 0..count {
         m = put_entry_set(words, visit, live, BlockId(b), m, out);
-        b += 1;
     }
     m
 }
@@ -76,10 +74,8 @@ fn put_exit_sets(words: &[u32], live: &[u64], out: &mut [u8]) -> usize
     let table = exits(live);
     let count = block_count(words);
     let mut m: usize = 0;
-    let mut b: u32 = 0;
-    while b < count {
+    for b in 0..count {
         m = put_set(row_of(table, b as usize), m, out);
-        b += 1;
     }
     m
 }
@@ -91,11 +87,9 @@ fn put_owners(words: &[u32], pointers: &[u32], out: &mut [u8]) -> usize
 {
     let count = local_count(words);
     let mut m: usize = 0;
-    let mut v: u32 = 0;
-    while v < count {
+    for v in 0..count {
         let answer = [1, owner_of(pointers, LocalId(v))];
         m = put_words(out, m, &answer);
-        v += 1;
     }
     m
 }

@@ -59,11 +59,8 @@ fn first_common<'a>(
     let mut set = [0u64; 8];
     live_after(live, b, &mut set);
     let span = block_operations(words, b);
-    let first = span.start;
-    let mut o = span.end;
     let mut found: u32 = 0;
-    while first < o {
-        o -= 1;
+    for o in (span.start..span.end).rev() {
         live_around(live, OpIdx(o), &mut set);
         found = earliest(both_meet(one, other, &set), OpIdx(o), found);
         live_before(live, OpIdx(o), &mut set);
@@ -91,8 +88,7 @@ fn crossing_of_reaches<'a>(
     ensures { (a c : ℕ) → ReachOf words.now a one.now → ReachOf words.now c other.now → result.words ≡ crossing words.now a c }
 {
     let count = block_count(words);
-    let mut b: u32 = 0;
-    while b < count {
+    for b in 0..count {
         if is_visited(visit, BlockId(b)) {
             let found = first_common(words, live, one, other, BlockId(b));
             if found != 0 {
@@ -101,7 +97,6 @@ fn crossing_of_reaches<'a>(
                 };
             }
         }
-        b += 1;
     }
     Crossing { words: [0, 0, 0] }
 }

@@ -35,7 +35,7 @@ offset_bounds-cursors-a c =
 
 pub bounds-cursors-a : goal.bounds-cursors-a
 bounds-cursors-a c =
-    c.loop-a-test.true
+    omega (arith, c.loop-a-test.true, c.loop-a.invariant.1.wide)
 
 pub overflow_sub-count : goal.overflow_sub-count
 overflow_sub-count c =
@@ -85,19 +85,6 @@ prepend-requires c =
     let head = c.record_head-head.ensures n in
     let k = scattering_as (bind_step (λ a. (a, head_of w a) ∷ []) L.a (length c.args.cursors.now) (omega (arith, h, L.invariant.1.wide))) L.invariant.1 in
     (omega (arith, h), fits_as (ap (λ (xs : List ℕ). (L.a, xs) ∷ []) (sym head)) (scattering_fits ((L.a, head_of w L.a) ∷ []) (bind (range (L.a + 1) (length c.args.cursors.now)) (λ a. (a, head_of w a) ∷ [])) k))
-
-pub overflow_add-a : goal.overflow_add-a
-overflow_add-a c =
-    let w = c.args.words.now in
-    let stage = c.requires.pointer_stage in
-    let L = c.loop-a in
-    let h = c.loop-a-test.true in
-    let l : L.a < length (allocs w) = omega (arith, h, L.invariant.1.wide, c.requires.cursors_len.0) in
-    omega (arith, l, allocations_few stage)
-
-pub loop-a-smaller : goal.loop-a-smaller
-loop-a-smaller c =
-    omega (arith, c.loop-a-test.true, c.loop-a.invariant.1.wide)
 
 pub loop-a-preserved : goal.loop-a-preserved
 loop-a-preserved c =

@@ -9,17 +9,17 @@ use Rattle.sir_answers.proofs.scatter.Scattering.{scattering_none, scattering_as
 use Rattle.sir_answers.proofs.all_allocations.AllocationPieces.{visited_to, visited_next, visited_skip}
 use Rattle.sir_answers.proofs.all_allocations.sweep_blocks.Goals as goal
 
-pub block_count-b-requires : goal.block_count-b-requires
-block_count-b-requires c =
+pub block_count-count-requires : goal.block_count-count-requires
+block_count-count-requires c =
     omega (arith, c.requires.visit_stage.well_formed.sized.size)
 
 pub loop-b-init : goal.loop-b-init
 loop-b-init c =
-    let n = c.block_count-b.ensures in
+    let n = c.block_count-count.ensures in
     (omega (arith, n), scattering_as (ap (visited_to c.args.words.now) (sym n)) (scattering_none c.requires.cursors_len.1))
 
-pub overflow_sub-b : goal.overflow_sub-b
-overflow_sub-b c = omega (arith, c.loop-b-test.true)
+pub overflow_step-b : goal.overflow_step-b
+overflow_step-b c = omega (arith, c.loop-b-test.true)
 
 pub is_visited-requires : goal.is_visited-requires
 is_visited-requires c =
@@ -36,10 +36,6 @@ sweep_block-requires c =
     let k = scattering_as (visited_next w L.b h t) L.invariant.1 in
     record { liveness_stage = c.requires.liveness_stage; owned_tables = c.requires.owned_tables; b_bound = below; cursors_len = (L.invariant.1.wide ∙ c.requires.cursors_len.0, scattering_fits (sweep_pieces w b) (visited_to w b) k) }
 
-pub loop-b-smaller-then-is_visited : goal.loop-b-smaller-then-is_visited
-loop-b-smaller-then-is_visited c =
-    omega (arith, c.loop-b-test.true)
-
 pub loop-b-preserved-then-is_visited : goal.loop-b-preserved-then-is_visited
 loop-b-preserved-then-is_visited c =
     let w = c.args.words.now in
@@ -50,10 +46,6 @@ loop-b-preserved-then-is_visited c =
     let t = sym (c.requires.visit_stage.visited_is b below) ∙ sym c.is_visited.ensures ∙ c.if-is_visited.true in
     let k = scattering_as (visited_next w L.b h t) L.invariant.1 in
     (omega (arith, L.invariant.0), scattering_more (visited_to w b) k c.sweep_block.ensures)
-
-pub loop-b-smaller : goal.loop-b-smaller
-loop-b-smaller c =
-    omega (arith, c.loop-b-test.true)
 
 pub loop-b-preserved : goal.loop-b-preserved
 loop-b-preserved c =

@@ -9,6 +9,3 @@ use Rattle.sir_answers.proofs.all_allocations.sweep_blocks.Given as goal
 
 abbrev pub invariant-loop-b : goal.invariant-loop-b
 invariant-loop-b l = (l.b ≤ blocks l.words) × Scattering backward (visited_pieces l.words) l.initial.cursors l.initial.out (visited_to l.words l.b) l.cursors l.out
-
-abbrev pub decreases-loop-b : goal.decreases-loop-b
-decreases-loop-b l = l.b

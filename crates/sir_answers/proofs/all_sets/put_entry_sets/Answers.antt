@@ -22,14 +22,6 @@ pub put_entry_set-m-requires : goal.put_entry_set-m-requires
 put_entry_set-m-requires c =
     record { visit_stage = c.requires.visit_stage; liveness_stage = (c.requires.liveness_stage, omega (arith, c.loop-b-test.true, c.block_count-count.ensures), omega (arith, c.loop-b.invariant.1, c.loop-b-test.true, c.block_count-count.ensures, c.requires.visit_stage.well_formed.sized.blocks_most)) }
 
-pub overflow_add-b : goal.overflow_add-b
-overflow_add-b c =
-    omega (arith, c.loop-b-test.true, c.block_count-count.ensures, c.requires.visit_stage.well_formed.sized.blocks_most)
-
-pub loop-b-smaller : goal.loop-b-smaller
-loop-b-smaller c =
-    omega (arith, c.loop-b-test.true, c.block_count-count.ensures, c.requires.visit_stage.well_formed.sized.blocks_most)
-
 pub loop-b-preserved : goal.loop-b-preserved
 loop-b-preserved c =
     let w = c.args.words.now in

@@ -35,14 +35,6 @@ pub put_set-m-requires : goal.put_set-m-requires
 put_set-m-requires c =
     (ap length c.row_of.ensures ∙ length_row c.exits-table.result.now c.loop-b.b (omega (arith, ap length c.exits-table.ensures ∙ c.requires.sets.exits_long, c.loop-b-test.true, c.block_count-count.ensures, c.requires.well_formed.sized.blocks_most)), omega (arith, c.loop-b.invariant.1, c.loop-b-test.true, c.block_count-count.ensures, c.requires.well_formed.sized.blocks_most))
 
-pub overflow_add-b : goal.overflow_add-b
-overflow_add-b c =
-    omega (arith, c.loop-b-test.true, c.block_count-count.ensures, c.requires.well_formed.sized.blocks_most)
-
-pub loop-b-smaller : goal.loop-b-smaller
-loop-b-smaller c =
-    omega (arith, c.loop-b-test.true, c.block_count-count.ensures, c.requires.well_formed.sized.blocks_most)
-
 pub loop-b-preserved : goal.loop-b-preserved
 loop-b-preserved c =
     let w = c.args.words.now in

@@ -25,14 +25,6 @@ pub put_words-m-requires : goal.put_words-m-requires
 put_words-m-requires c =
     omega (arith, c.loop-v.invariant.1, c.loop-v-test.true, c.local_count-count.ensures, c.requires.well_formed.sized.locals_most)
 
-pub overflow_add-v : goal.overflow_add-v
-overflow_add-v c =
-    omega (arith, c.loop-v-test.true, c.local_count-count.ensures, c.requires.well_formed.sized.locals_most)
-
-pub loop-v-smaller : goal.loop-v-smaller
-loop-v-smaller c =
-    omega (arith, c.loop-v-test.true, c.local_count-count.ensures, c.requires.well_formed.sized.locals_most)
-
 pub loop-v-preserved : goal.loop-v-preserved
 loop-v-preserved c =
     let w = c.args.words.now in

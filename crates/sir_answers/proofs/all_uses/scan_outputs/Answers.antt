@@ -27,8 +27,8 @@ append-requires c =
     let m : get_or run k 0 ∈ outputs c.args.words.now b = subst (λ (l : List ℕ). get_or run k 0 ∈ l) c.outputs-run.ensures (get_or_mem run k 0 h) in
     (omega (arith, c.requires.b_bound.1, c.requires.well_formed.in_range.output b (get_or run k 0) c.requires.b_bound.0 m, c.loop-k.invariant.1.wide), piece_fits g run c.loop-k.k c.loop-k.invariant.1 h refl)
 
-pub overflow_add-k : goal.overflow_add-k
-overflow_add-k c =
+pub overflow_cast-piece : goal.overflow_cast-piece
+overflow_cast-piece c =
     omega (arith, ap length c.outputs-run.ensures, outputs_most c.args.words.now 0 c.args.b.0 0 c.requires.well_formed c.requires.b_bound.0, c.loop-k-test.true)
 
 pub loop-k-preserved : goal.loop-k-preserved

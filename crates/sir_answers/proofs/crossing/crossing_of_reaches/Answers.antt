@@ -39,14 +39,6 @@ returns-then-found-ne0 c =
     let h : b < blocks w = omega (arith, c.loop-b-test.true, c.block_count-count.ensures) in
     λ a d x y. crossing_found w a d b h (c.first_common-found.ensures a d x y) c.if-found-ne0.true ∙ sym (c.loop-b.invariant a d x y)
 
-pub overflow_add-b : goal.overflow_add-b
-overflow_add-b c =
-    omega (arith, c.loop-b-test.true)
-
-pub loop-b-smaller : goal.loop-b-smaller
-loop-b-smaller c =
-    omega (arith, c.loop-b-test.true)
-
 pub loop-b-preserved : goal.loop-b-preserved
 loop-b-preserved c =
     let w = c.args.words.now in

@@ -37,14 +37,6 @@ pub bounds-owners-v : goal.bounds-owners-v
 bounds-owners-v c =
     omega (arith, c.loop-v-test.true, c.local_count-count.ensures, c.requires.pointer_stage.well_formed.sized.locals_most, c.loop-v.invariant.1, c.requires.owners_len)
 
-pub overflow_add-v : goal.overflow_add-v
-overflow_add-v c =
-    omega (arith, c.loop-v-test.true, c.local_count-count.ensures, c.requires.pointer_stage.well_formed.sized.locals_most)
-
-pub loop-v-smaller : goal.loop-v-smaller
-loop-v-smaller c =
-    omega (arith, c.loop-v-test.true)
-
 pub loop-v-preserved : goal.loop-v-preserved
 loop-v-preserved c =
     let own = unmarked_owner c.args.pointers.now in
