@@ -60,33 +60,27 @@ fn live_owners<'a>(owned: &'a [u64], set: &'a [u64], ids: &mut [u32]) -> usize
     list_row(&split, 0, ids)
 }
 
-// The owners of some locals in two rows: those with a live local, and those with none.
-#[derive(Clone, Copy)]
-pub struct Split {
-    pub words: [u64; 16],
-}
-
-// The owners of the locals that operation o reads or writes, by the live locals.
+// The owners of the locals that operation o reads or writes, in two rows: those with a live local, and those with none.
 fn split_touched<'a>(
     live: &[u64],
     owned: &'a [u64],
     o: OpIdx,
     set: &'a [u64],
     ids: &mut [u32],
-) -> Split
+) -> [u64; 16]
     requires live_len { (length live.now ≡ 24576) × (o.0 < 1024) }
     requires by_index { (w : List ℕ) × OwnedTables w owned.now }
     requires set_len { (length set.now ≡ 8) × (length ids.old ≡ 512) }
-    ensures { SplitOwners live.now o.0 owned.now set.now result.words }
+    ensures { SplitOwners live.now o.0 owned.now set.now result }
 {
     let row = o.0 as usize;
     let mut touched = [0u64; 8];
     row_union_with(&mut touched, 0, row_of(writes(live), row));
     row_union_with(&mut touched, 0, row_of(reads(live), row));
     let n = list_owned(owned, &touched, ids);
-    let mut words = [0u64; 16];
-    split_owners(&ids[..n], owned, set, &mut words);
-    Split { words }
+    let mut split = [0u64; 16];
+    split_owners(&ids[..n], owned, set, &mut split);
+    split
 }
 
 // The intervals of all allocations in block b.
@@ -114,10 +108,10 @@ fn sweep_block(
     for o in (span.start..span.end).rev() {
         live_before(live, OpIdx(o), &mut set);
         let split = split_touched(live, owned, OpIdx(o), &set, &mut ids);
-        let dead = list_row(&split.words, 1, &mut ids);
+        let dead = list_row(&split, 1, &mut ids);
         close_before(&ids[..dead], &till, b, o + 1, cursors, out);
         set_ends(&ids[..dead], 0, &mut till);
-        let alive = list_row(&split.words, 0, &mut ids);
+        let alive = list_row(&split, 0, &mut ids);
         open_ends(&ids[..alive], o + 1, &mut till);
     }
     let m = live_owners(owned, &set, &mut ids);
@@ -172,18 +166,6 @@ fn put_heads(words: &[u32], pointers: &[u32], tops: &[usize], cursors: &mut [usi
     }
 }
 
-// Copies some numbers to the front of an array.
-fn copy_numbers(from: &[usize], to: &mut [usize])
-    requires { length from.now ≤ length to.old }
-    ensures { (v : ℕ) → v < length from.now → number_at to.new v ≡ number_at from.now v }
-{
-    let mut v: usize = 0;
-    while v < from.len() {
-        to[v] = from[v];
-        v += 1;
-    }
-}
-
 // All records: the intervals, then the heads in front of them.
 fn scan_allocations(
     words: &[u32],
@@ -202,7 +184,7 @@ fn scan_allocations(
     let mut owned = [0u64; OWNED];
     owned_tables(words, pointers, &mut owned);
     let mut tops = [0usize; 512];
-    copy_numbers(cursors, &mut tops);
+    tops[..cursors.len()].copy_from_slice(cursors);
     sweep_blocks(words, visit, live, &owned, cursors, out);
     put_heads(words, pointers, &tops, cursors, out);
 }

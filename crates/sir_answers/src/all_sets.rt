@@ -10,6 +10,7 @@ ghost use Rattle.sir_analyses.specs.Calls.{made, answered};
 ghost use Rattle.sir_analyses.specs.inner.Stages.{VisitStage, LivenessStage, PointerStage};
 ghost use Rattle.sir_analyses.specs.inner.Writing.{Puts};
 
+use crate::counted::counted_answer;
 use plank_core::dense_index_set::{len, list};
 use plank_core::index::{BlockId, LocalId};
 use plank_core::rows::row_of;
@@ -94,39 +95,30 @@ fn put_owners(words: &[u32], pointers: &[u32], out: &mut [u8]) -> usize
     m
 }
 
-// The entry sets of all blocks: counts, then writes.
+// The entry sets of all blocks.
 pub fn all_entry_sets_answer(words: &[u32], visit: &[u32], live: &[u64], out: &mut [u8]) -> Answer
     requires visit_stage { VisitStage words.now visit.now }
     requires liveness_stage { LivenessStage words.now live.now }
     ensures { made result.number result.length out.new ≡ answered (bind (all blocks entry_answer words.now) bytes_of) out.old }
 {
-    let n = put_entry_sets(words, visit, live, &mut []);
-    let answer = finish(n, out.len());
-    let end = answer.length as usize;
-    put_entry_sets(words, visit, live, &mut out[..end]);
-    answer
+    counted_answer(
+        |part: &mut [u8]| put_entry_sets(words, visit, live, part),
+        out,
+    )
 }
 
-// The exit sets of all blocks: counts, then writes.
+// The exit sets of all blocks.
 pub fn all_exit_sets_answer(words: &[u32], live: &[u64], out: &mut [u8]) -> Answer
     requires { LivenessStage words.now live.now }
     ensures { made result.number result.length out.new ≡ answered (bind (all blocks exit_answer words.now) bytes_of) out.old }
 {
-    let n = put_exit_sets(words, live, &mut []);
-    let answer = finish(n, out.len());
-    let end = answer.length as usize;
-    put_exit_sets(words, live, &mut out[..end]);
-    answer
+    counted_answer(|part: &mut [u8]| put_exit_sets(words, live, part), out)
 }
 
-// The owners of all locals: counts, then writes.
+// The owners of all locals.
 pub fn all_owners_answer(words: &[u32], pointers: &[u32], out: &mut [u8]) -> Answer
     requires { PointerStage words.now pointers.now }
     ensures { made result.number result.length out.new ≡ answered (bind (all locals owner_answer words.now) bytes_of) out.old }
 {
-    let n = put_owners(words, pointers, &mut []);
-    let answer = finish(n, out.len());
-    let end = answer.length as usize;
-    put_owners(words, pointers, &mut out[..end]);
-    answer
+    counted_answer(|part: &mut [u8]| put_owners(words, pointers, part), out)
 }

@@ -68,37 +68,29 @@ fn first_common<'a>(
     found
 }
 
-// The words of an answer on two allocations: 1 or 0, block + 1, operation + 1.
-#[derive(Clone, Copy)]
-pub struct Crossing {
-    pub words: [u32; 3],
-}
-
-// Where two unmarked allocations cross, by their reaches.
+// Where two unmarked allocations cross, by their reaches, in the words of an answer: 1 or 0, block + 1, operation + 1.
 fn crossing_of_reaches<'a>(
     words: &[u32],
     visit: &[u32],
     live: &[u64],
     one: &'a [u64],
     other: &'a [u64],
-) -> Crossing
+) -> [u32; 3]
     requires visit_stage { VisitStage words.now visit.now }
     requires liveness_stage { LivenessStage words.now live.now }
     requires one_len { (length one.now ≡ 8) × (length other.now ≡ 8) }
-    ensures { (a c : ℕ) → ReachOf words.now a one.now → ReachOf words.now c other.now → result.words ≡ crossing words.now a c }
+    ensures { (a c : ℕ) → ReachOf words.now a one.now → ReachOf words.now c other.now → result ≡ crossing words.now a c }
 {
     let count = block_count(words);
     for b in 0..count {
         if is_visited(visit, BlockId(b)) {
             let found = first_common(words, live, one, other, BlockId(b));
             if found != 0 {
-                return Crossing {
-                    words: [1, b + 1, found],
-                };
+                return [1, b + 1, found];
             }
         }
     }
-    Crossing { words: [0, 0, 0] }
+    [0, 0, 0]
 }
 
 // Whether two unmarked allocations cross, and where.
@@ -108,12 +100,12 @@ fn unmarked_crossing(
     pointers: &[u32],
     one: AllocId,
     other: AllocId,
-) -> Crossing
+) -> [u32; 3]
     requires visit_stage { VisitStage words.now visit.now }
     requires pointer_stage { PointerStage words.now pointers.now }
     requires one_in_bounds { (one.0 < length (allocs words.now)) × (other.0 < length (allocs words.now)) }
     requires one_value { (marked words.now one.0 ≡ false) × (marked words.now other.0 ≡ false) }
-    ensures { result.words ≡ crossing words.now one.0 other.0 }
+    ensures { result ≡ crossing words.now one.0 other.0 }
 {
     let mut live = [0u64; LIVE];
     compute_liveness(words, visit, &mut live);
@@ -142,5 +134,5 @@ pub fn crossing_answer(
         return words_answer(&[1, 0, 0], out);
     }
     let told = unmarked_crossing(words, visit, pointers, one, other);
-    words_answer(&told.words, out)
+    words_answer(&told, out)
 }

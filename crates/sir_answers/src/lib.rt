@@ -10,6 +10,7 @@ pub mod ask;
 pub mod chart;
 pub mod chart_columns;
 pub mod chart_lines;
+mod counted;
 pub mod crossing;
 pub mod live_answers;
 pub mod open_allocations;

@@ -135,7 +135,7 @@ close_before-requires c =
     let closed = ap (closed_pieces b (o + 1) (number_at L.till)) c.list_row-dead.ensures.1 ∙ swept_closed stage c.requires.owned_tables below L.invariant.4 L.invariant.5 m c.live_before.ensures long split os in
     let k = scattering_as (swept_next w b span.result.start L.o h) L.invariant.6 in
     let ready = close_ready closed (L.invariant.6.wide ∙ c.requires.cursors_len.0) (swept_below w stage.well_formed b o below) (scattering_fits (swept_pieces w b o) (swept_left w b span.result.start o) k) in
-    record { by_index = listed_below (row_of c.split_touched-split.result.words 1) L.till c.list_row-dead.ensures.1 L.invariant.5.long; below = ready.0; fits = ready.1 }
+    record { by_index = listed_below (row_of c.split_touched-split.result 1) L.till c.list_row-dead.ensures.1 L.invariant.5.long; below = ready.0; fits = ready.1 }
 
 pub slice_bounds-ids-end-in-loop-o-2 : goal.slice_bounds-ids-end-in-loop-o-2
 slice_bounds-ids-end-in-loop-o-2 c =
@@ -151,7 +151,7 @@ slice_bounds-set_ends-end-in-loop-o-2 c =
 
 pub set_ends-requires-in-loop-o : goal.set_ends-requires-in-loop-o
 set_ends-requires-in-loop-o c =
-    listed_below (row_of c.split_touched-split.result.words 1) c.loop-o.till c.list_row-dead.ensures.1 c.loop-o.invariant.5.long
+    listed_below (row_of c.split_touched-split.result 1) c.loop-o.till c.list_row-dead.ensures.1 c.loop-o.invariant.5.long
 
 pub slice_bounds-list_row-end-in-loop-o-3 : goal.slice_bounds-list_row-end-in-loop-o-3
 slice_bounds-list_row-end-in-loop-o-3 c =
@@ -179,7 +179,7 @@ slice_bounds-open_ends-end-in-loop-o c =
 
 pub open_ends-requires : goal.open_ends-requires
 open_ends-requires c =
-    listed_below (row_of c.split_touched-split.result.words 0) c.set_ends-in-loop-o.new.till c.list_row-alive.ensures.1 (omega (arith, c.set_ends-in-loop-o.auto, c.loop-o.invariant.5.long))
+    listed_below (row_of c.split_touched-split.result 0) c.set_ends-in-loop-o.new.till c.list_row-alive.ensures.1 (omega (arith, c.set_ends-in-loop-o.auto, c.loop-o.invariant.5.long))
 
 pub loop-o-preserved : goal.loop-o-preserved
 loop-o-preserved c =
