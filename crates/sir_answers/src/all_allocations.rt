@@ -15,12 +15,13 @@ ghost use Rattle.sir_answers.specs.inner.AllocationPieces.{OwnedTables, LiveOwne
 
 use crate::all_intervals::{list_row, open_ends, set_ends};
 use crate::owned_tables::{OWNED, list_owned, owned_tables, split_owners};
-use crate::scatter::{passed_words, prepend, put_lengths, total_words};
+use crate::scatter::{passed_words, prepend, put_lengths};
+use crate::segments::segments_answer;
 use plank_core::index::{AllocId, BlockId, OpIdx};
 use plank_core::rows::{row_of, row_union_with};
 use sir_analyses::allocation_liveness::site_of;
 use sir_analyses::allocation_words::{AllocHead, alloc_head};
-use sir_analyses::answers::{Answer, finish};
+use sir_analyses::answers::Answer;
 use sir_analyses::local_intervals::BLOCK_END;
 use sir_analyses::merged_intervals::{live_after, live_before};
 use sir_analyses::stages::{alloc_sites, flags_of, is_visited, reads, writes};
@@ -243,13 +244,13 @@ fn fill_allocations(
     ensures { made result.number result.length out.new ≡ answered (bind (all (λ w. length (allocs w)) allocation_answer words.now) bytes_of) out.old }
 {
     count_allocations(words, visit, live, pointers, cursors);
-    let answer = finish(total_words(cursors), out.len());
-    if answer.number != 0 {
-        return answer;
-    }
-    let end = answer.length as usize;
-    write_allocations(words, visit, live, pointers, cursors, &mut out[..end]);
-    answer
+    segments_answer(
+        cursors,
+        |counts: &mut [usize], part: &mut [u8]| write_allocations(
+            words, visit, live, pointers, counts, part,
+        ),
+        out,
+    )
 }
 
 // The records of all allocations.

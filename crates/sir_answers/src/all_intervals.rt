@@ -13,11 +13,12 @@ ghost use Rattle.sir_analyses.specs.inner.Stages.{VisitStage, LivenessStage, end
 ghost use Rattle.sir_answers.specs.inner.Scatter.{number_at, forward, Below, Fits, Scatters, Counts};
 ghost use Rattle.sir_answers.specs.inner.IntervalPieces.{closed_pieces, OpenEnds, operations_pieces, start_pieces, block_pieces, local_pieces};
 
-use crate::scatter::{append, put_lengths, total_words};
+use crate::scatter::{append, put_lengths};
+use crate::segments::segments_answer;
 use plank_core::dense_index_set::list;
 use plank_core::index::BlockId;
 use plank_core::rows::row_of;
-use sir_analyses::answers::{Answer, finish};
+use sir_analyses::answers::Answer;
 use sir_analyses::local_intervals::BLOCK_END;
 use sir_analyses::local_liveness::compute_liveness_at_block_entry;
 use sir_analyses::stages::{ends, exits, reads, rpo, writes};
@@ -205,13 +206,11 @@ fn fill_intervals(
     ensures { made result.number result.length out.new ≡ answered (bind (all locals intervals_answer words.now) bytes_of) out.old }
 {
     count_intervals(words, visit, live, cursors);
-    let answer = finish(total_words(cursors), out.len());
-    if answer.number != 0 {
-        return answer;
-    }
-    let end = answer.length as usize;
-    write_intervals(words, visit, live, cursors, &mut out[..end]);
-    answer
+    segments_answer(
+        cursors,
+        |counts: &mut [usize], part: &mut [u8]| write_intervals(words, visit, live, counts, part),
+        out,
+    )
 }
 
 // The intervals of all locals.

@@ -11,9 +11,10 @@ ghost use Rattle.sir_answers.specs.inner.Pieces.{edge_pieces, predecessor_pieces
 ghost use Rattle.sir_answers.specs.inner.Scatter.{forward, Fits, Scatters, Counts};
 ghost use Rattle.sir_analyses.specs.inner.Stages.{VisitStage};
 
-use crate::scatter::{append, put_lengths, total_words};
+use crate::scatter::{append, put_lengths};
+use crate::segments::segments_answer;
 use plank_core::index::BlockId;
-use sir_analyses::answers::{Answer, finish};
+use sir_analyses::answers::Answer;
 use sir_analyses::stages::is_visited;
 use sir_data::records::block_count;
 use sir_data::view::{successor, successor_count};
@@ -74,13 +75,11 @@ fn fill_predecessors(words: &[u32], visit: &[u32], cursors: &mut [usize], out: &
     ensures { made result.number result.length out.new ≡ answered (bind (all blocks predecessors_answer words.now) bytes_of) out.old }
 {
     count_predecessors(words, visit, cursors);
-    let answer = finish(total_words(cursors), out.len());
-    if answer.number != 0 {
-        return answer;
-    }
-    let end = answer.length as usize;
-    write_predecessors(words, visit, cursors, &mut out[..end]);
-    answer
+    segments_answer(
+        cursors,
+        |counts: &mut [usize], part: &mut [u8]| write_predecessors(words, visit, counts, part),
+        out,
+    )
 }
 
 // The predecessors of all blocks.

@@ -14,9 +14,10 @@ ghost use Rattle.sir_answers.specs.inner.Pieces.{input_use_pieces, condition_pie
 ghost use Rattle.sir_analyses.specs.inner.Stages.{VisitStage};
 ghost use Rattle.sir_answers.specs.inner.Scatter.{forward, Fits, Scatters, Counts};
 
-use crate::scatter::{advance, advance_each, append, append_each, put_lengths, total_words};
+use crate::scatter::{advance, advance_each, append, append_each, put_lengths};
+use crate::segments::segments_answer;
 use plank_core::index::{BlockId, OpIdx};
-use sir_analyses::answers::{Answer, finish};
+use sir_analyses::answers::Answer;
 use sir_analyses::stages::rpo;
 use sir_data::records::{Tested, local_count, op_inputs, operation_count};
 use sir_data::view::{condition, operations, outputs};
@@ -179,13 +180,11 @@ fn fill_uses(words: &[u32], visit: &[u32], cursors: &mut [usize], out: &mut [u8]
     ensures { made result.number result.length out.new ≡ answered (bind (all locals uses_answer words.now) bytes_of) out.old }
 {
     count_uses(words, visit, cursors);
-    let answer = finish(total_words(cursors), out.len());
-    if answer.number != 0 {
-        return answer;
-    }
-    let end = answer.length as usize;
-    write_uses(words, visit, cursors, &mut out[..end]);
-    answer
+    segments_answer(
+        cursors,
+        |counts: &mut [usize], part: &mut [u8]| write_uses(words, visit, counts, part),
+        out,
+    )
 }
 
 // The uses of all locals.

@@ -20,4 +20,5 @@ mod paging;
 pub mod pointer_answers;
 pub mod questions;
 pub mod scatter;
+mod segments;
 pub mod write_back;
