@@ -246,9 +246,7 @@ fn fill_allocations(
     count_allocations(words, visit, live, pointers, cursors);
     segments_answer(
         cursors,
-        |counts: &mut [usize], part: &mut [u8]| write_allocations(
-            words, visit, live, pointers, counts, part,
-        ),
+        |counts, part| write_allocations(words, visit, live, pointers, counts, part),
         out,
     )
 }

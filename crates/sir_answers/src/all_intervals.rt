@@ -208,7 +208,7 @@ fn fill_intervals(
     count_intervals(words, visit, live, cursors);
     segments_answer(
         cursors,
-        |counts: &mut [usize], part: &mut [u8]| write_intervals(words, visit, live, counts, part),
+        |counts, part| write_intervals(words, visit, live, counts, part),
         out,
     )
 }

@@ -77,7 +77,7 @@ fn fill_predecessors(words: &[u32], visit: &[u32], cursors: &mut [usize], out: &
     count_predecessors(words, visit, cursors);
     segments_answer(
         cursors,
-        |counts: &mut [usize], part: &mut [u8]| write_predecessors(words, visit, counts, part),
+        |counts, part| write_predecessors(words, visit, counts, part),
         out,
     )
 }

@@ -14,7 +14,7 @@ use crate::counted::counted_answer;
 use plank_core::dense_index_set::{len, list};
 use plank_core::index::{BlockId, LocalId};
 use plank_core::rows::row_of;
-use sir_analyses::answers::{Answer, finish, put_word, put_words};
+use sir_analyses::answers::{Answer, put_word, put_words};
 use sir_analyses::local_liveness::compute_liveness_at_block_entry;
 use sir_analyses::stages::{exits, is_visited, owner_of};
 use sir_data::records::{block_count, local_count};
@@ -101,10 +101,7 @@ pub fn all_entry_sets_answer(words: &[u32], visit: &[u32], live: &[u64], out: &m
     requires liveness_stage { LivenessStage words.now live.now }
     ensures { made result.number result.length out.new ≡ answered (bind (all blocks entry_answer words.now) bytes_of) out.old }
 {
-    counted_answer(
-        |part: &mut [u8]| put_entry_sets(words, visit, live, part),
-        out,
-    )
+    counted_answer(|part| put_entry_sets(words, visit, live, part), out)
 }
 
 // The exit sets of all blocks.
@@ -112,7 +109,7 @@ pub fn all_exit_sets_answer(words: &[u32], live: &[u64], out: &mut [u8]) -> Answ
     requires { LivenessStage words.now live.now }
     ensures { made result.number result.length out.new ≡ answered (bind (all blocks exit_answer words.now) bytes_of) out.old }
 {
-    counted_answer(|part: &mut [u8]| put_exit_sets(words, live, part), out)
+    counted_answer(|part| put_exit_sets(words, live, part), out)
 }
 
 // The owners of all locals.
@@ -120,5 +117,5 @@ pub fn all_owners_answer(words: &[u32], pointers: &[u32], out: &mut [u8]) -> Ans
     requires { PointerStage words.now pointers.now }
     ensures { made result.number result.length out.new ≡ answered (bind (all locals owner_answer words.now) bytes_of) out.old }
 {
-    counted_answer(|part: &mut [u8]| put_owners(words, pointers, part), out)
+    counted_answer(|part| put_owners(words, pointers, part), out)
 }

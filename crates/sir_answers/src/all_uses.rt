@@ -182,7 +182,7 @@ fn fill_uses(words: &[u32], visit: &[u32], cursors: &mut [usize], out: &mut [u8]
     count_uses(words, visit, cursors);
     segments_answer(
         cursors,
-        |counts: &mut [usize], part: &mut [u8]| write_uses(words, visit, counts, part),
+        |counts, part| write_uses(words, visit, counts, part),
         out,
     )
 }

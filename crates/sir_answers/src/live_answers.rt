@@ -19,7 +19,7 @@ use crate::questions::LiveQuestion;
 use plank_core::dense_index_set::list;
 use plank_core::index::{BlockId, LocalId};
 use plank_core::rows::row_of;
-use sir_analyses::answers::{Answer, finish, words_answer};
+use sir_analyses::answers::{Answer, words_answer};
 use sir_analyses::local_intervals::compute_intervals;
 use sir_analyses::local_liveness::{compute_liveness, compute_liveness_at_block_entry};
 use sir_analyses::stages::{LIVE, exits, is_visited};
@@ -59,10 +59,7 @@ fn intervals_answer(
     requires liveness_stage { LivenessStage words.now live.now × (v.0 < locals words.now) }
     ensures { made result.number result.length out.new ≡ answered (bind (intervals_answer words.now v.0) bytes_of) out.old }
 {
-    counted_answer(
-        |part: &mut [u8]| compute_intervals(words, visit, live, v, part),
-        out,
-    )
+    counted_answer(|part| compute_intervals(words, visit, live, v, part), out)
 }
 
 // The answer to a question on liveness, from the sets and the number of passes.

@@ -14,7 +14,7 @@ use crate::all_uses::all_uses_answer;
 use crate::counted::counted_answer;
 use crate::questions::OrderQuestion;
 use plank_core::index::{BlockId, LocalId};
-use sir_analyses::answers::{Answer, finish, words_answer};
+use sir_analyses::answers::{Answer, words_answer};
 use sir_analyses::def_use::{input_counts, put_uses};
 use sir_analyses::predecessors::put_predecessors;
 use sir_analyses::reverse_post_order::order_words;
@@ -34,10 +34,7 @@ fn predecessors_answer(words: &[u32], visit: &[u32], b: BlockId, out: &mut [u8])
     requires { VisitStage words.now visit.now }
     ensures { made result.number result.length out.new ≡ answered (bind (predecessors_answer words.now b.0) bytes_of) out.old }
 {
-    counted_answer(
-        |part: &mut [u8]| put_predecessors(words, visit, b, part),
-        out,
-    )
+    counted_answer(|part| put_predecessors(words, visit, b, part), out)
 }
 
 // The uses of a local.
@@ -47,10 +44,7 @@ fn uses_answer(words: &[u32], visit: &[u32], v: LocalId, out: &mut [u8]) -> Answ
 {
     let mut counts = [0u32; 1024];
     input_counts(words, v, &mut counts);
-    counted_answer(
-        |part: &mut [u8]| put_uses(words, visit, &counts, v, part),
-        out,
-    )
+    counted_answer(|part| put_uses(words, visit, &counts, v, part), out)
 }
 
 // The answer to a question of the order.
