@@ -7,7 +7,7 @@ use Rattle.sir_answers.proofs.all_intervals.close_ends.Goals as goal
 use Rattle.sir_answers.proofs.all_intervals.close_ends.Goals.{then-to-ne0, else-to-ne0}
 
 pub loop-v-init : goal.loop-v-init
-loop-v-init c = (omega arith, closing_none c.requires.fits)
+loop-v-init c = closing_none c.requires.fits
 
 pub overflow_cast-to : goal.overflow_cast-to
 overflow_cast-to c = omega (arith, c.type_inv.ids c.loop-v.v-index)
@@ -21,22 +21,22 @@ bounds-till-v c =
 
 pub append-requires : goal.append-requires
 append-requires c =
-    closing_fits c.loop-v.invariant.1 c.loop-v-test.true c.if-to-ne0.true c.requires.below
+    closing_fits c.loop-v.invariant c.loop-v-test.true c.if-to-ne0.true c.requires.below
 
 pub loop-v-preserved : goal.loop-v-preserved
 loop-v-preserved c =
-    let k = c.loop-v.invariant.1 in
+    let k = c.loop-v.invariant in
     let h = c.loop-v-test.true in
     elim c.if-to-ne0.branch [
-      | then-to-ne0 w ↦ (omega (arith, h), rw (w.cursors-is, w.out-is) (closing_more k h w.if-to-ne0.true w.append.ensures))
-      | else-to-ne0 w ↦ (omega (arith, h), rw (w.cursors-is, w.out-is) (closing_skip k h w.if-to-ne0.false))
+      | then-to-ne0 w ↦ rw (w.cursors-is, w.out-is) (closing_more k h w.if-to-ne0.true w.append.ensures)
+      | else-to-ne0 w ↦ rw (w.cursors-is, w.out-is) (closing_skip k h w.if-to-ne0.false)
     ]
 
 pub shape_of-cursors : goal.shape_of-cursors
-shape_of-cursors c = c.loop-v.invariant.1.put.wide
+shape_of-cursors c = c.loop-v.invariant.put.wide
 
 pub shape_of-out : goal.shape_of-out
-shape_of-out c = c.loop-v.invariant.1.put.long
+shape_of-out c = c.loop-v.invariant.put.long
 
 pub returns : goal.returns
-returns c = closing_all c.loop-v.invariant.1 c.loop-v-test.false
+returns c = closing_all c.loop-v.invariant c.loop-v-test.false

@@ -2,7 +2,6 @@
 use mathlib.Core.Path.{sym, ap, ◌∙◌}
 use mathlib.Core.List.{List}
 use Prim.Native.Nat.{ℕ, ◌+◌}
-use native.Mathlib.Omega.{arith}
 use lib.ListN.{get_or, drop}
 use Rattle.plank_core.specs.Lists.{bind}
 use Rattle.plank_core.specs.laws.Lists.{get_or_mem}
@@ -19,7 +18,7 @@ rpo-order-requires c =
 pub loop-b-init : goal.loop-b-init
 loop-b-init c =
     let e = c.rpo-order.ensures ∙ c.requires.visit_stage.rpo_is in
-    (omega arith, scattering_as (ap (λ (l : List ℕ). bind l (block_pieces c.args.words.now)) (sym e)) (scattering_none c.requires.cursors_len.1))
+    scattering_as (ap (λ (l : List ℕ). bind l (block_pieces c.args.words.now)) (sym e)) (scattering_none c.requires.cursors_len.1)
 
 pub scan_block-requires : goal.scan_block-requires
 scan_block-requires c =
@@ -30,8 +29,8 @@ scan_block-requires c =
     let b = get_or order L.b-index 0 in
     let h = c.loop-b-test.true in
     let in_order = c.rpo-order.ensures ∙ c.requires.visit_stage.rpo_is in
-    let k = scattering_as (bind_drop_step (block_pieces w) order L.b-index h) L.invariant.1 in
-    record { liveness_stage = c.requires.liveness_stage; b_bound = rpo_below w c.requires.visit_stage.well_formed in_order b (get_or_mem order L.b-index 0 h); cursors_len = (L.invariant.1.wide ∙ c.requires.cursors_len.0, scattering_fits (block_pieces w b) (bind (drop (L.b-index + 1) order) (block_pieces w)) k) }
+    let k = scattering_as (bind_drop_step (block_pieces w) order L.b-index h) L.invariant in
+    record { liveness_stage = c.requires.liveness_stage; b_bound = rpo_below w c.requires.visit_stage.well_formed in_order b (get_or_mem order L.b-index 0 h); cursors_len = (L.invariant.wide ∙ c.requires.cursors_len.0, scattering_fits (block_pieces w b) (bind (drop (L.b-index + 1) order) (block_pieces w)) k) }
 
 pub loop-b-preserved : goal.loop-b-preserved
 loop-b-preserved c =
@@ -40,17 +39,17 @@ loop-b-preserved c =
     let L = c.loop-b in
     let order = c.rpo-order.result.now in
     let h = c.loop-b-test.true in
-    let k = scattering_as (bind_drop_step (block_pieces w) order L.b-index h) L.invariant.1 in
-    (omega (arith, h), scattering_more (bind (drop (L.b-index + 1) order) (block_pieces w)) k c.scan_block.ensures)
+    let k = scattering_as (bind_drop_step (block_pieces w) order L.b-index h) L.invariant in
+    scattering_more (bind (drop (L.b-index + 1) order) (block_pieces w)) k c.scan_block.ensures
 
 pub shape_of-cursors : goal.shape_of-cursors
 shape_of-cursors c =
-    c.loop-b.invariant.1.wide
+    c.loop-b.invariant.wide
 
 pub shape_of-out : goal.shape_of-out
 shape_of-out c =
-    c.loop-b.invariant.1.long
+    c.loop-b.invariant.long
 
 pub returns : goal.returns
 returns c =
-    scattering_all (bind_drop_end (block_pieces c.args.words.now) c.rpo-order.result.now c.loop-b.b-index c.loop-b-test.false) c.loop-b.invariant.1
+    scattering_all (bind_drop_end (block_pieces c.args.words.now) c.rpo-order.result.now c.loop-b.b-index c.loop-b-test.false) c.loop-b.invariant

@@ -1,7 +1,6 @@
 -- `operation_times` meets its contract. The invariant: the operations of the blocks left are to be counted.
 use mathlib.Core.List.{[]}
-use Prim.Native.Nat.{◌≤◌}
-use lib.ListN.{length, drop}
+use lib.ListN.{drop}
 use Rattle.plank_core.specs.Lists.{bind}
 use Rattle.sir_answers.specs.inner.Scatter.{forward}
 use Rattle.sir_answers.specs.inner.Pieces.{one_pieces}
@@ -9,4 +8,4 @@ use Rattle.sir_answers.proofs.scatter.Scattering.{Scattering}
 use Rattle.sir_answers.proofs.all_uses.operation_times.Given as goal
 
 abbrev pub invariant-loop-b : goal.invariant-loop-b
-invariant-loop-b l = (l.b-index ≤ length l.order) × Scattering forward (bind l.order (one_pieces l.words)) l.initial.times [] (bind (drop l.b-index l.order) (one_pieces l.words)) l.times []
+invariant-loop-b l = Scattering forward (bind l.order (one_pieces l.words)) l.initial.times [] (bind (drop l.b-index l.order) (one_pieces l.words)) l.times []

@@ -1,6 +1,5 @@
 -- `scan_uses` meets its contract. The invariant: the pieces of the blocks left are to be put.
-use Prim.Native.Nat.{◌≤◌}
-use lib.ListN.{length, drop}
+use lib.ListN.{drop}
 use Rattle.plank_core.specs.Lists.{bind}
 use Rattle.sir_answers.specs.inner.Scatter.{forward}
 use Rattle.sir_answers.specs.inner.Pieces.{block_use_pieces}
@@ -8,4 +7,4 @@ use Rattle.sir_answers.proofs.scatter.Scattering.{Scattering}
 use Rattle.sir_answers.proofs.all_uses.scan_uses.Given as goal
 
 abbrev pub invariant-loop-b : goal.invariant-loop-b
-invariant-loop-b l = (l.b-index ≤ length l.order) × Scattering forward (bind l.order (block_use_pieces l.words)) l.initial.cursors l.initial.out (bind (drop l.b-index l.order) (block_use_pieces l.words)) l.cursors l.out
+invariant-loop-b l = Scattering forward (bind l.order (block_use_pieces l.words)) l.initial.cursors l.initial.out (bind (drop l.b-index l.order) (block_use_pieces l.words)) l.cursors l.out

@@ -8,7 +8,7 @@ use Rattle.sir_answers.proofs.scatter.total_words.Goals as goal
 
 pub loop-count-init : goal.loop-count-init
 unfolding base
-loop-count-init c = (omega arith, refl)
+loop-count-init c = refl
 
 pub overflow_add-n : goal.overflow_add-n
 overflow_add-n c =
@@ -23,11 +23,11 @@ overflow_add-n-in-loop-count c =
 pub loop-count-preserved : goal.loop-count-preserved
 loop-count-preserved c =
     let L = c.loop-count in
-    (omega arith, omega (arith, base_next (number_at c.args.counts.now) L.count-index))
+    omega (arith, base_next (number_at c.args.counts.now) L.count-index)
 
 pub returns : goal.returns
 returns c =
     let L = c.loop-count in
     let n = length c.args.counts.now in
     let e : L.count-index ≡ n = omega arith in
-    L.invariant.1 ∙ ap (base (number_at c.args.counts.now)) e
+    L.invariant ∙ ap (base (number_at c.args.counts.now)) e
