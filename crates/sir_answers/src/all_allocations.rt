@@ -27,7 +27,8 @@ use sir_analyses::merged_intervals::{live_after, live_before};
 use sir_analyses::stages::{alloc_sites, flags_of, is_visited, reads, writes};
 use sir_data::records::{block_count, block_operations};
 
-// What a start closes for each of some allocations, where an end is open, in front of what each has.
+// What a start closes for each of some allocations, where an end is open, in front of what each has. One function for this and
+// `close_ends` would take `append` or `prepend` with a direction to state what each asks, and be longer than the two.
 fn close_before(
     ids: &[u32],
     till: &[u32],
@@ -159,6 +160,7 @@ fn put_heads(words: &[u32], pointers: &[u32], tops: &[usize], cursors: &mut [usi
     requires cursors_in_bounds { (length cursors.old ≤ length tops.now) × ((a : ℕ) → a < length cursors.old → number_at tops.now a ≡ number_at cursors.old a + length (interval_words (merged words.now a))) }
     ensures { Scatters backward (head_pieces words.now) cursors.old out.old cursors.new out.new }
 {
+    // By index: `prepend` moves the cursors that are gone over.
     for a in 0..cursors.len() {
         let count = (tops[a] - cursors[a]) / 3;
         let id = a as u32;

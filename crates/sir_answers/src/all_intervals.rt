@@ -32,7 +32,8 @@ pub fn list_row(table: &[u64], row: usize, ids: &mut [u32]) -> usize
     list(row_of(table, row), ids)
 }
 
-// What a start closes for each of some locals, where an end is open.
+// What a start closes for each of some locals, where an end is open. In `till` 0 says that none is: one word for each id, where an Option
+// takes two.
 fn close_ends(
     ids: &[u32],
     till: &[u32],

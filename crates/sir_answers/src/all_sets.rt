@@ -53,7 +53,8 @@ fn put_entry_set(
     put_set(&set.words, n, out)
 }
 
-// The entry sets of all blocks; how many words they take.
+// The entry sets of all blocks; how many words they take. A loop for each table: one that took what puts an answer would also take the
+// words that an answer has at most, and be no shorter.
 fn put_entry_sets(words: &[u32], visit: &[u32], live: &[u64], out: &mut [u8]) -> usize
     requires visit_stage { VisitStage words.now visit.now }
     requires liveness_stage { LivenessStage words.now live.now }

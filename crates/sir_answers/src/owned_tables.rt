@@ -24,7 +24,8 @@ pub const OWN_WORDS: usize = 4104;
 
 pub const OWNED: usize = 4616;
 
-// The owner of local v: its allocation + 1; 0 where it has none, or where that allocation is marked.
+// The owner of local v: its allocation + 1; 0 where it has none, or where that allocation is marked. No Option, since this is the row of
+// the local in `own_rows`, and what `own_words` stores.
 pub fn unmarked_owner(pointers: &[u32], v: LocalId) -> u32
     requires { (length pointers.now ≡ 2051) × (v.0 < 512) × (get_or (owners_in pointers.now) v.0 0 ≤ 512) }
     ensures { (result ≡ unmarked_owner pointers.now v.0) × (result ≤ 512) }

@@ -1,5 +1,5 @@
 -- `add_owners` meets its contract. The invariant: the owners of the locals before i are in the set.
-use mathlib.Core.Path.{refl, sym, ◌∙◌}
+use mathlib.Core.Path.{sym, ◌∙◌}
 use native.Mathlib.Omega.{arith}
 use lib.ListN.{get_or}
 use Rattle.plank_core.specs.laws.Lists.{get_or_mem}
@@ -13,7 +13,7 @@ use Rattle.sir_answers.proofs.open_allocations.add_owners.Goals.{then-owner-ne0,
 pub loop-v-init : goal.loop-v-init
 loop-v-init c =
     let a = c.args in
-    (refl, split_none (unmarked_owner a.pointers.now) one_row a.ids.now a.owners.now a.owners.now)
+    split_none (unmarked_owner a.pointers.now) one_row a.ids.now a.owners.now a.owners.now
 
 pub unmarked_owner-owner-requires : goal.unmarked_owner-owner-requires
 unmarked_owner-owner-requires c =
@@ -28,7 +28,7 @@ overflow_sub-owner c =
 
 pub row_add-requires : goal.row_add-requires
 row_add-requires c =
-    (omega (arith, c.loop-v.invariant.0, c.requires.owners_len), omega (arith, c.if-owner-ne0.true, c.unmarked_owner-owner.ensures.1))
+    (omega (arith, c.loop-v.auto.owners, c.requires.owners_len), omega (arith, c.if-owner-ne0.true, c.unmarked_owner-owner.ensures.1))
 
 pub loop-v-preserved : goal.loop-v-preserved
 loop-v-preserved c =
@@ -37,15 +37,15 @@ loop-v-preserved c =
     let owner = c.unmarked_owner-owner in
     let h = c.loop-v-test.true in
     elim c.if-owner-ne0.branch [
-      | then-owner-ne0 w ↦ rw w.owners-is (omega (arith, w.row_add.auto, l.invariant.0), split_more (unmarked_owner a.pointers.now) one_row a.ids.now a.owners.now l.owners l.v-index owner.result h owner.ensures.0 w.if-owner-ne0.true owner.ensures.1 w.row_add.ensures.1 l.invariant.1)
-      | else-owner-ne0 w ↦ rw w.owners-is (l.invariant.0, split_skip (unmarked_owner a.pointers.now) one_row a.ids.now a.owners.now l.owners l.v-index h (sym owner.ensures.0 ∙ w.if-owner-ne0.false) l.invariant.1)
+      | then-owner-ne0 w ↦ rw w.owners-is (split_more (unmarked_owner a.pointers.now) one_row a.ids.now a.owners.now l.owners l.v-index owner.result h owner.ensures.0 w.if-owner-ne0.true owner.ensures.1 w.row_add.ensures.1 l.invariant)
+      | else-owner-ne0 w ↦ rw w.owners-is (split_skip (unmarked_owner a.pointers.now) one_row a.ids.now a.owners.now l.owners l.v-index h (sym owner.ensures.0 ∙ w.if-owner-ne0.false) l.invariant)
     ]
 
 pub shape_of-owners : goal.shape_of-owners
-shape_of-owners c = c.loop-v.invariant.0
+shape_of-owners c = c.loop-v.auto.owners
 
 pub returns : goal.returns
 returns c =
     let a = c.args in
     let l = c.loop-v in
-    split_all (unmarked_owner a.pointers.now) one_row a.ids.now a.owners.now l.owners l.v-index c.loop-v-test.false l.invariant.1
+    split_all (unmarked_owner a.pointers.now) one_row a.ids.now a.owners.now l.owners l.v-index c.loop-v-test.false l.invariant

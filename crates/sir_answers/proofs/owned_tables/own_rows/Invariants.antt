@@ -1,10 +1,8 @@
 -- `own_rows` meets its contract. The invariant: the locals below v are in their rows.
-use mathlib.Core.Path.{◌≡◌}
-use lib.ListN.{length}
 use Rattle.sir_analyses.specs.inner.Tables.{Adds}
 use Rattle.sir_answers.specs.inner.AllocationPieces.{unmarked_owner}
 use Rattle.sir_answers.proofs.owned_tables.OwnedTables.{owned_to}
 use Rattle.sir_answers.proofs.owned_tables.own_rows.Given as goal
 
 abbrev pub invariant-loop-v : goal.invariant-loop-v
-invariant-loop-v l = (length l.rows ≡ length l.initial.rows) × Adds l.initial.rows (owned_to (unmarked_owner l.pointers) l.initial.rows l.rows l.v) l.rows
+invariant-loop-v l = Adds l.initial.rows (owned_to (unmarked_owner l.pointers) l.initial.rows l.rows l.v) l.rows

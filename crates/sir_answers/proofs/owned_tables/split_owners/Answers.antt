@@ -12,7 +12,7 @@ use Rattle.sir_answers.proofs.owned_tables.split_owners.Goals.{then-owner-ne0, e
 
 pub loop-v-init : goal.loop-v-init
 loop-v-init c =
-    (refl, split_none (owner_in c.args.owned.now) (side c.args.owned.now c.args.set.now) c.args.ids.now c.args.split.now c.args.split.now)
+    split_none (owner_in c.args.owned.now) (side c.args.owned.now c.args.set.now) c.args.ids.now c.args.split.now c.args.split.now
 
 pub overflow_cast-owner : goal.overflow_cast-owner
 overflow_cast-owner c =
@@ -93,7 +93,7 @@ row_add-requires c =
     let o = owner_in a.owned.now v in
     let read = owner_read a.owned.now v small in
     let most : o ≤ 512 = tables.owner_most v small in
-    (omega (arith, c.side_of.ensures, side_most a.owned.now a.set.now (get_or a.owned.now (4104 + v) 0 - 1), L.invariant.0, c.requires.set_len.1), omega (arith, read, most, c.if-owner-ne0.true))
+    (omega (arith, c.side_of.ensures, side_most a.owned.now a.set.now (get_or a.owned.now (4104 + v) 0 - 1), L.auto.split, c.requires.set_len.1), omega (arith, read, most, c.if-owner-ne0.true))
 
 pub loop-v-preserved : goal.loop-v-preserved
 loop-v-preserved c =
@@ -110,15 +110,15 @@ loop-v-preserved c =
       | then-owner-ne0 w ↦
           let n = rw read at w.if-owner-ne0.true in
           let p = rw (w.side_of.ensures, read) at w.row_add.ensures.1 in
-          rw w.split-is (omega (arith, w.row_add.auto, L.invariant.0), split_more own to a.ids.now a.split.now L.split L.v-index (own v) h refl n most p L.invariant.1)
-      | else-owner-ne0 w ↦ rw w.split-is (L.invariant.0, split_skip own to a.ids.now a.split.now L.split L.v-index h (sym read ∙ w.if-owner-ne0.false) L.invariant.1)
+          rw w.split-is (split_more own to a.ids.now a.split.now L.split L.v-index (own v) h refl n most p L.invariant)
+      | else-owner-ne0 w ↦ rw w.split-is (split_skip own to a.ids.now a.split.now L.split L.v-index h (sym read ∙ w.if-owner-ne0.false) L.invariant)
     ]
 
 pub shape_of-split : goal.shape_of-split
 shape_of-split c =
-    c.loop-v.invariant.0
+    c.loop-v.auto.split
 
 pub returns : goal.returns
 returns c =
     let a = c.args in
-    split_all (owner_in a.owned.now) (side a.owned.now a.set.now) a.ids.now a.split.now c.loop-v.split c.loop-v.v-index c.loop-v-test.false c.loop-v.invariant.1
+    split_all (owner_in a.owned.now) (side a.owned.now a.set.now) a.ids.now a.split.now c.loop-v.split c.loop-v.v-index c.loop-v-test.false c.loop-v.invariant

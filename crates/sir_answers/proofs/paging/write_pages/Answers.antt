@@ -11,10 +11,10 @@ loop-p-preserved c =
     let first = c.args in
     let l = c.loop-p in
     let next : 512 * l.p + 512 ≡ 512 * (l.p + 1) = omega arith in
-    (omega arith, rw next at (page_more first.words.now l.p (512 * l.p) first.out.now refl l.invariant.1 c.write_page.ensures))
+    rw next at (page_more first.words.now l.p (512 * l.p) first.out.now refl l.invariant c.write_page.ensures)
 
 pub returns : goal.returns
 returns c =
     let l = c.loop-p in
     let p : l.p ≡ length c.args.out.now / 512 = omega arith in
-    l.invariant.1 ∙ rw p
+    l.invariant ∙ rw p

@@ -2,9 +2,9 @@
 use mathlib.Core.Path.{◌≡◌}
 use mathlib.Core.List.{◌++◌}
 use Prim.Native.Nat.{◌*◌}
-use lib.ListN.{length, drop}
+use lib.ListN.{drop}
 use Rattle.sir_answers.proofs.paging.WrittenPages.{pages_to}
 use Rattle.sir_answers.proofs.paging.write_pages.Given as goal
 
 abbrev pub invariant-loop-p : goal.invariant-loop-p
-invariant-loop-p l = (length l.out ≡ length l.initial.out) × (l.out ≡ pages_to l.words l.p ++ drop (512 * l.p) l.initial.out)
+invariant-loop-p l = (l.out ≡ pages_to l.words l.p ++ drop (512 * l.p) l.initial.out)
