@@ -15,18 +15,20 @@ ghost use Rattle.sir_answers.specs.inner.AllocationPieces.{OwnedTables, LiveOwne
 
 use crate::all_intervals::{list_row, open_ends, set_ends};
 use crate::owned_tables::{OWNED, list_owned, owned_tables, split_owners};
-use crate::scatter::{passed_words, prepend, put_lengths, total_words};
+use crate::scatter::{passed_words, prepend, put_lengths};
+use crate::segments::segments_answer;
 use plank_core::index::{AllocId, BlockId, OpIdx};
 use plank_core::rows::{row_of, row_union_with};
 use sir_analyses::allocation_liveness::site_of;
 use sir_analyses::allocation_words::{AllocHead, alloc_head};
-use sir_analyses::answers::{Answer, finish};
+use sir_analyses::answers::Answer;
 use sir_analyses::local_intervals::BLOCK_END;
 use sir_analyses::merged_intervals::{live_after, live_before};
 use sir_analyses::stages::{alloc_sites, flags_of, is_visited, reads, writes};
 use sir_data::records::{block_count, block_operations};
 
-// What a start closes for each of some allocations, where an end is open, in front of what each has.
+// What a start closes for each of some allocations, where an end is open, in front of what each has. One function for this and
+// `close_ends` would take `append` or `prepend` with a direction to state what each asks, and be longer than the two.
 fn close_before(
     ids: &[u32],
     till: &[u32],
@@ -40,13 +42,10 @@ fn close_before(
     requires fits { Fits backward (closed_pieces b.0 from (number_at till.now) ids.now) cursors.old }
     ensures { Scatters backward (closed_pieces b.0 from (number_at till.now) ids.now) cursors.old out.old cursors.new out.new }
 {
-    let mut i: usize = 0;
-    while i < ids.len() {
-        let v = ids[i];
-        let to = till[v as usize];
-        i += 1;
+    for v in ids {
+        let to = till[*v as usize];
         if to != 0 {
-            prepend(cursors, v, &[b.0, from, to], out);
+            prepend(cursors, *v, &[b.0, from, to], out);
         }
     }
 }
@@ -63,33 +62,27 @@ fn live_owners<'a>(owned: &'a [u64], set: &'a [u64], ids: &mut [u32]) -> usize
     list_row(&split, 0, ids)
 }
 
-// The owners of some locals in two rows: those with a live local, and those with none.
-#[derive(Clone, Copy)]
-pub struct Split {
-    pub words: [u64; 16],
-}
-
-// The owners of the locals that operation o reads or writes, by the live locals.
+// The owners of the locals that operation o reads or writes, in two rows: those with a live local, and those with none.
 fn split_touched<'a>(
     live: &[u64],
     owned: &'a [u64],
     o: OpIdx,
     set: &'a [u64],
     ids: &mut [u32],
-) -> Split
+) -> [u64; 16]
     requires live_len { (length live.now ≡ 24576) × (o.0 < 1024) }
     requires by_index { (w : List ℕ) × OwnedTables w owned.now }
     requires set_len { (length set.now ≡ 8) × (length ids.old ≡ 512) }
-    ensures { SplitOwners live.now o.0 owned.now set.now result.words }
+    ensures { SplitOwners live.now o.0 owned.now set.now result }
 {
     let row = o.0 as usize;
     let mut touched = [0u64; 8];
     row_union_with(&mut touched, 0, row_of(writes(live), row));
     row_union_with(&mut touched, 0, row_of(reads(live), row));
     let n = list_owned(owned, &touched, ids);
-    let mut words = [0u64; 16];
-    split_owners(&ids[..n], owned, set, &mut words);
-    Split { words }
+    let mut split = [0u64; 16];
+    split_owners(&ids[..n], owned, set, &mut split);
+    split
 }
 
 // The intervals of all allocations in block b.
@@ -114,16 +107,13 @@ fn sweep_block(
     let n = live_owners(owned, &set, &mut ids);
     set_ends(&ids[..n], BLOCK_END, &mut till);
     let span = block_operations(words, b);
-    let first = span.start;
-    let mut o = span.end;
-    while first < o {
-        o -= 1;
+    for o in (span.start..span.end).rev() {
         live_before(live, OpIdx(o), &mut set);
         let split = split_touched(live, owned, OpIdx(o), &set, &mut ids);
-        let dead = list_row(&split.words, 1, &mut ids);
+        let dead = list_row(&split, 1, &mut ids);
         close_before(&ids[..dead], &till, b, o + 1, cursors, out);
         set_ends(&ids[..dead], 0, &mut till);
-        let alive = list_row(&split.words, 0, &mut ids);
+        let alive = list_row(&split, 0, &mut ids);
         open_ends(&ids[..alive], o + 1, &mut till);
     }
     let m = live_owners(owned, &set, &mut ids);
@@ -145,9 +135,8 @@ fn sweep_blocks(
     requires cursors_len { (length cursors.old ≡ length (allocs words.now)) × Fits backward (visited_pieces words.now) cursors.old }
     ensures { Scatters backward (visited_pieces words.now) cursors.old out.old cursors.new out.new }
 {
-    let mut b = block_count(words);
-    while 0 < b {
-        b -= 1;
+    let count = block_count(words);
+    for b in (0..count).rev() {
         if is_visited(visit, BlockId(b)) {
             sweep_block(words, live, owned, BlockId(b), cursors, out);
         }
@@ -171,25 +160,12 @@ fn put_heads(words: &[u32], pointers: &[u32], tops: &[usize], cursors: &mut [usi
     requires cursors_in_bounds { (length cursors.old ≤ length tops.now) × ((a : ℕ) → a < length cursors.old → number_at tops.now a ≡ number_at cursors.old a + length (interval_words (merged words.now a))) }
     ensures { Scatters backward (head_pieces words.now) cursors.old out.old cursors.new out.new }
 {
-    let mut a: usize = 0;
-    while a < cursors.len() {
+    // By index: `prepend` moves the cursors that are gone over.
+    for a in 0..cursors.len() {
         let count = (tops[a] - cursors[a]) / 3;
         let id = a as u32;
         let head = record_head(words, pointers, AllocId(id), count as u32);
         prepend(cursors, id, &head.words, out);
-        a += 1;
-    }
-}
-
-// Copies some numbers to the front of an array.
-fn copy_numbers(from: &[usize], to: &mut [usize])
-    requires { length from.now ≤ length to.old }
-    ensures { (v : ℕ) → v < length from.now → number_at to.new v ≡ number_at from.now v }
-{
-    let mut v: usize = 0;
-    while v < from.len() {
-        to[v] = from[v];
-        v += 1;
     }
 }
 
@@ -211,7 +187,7 @@ fn scan_allocations(
     let mut owned = [0u64; OWNED];
     owned_tables(words, pointers, &mut owned);
     let mut tops = [0usize; 512];
-    copy_numbers(cursors, &mut tops);
+    tops[..cursors.len()].copy_from_slice(cursors);
     sweep_blocks(words, visit, live, &owned, cursors, out);
     put_heads(words, pointers, &tops, cursors, out);
 }
@@ -270,13 +246,11 @@ fn fill_allocations(
     ensures { made result.number result.length out.new ≡ answered (bind (all (λ w. length (allocs w)) allocation_answer words.now) bytes_of) out.old }
 {
     count_allocations(words, visit, live, pointers, cursors);
-    let answer = finish(total_words(cursors), out.len());
-    if answer.number != 0 {
-        return answer;
-    }
-    let end = answer.length as usize;
-    write_allocations(words, visit, live, pointers, cursors, &mut out[..end]);
-    answer
+    segments_answer(
+        cursors,
+        |counts, part| write_allocations(words, visit, live, pointers, counts, part),
+        out,
+    )
 }
 
 // The records of all allocations.

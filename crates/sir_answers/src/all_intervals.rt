@@ -13,11 +13,12 @@ ghost use Rattle.sir_analyses.specs.inner.Stages.{VisitStage, LivenessStage, end
 ghost use Rattle.sir_answers.specs.inner.Scatter.{number_at, forward, Below, Fits, Scatters, Counts};
 ghost use Rattle.sir_answers.specs.inner.IntervalPieces.{closed_pieces, OpenEnds, operations_pieces, start_pieces, block_pieces, local_pieces};
 
-use crate::scatter::{append, put_lengths, total_words};
+use crate::scatter::{append, put_lengths};
+use crate::segments::segments_answer;
 use plank_core::dense_index_set::list;
 use plank_core::index::BlockId;
 use plank_core::rows::row_of;
-use sir_analyses::answers::{Answer, finish};
+use sir_analyses::answers::Answer;
 use sir_analyses::local_intervals::BLOCK_END;
 use sir_analyses::local_liveness::compute_liveness_at_block_entry;
 use sir_analyses::stages::{ends, exits, reads, rpo, writes};
@@ -31,7 +32,8 @@ pub fn list_row(table: &[u64], row: usize, ids: &mut [u32]) -> usize
     list(row_of(table, row), ids)
 }
 
-// What a start closes for each of some locals, where an end is open.
+// What a start closes for each of some locals, where an end is open. In `till` 0 says that none is: one word for each id, where an Option
+// takes two.
 fn close_ends(
     ids: &[u32],
     till: &[u32],
@@ -45,13 +47,10 @@ fn close_ends(
     requires fits { Fits forward (closed_pieces b.0 from (number_at till.now) ids.now) cursors.old }
     ensures { Scatters forward (closed_pieces b.0 from (number_at till.now) ids.now) cursors.old out.old cursors.new out.new }
 {
-    let mut i: usize = 0;
-    while i < ids.len() {
-        let v = ids[i];
-        let to = till[v as usize];
-        i += 1;
+    for v in ids {
+        let to = till[*v as usize];
         if to != 0 {
-            append(cursors, v, &[b.0, from, to], out);
+            append(cursors, *v, &[b.0, from, to], out);
         }
     }
 }
@@ -61,10 +60,8 @@ pub fn set_ends(ids: &[u32], to: u32, till: &mut [u32])
     requires { (v : ℕ) → v ∈ ids.now → v < length till.old }
     ensures { (v : ℕ) → number_at till.new v ≡ cond (mem v ids.now) to (number_at till.old v) }
 {
-    let mut i: usize = 0;
-    while i < ids.len() {
-        till[ids[i] as usize] = to;
-        i += 1;
+    for v in ids {
+        till[*v as usize] = to;
     }
 }
 
@@ -73,10 +70,8 @@ pub fn open_ends(ids: &[u32], to: u32, till: &mut [u32])
     requires { (v : ℕ) → v ∈ ids.now → v < length till.old }
     ensures { (v : ℕ) → number_at till.new v ≡ cond (mem v ids.now && eqb (number_at till.old v) 0) to (number_at till.old v) }
 {
-    let mut i: usize = 0;
-    while i < ids.len() {
-        let v = ids[i] as usize;
-        i += 1;
+    for id in ids {
+        let v = *id as usize;
         if till[v] == 0 {
             till[v] = to;
         }
@@ -113,11 +108,8 @@ fn scan_operations(
     ensures scatters { Scatters forward (operations_pieces words.now b.0) cursors.old out.old cursors.new out.new }
 {
     let span = block_operations(words, b);
-    let first = span.start;
     let mut ids = [0u32; 512];
-    let mut o = span.end;
-    while first < o {
-        o -= 1;
+    for o in (span.start..span.end).rev() {
         let row = o as usize;
         let n = list_row(writes(live), row, &mut ids);
         close_ends(&ids[..n], till, b, o + 1, cursors, out);
@@ -168,10 +160,8 @@ fn scan_intervals(words: &[u32], visit: &[u32], live: &[u64], cursors: &mut [usi
     ensures { Scatters forward (local_pieces words.now) cursors.old out.old cursors.new out.new }
 {
     let order = rpo(visit);
-    let mut i: usize = 0;
-    while i < order.len() {
-        scan_block(words, live, BlockId(order[i]), cursors, out);
-        i += 1;
+    for b in order {
+        scan_block(words, live, BlockId(*b), cursors, out);
     }
 }
 
@@ -217,13 +207,11 @@ fn fill_intervals(
     ensures { made result.number result.length out.new ≡ answered (bind (all locals intervals_answer words.now) bytes_of) out.old }
 {
     count_intervals(words, visit, live, cursors);
-    let answer = finish(total_words(cursors), out.len());
-    if answer.number != 0 {
-        return answer;
-    }
-    let end = answer.length as usize;
-    write_intervals(words, visit, live, cursors, &mut out[..end]);
-    answer
+    segments_answer(
+        cursors,
+        |counts, part| write_intervals(words, visit, live, counts, part),
+        out,
+    )
 }
 
 // The intervals of all locals.

@@ -11,9 +11,10 @@ ghost use Rattle.sir_answers.specs.inner.Pieces.{edge_pieces, predecessor_pieces
 ghost use Rattle.sir_answers.specs.inner.Scatter.{forward, Fits, Scatters, Counts};
 ghost use Rattle.sir_analyses.specs.inner.Stages.{VisitStage};
 
-use crate::scatter::{append, put_lengths, total_words};
+use crate::scatter::{append, put_lengths};
+use crate::segments::segments_answer;
 use plank_core::index::BlockId;
-use sir_analyses::answers::{Answer, finish};
+use sir_analyses::answers::Answer;
 use sir_analyses::stages::is_visited;
 use sir_data::records::block_count;
 use sir_data::view::{successor, successor_count};
@@ -27,11 +28,9 @@ fn scan_edges(words: &[u32], p: BlockId, cursors: &mut [usize], out: &mut [u8])
 {
     let piece = [p.0];
     let count = successor_count(words, p);
-    let mut i: usize = 0;
-    while i < count {
+    for i in 0..count {
         let s = successor(words, p, i);
         append(cursors, s.0, &piece, out);
-        i += 1;
     }
 }
 
@@ -42,12 +41,9 @@ fn scan_predecessors(words: &[u32], visit: &[u32], cursors: &mut [usize], out: &
     ensures { Scatters forward (predecessor_pieces words.now) cursors.old out.old cursors.new out.new }
 {
     let count = block_count(words);
-    let mut p: u32 = 0;
-    while p < count {
-        let id = p;
-        p += 1;
-        if is_visited(visit, BlockId(id)) {
-            scan_edges(words, BlockId(id), cursors, out);
+    for p in 0..count {
+        if is_visited(visit, BlockId(p)) {
+            scan_edges(words, BlockId(p), cursors, out);
         }
     }
 }
@@ -79,13 +75,11 @@ fn fill_predecessors(words: &[u32], visit: &[u32], cursors: &mut [usize], out: &
     ensures { made result.number result.length out.new ≡ answered (bind (all blocks predecessors_answer words.now) bytes_of) out.old }
 {
     count_predecessors(words, visit, cursors);
-    let answer = finish(total_words(cursors), out.len());
-    if answer.number != 0 {
-        return answer;
-    }
-    let end = answer.length as usize;
-    write_predecessors(words, visit, cursors, &mut out[..end]);
-    answer
+    segments_answer(
+        cursors,
+        |counts, part| write_predecessors(words, visit, counts, part),
+        out,
+    )
 }
 
 // The predecessors of all blocks.

@@ -10,10 +10,11 @@ ghost use Rattle.sir_analyses.specs.Calls.{made, answered};
 ghost use Rattle.sir_analyses.specs.inner.Stages.{VisitStage, LivenessStage, PointerStage};
 ghost use Rattle.sir_analyses.specs.inner.Writing.{Puts};
 
+use crate::counted::counted_answer;
 use plank_core::dense_index_set::{len, list};
 use plank_core::index::{BlockId, LocalId};
 use plank_core::rows::row_of;
-use sir_analyses::answers::{Answer, finish, put_word, put_words};
+use sir_analyses::answers::{Answer, put_word, put_words};
 use sir_analyses::local_liveness::compute_liveness_at_block_entry;
 use sir_analyses::stages::{exits, is_visited, owner_of};
 use sir_data::records::{block_count, local_count};
@@ -52,7 +53,8 @@ fn put_entry_set(
     put_set(&set.words, n, out)
 }
 
-// The entry sets of all blocks; how many words they take.
+// The entry sets of all blocks; how many words they take. A loop for each table: one that took what puts an answer would also take the
+// words that an answer has at most, and be no shorter.
 fn put_entry_sets(words: &[u32], visit: &[u32], live: &[u64], out: &mut [u8]) -> usize
     requires visit_stage { VisitStage words.now visit.now }
     requires liveness_stage { LivenessStage words.now live.now }
@@ -60,10 +62,8 @@ fn put_entry_sets(words: &[u32], visit: &[u32], live: &[u64], out: &mut [u8]) ->
 {
     let count = block_count(words);
     let mut m: usize = 0;
-    let mut b: u32 = 0;
-    while b < count {
+    for b in 0..count {
         m = put_entry_set(words, visit, live, BlockId(b), m, out);
-        b += 1;
     }
     m
 }
@@ -76,10 +76,8 @@ fn put_exit_sets(words: &[u32], live: &[u64], out: &mut [u8]) -> usize
     let table = exits(live);
     let count = block_count(words);
     let mut m: usize = 0;
-    let mut b: u32 = 0;
-    while b < count {
+    for b in 0..count {
         m = put_set(row_of(table, b as usize), m, out);
-        b += 1;
     }
     m
 }
@@ -91,48 +89,34 @@ fn put_owners(words: &[u32], pointers: &[u32], out: &mut [u8]) -> usize
 {
     let count = local_count(words);
     let mut m: usize = 0;
-    let mut v: u32 = 0;
-    while v < count {
+    for v in 0..count {
         let answer = [1, owner_of(pointers, LocalId(v))];
         m = put_words(out, m, &answer);
-        v += 1;
     }
     m
 }
 
-// The entry sets of all blocks: counts, then writes.
+// The entry sets of all blocks.
 pub fn all_entry_sets_answer(words: &[u32], visit: &[u32], live: &[u64], out: &mut [u8]) -> Answer
     requires visit_stage { VisitStage words.now visit.now }
     requires liveness_stage { LivenessStage words.now live.now }
     ensures { made result.number result.length out.new ≡ answered (bind (all blocks entry_answer words.now) bytes_of) out.old }
 {
-    let n = put_entry_sets(words, visit, live, &mut []);
-    let answer = finish(n, out.len());
-    let end = answer.length as usize;
-    put_entry_sets(words, visit, live, &mut out[..end]);
-    answer
+    counted_answer(|part| put_entry_sets(words, visit, live, part), out)
 }
 
-// The exit sets of all blocks: counts, then writes.
+// The exit sets of all blocks.
 pub fn all_exit_sets_answer(words: &[u32], live: &[u64], out: &mut [u8]) -> Answer
     requires { LivenessStage words.now live.now }
     ensures { made result.number result.length out.new ≡ answered (bind (all blocks exit_answer words.now) bytes_of) out.old }
 {
-    let n = put_exit_sets(words, live, &mut []);
-    let answer = finish(n, out.len());
-    let end = answer.length as usize;
-    put_exit_sets(words, live, &mut out[..end]);
-    answer
+    counted_answer(|part| put_exit_sets(words, live, part), out)
 }
 
-// The owners of all locals: counts, then writes.
+// The owners of all locals.
 pub fn all_owners_answer(words: &[u32], pointers: &[u32], out: &mut [u8]) -> Answer
     requires { PointerStage words.now pointers.now }
     ensures { made result.number result.length out.new ≡ answered (bind (all locals owner_answer words.now) bytes_of) out.old }
 {
-    let n = put_owners(words, pointers, &mut []);
-    let answer = finish(n, out.len());
-    let end = answer.length as usize;
-    put_owners(words, pointers, &mut out[..end]);
-    answer
+    counted_answer(|part| put_owners(words, pointers, part), out)
 }

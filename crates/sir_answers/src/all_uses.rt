@@ -14,9 +14,10 @@ ghost use Rattle.sir_answers.specs.inner.Pieces.{input_use_pieces, condition_pie
 ghost use Rattle.sir_analyses.specs.inner.Stages.{VisitStage};
 ghost use Rattle.sir_answers.specs.inner.Scatter.{forward, Fits, Scatters, Counts};
 
-use crate::scatter::{advance, advance_each, append, append_each, put_lengths, total_words};
+use crate::scatter::{advance, advance_each, append, append_each, put_lengths};
+use crate::segments::segments_answer;
 use plank_core::index::{BlockId, OpIdx};
-use sir_analyses::answers::{Answer, finish};
+use sir_analyses::answers::Answer;
 use sir_analyses::stages::rpo;
 use sir_data::records::{Tested, local_count, op_inputs, operation_count};
 use sir_data::view::{condition, operations, outputs};
@@ -29,12 +30,9 @@ fn scan_operations(words: &[u32], b: BlockId, cursors: &mut [usize], out: &mut [
     ensures { Scatters forward (input_use_pieces words.now b.0) cursors.old out.old cursors.new out.new }
 {
     let span = operations(words, b);
-    let last = span.end;
-    let mut o = span.start;
-    while o < last {
+    for o in span.start..span.end {
         let piece = [b.0, 0, o];
         append_each(cursors, op_inputs(words, OpIdx(o)), &piece, out);
-        o += 1;
     }
 }
 
@@ -60,11 +58,9 @@ fn scan_outputs(words: &[u32], b: BlockId, cursors: &mut [usize], out: &mut [u8]
     ensures { Scatters forward (output_pieces words.now b.0) cursors.old out.old cursors.new out.new }
 {
     let run = outputs(words, b);
-    let mut k: u32 = 0;
-    while (k as usize) < run.len() {
-        let piece = [b.0, 2, k];
-        append(cursors, run[k as usize], &piece, out);
-        k += 1;
+    for (k, v) in run.iter().enumerate() {
+        let piece = [b.0, 2, k as u32];
+        append(cursors, *v, &piece, out);
     }
 }
 
@@ -98,10 +94,8 @@ fn scan_all_ends(words: &[u32], visit: &[u32], cursors: &mut [usize], out: &mut 
     ensures { Scatters forward (bind (blocks_rpo words.now) (end_pieces words.now)) cursors.old out.old cursors.new out.new }
 {
     let order = rpo(visit);
-    let mut i: usize = 0;
-    while i < order.len() {
-        scan_ends(words, BlockId(order[i]), cursors, out);
-        i += 1;
+    for b in order {
+        scan_ends(words, BlockId(*b), cursors, out);
     }
 }
 
@@ -113,10 +107,8 @@ fn scan_uses(words: &[u32], visit: &[u32], cursors: &mut [usize], out: &mut [u8]
     ensures { Scatters forward (bind (blocks_rpo words.now) (block_use_pieces words.now)) cursors.old out.old cursors.new out.new }
 {
     let order = rpo(visit);
-    let mut i: usize = 0;
-    while i < order.len() {
-        scan_block(words, BlockId(order[i]), cursors, out);
-        i += 1;
+    for b in order {
+        scan_block(words, BlockId(*b), cursors, out);
     }
 }
 
@@ -128,11 +120,8 @@ fn count_operations(words: &[u32], b: BlockId, times: &mut [usize])
     ensures { Scatters forward (one_pieces words.now b.0) times.old [] times.new [] }
 {
     let span = operations(words, b);
-    let last = span.end;
-    let mut o = span.start;
-    while o < last {
+    for o in span.start..span.end {
         advance(times, o, 1);
-        o += 1;
     }
 }
 
@@ -143,10 +132,8 @@ fn operation_times(words: &[u32], visit: &[u32], times: &mut [usize])
     ensures { OperationTimes words.now times.new }
 {
     let order = rpo(visit);
-    let mut i: usize = 0;
-    while i < order.len() {
-        count_operations(words, BlockId(order[i]), times);
-        i += 1;
+    for b in order {
+        count_operations(words, BlockId(*b), times);
     }
 }
 
@@ -158,10 +145,8 @@ fn count_inputs(words: &[u32], times: &[usize], cursors: &mut [usize])
     ensures { Scatters forward (input_pieces words.now times.now) cursors.old [] cursors.new [] }
 {
     let last = operation_count(words);
-    let mut o: u32 = 0;
-    while o < last {
+    for o in 0..last {
         advance_each(cursors, op_inputs(words, OpIdx(o)), 3 * times[o as usize]);
-        o += 1;
     }
 }
 
@@ -195,13 +180,11 @@ fn fill_uses(words: &[u32], visit: &[u32], cursors: &mut [usize], out: &mut [u8]
     ensures { made result.number result.length out.new ≡ answered (bind (all locals uses_answer words.now) bytes_of) out.old }
 {
     count_uses(words, visit, cursors);
-    let answer = finish(total_words(cursors), out.len());
-    if answer.number != 0 {
-        return answer;
-    }
-    let end = answer.length as usize;
-    write_uses(words, visit, cursors, &mut out[..end]);
-    answer
+    segments_answer(
+        cursors,
+        |counts, part| write_uses(words, visit, counts, part),
+        out,
+    )
 }
 
 // The uses of all locals.

@@ -1,6 +1,6 @@
 // Whether two allocations cross, and the first operation that lies in intervals of both: blocks by id, and in each backwards through
 // its operations, so that the last one found is the first.
-ghost use Rattle.std.specs.Prelude.{◌≡◌, true, false, ◌&&◌, cond, ℕ, ◌+◌, ◌<◌, length};
+ghost use Rattle.std.specs.Prelude.{◌≡◌, true, false, ◌&&◌, ℕ, ◌<◌, length, IfSome, option_map};
 ghost use Rattle.plank_core.specs.Lists.{bind};
 ghost use Rattle.plank_core.specs.inner.DenseIndexSet.{meets};
 ghost use Rattle.sir_data.specs.Pages.{bytes_of};
@@ -27,83 +27,58 @@ fn both_meet<'a>(one: &'a [u64], other: &'a [u64], set: &'a [u64]) -> bool
     requires { (length one.now ≡ 8) × (length other.now ≡ 8) × (length set.now ≡ 8) }
     ensures { result ≡ (meets one.now set.now && meets other.now set.now) }
 {
-    if intersects(one, set) {
-        return intersects(other, set);
-    }
-    false
+    intersects(one, set) && intersects(other, set)
 }
 
-// The first common operation of those from o on, plus 1, or 0; `found` is that of those after o.
-fn earliest(common: bool, o: OpIdx, found: u32) -> u32
-    requires { o.0 < 1024 }
-    ensures { result ≡ cond common (o.0 + 1) found }
-{
-    if common {
-        return o.0 + 1;
-    }
-    found
-}
-
-// The first operation of block b that is common to two allocations, by their reaches, plus 1; or 0.
+// The first operation of block b that is common to two allocations, by their reaches.
 fn first_common<'a>(
     words: &[u32],
     live: &[u64],
     one: &'a [u64],
     other: &'a [u64],
     b: BlockId,
-) -> u32
+) -> Option<OpIdx>
     requires liveness_stage { LivenessStage words.now live.now }
     requires b_bound { (b.0 < blocks words.now) × (is_visited words.now b.0 ≡ true) × (length one.now ≡ 8) × (length other.now ≡ 8) }
-    ensures { (a c : ℕ) → ReachOf words.now a one.now → ReachOf words.now c other.now → result ≡ first_passing (λ o. is_common (merged words.now a) (merged words.now c) (place_of b.0 o)) (ops words.now b.0) }
+    ensures few { IfSome result (λ o. o.0 < 1024) }
+    ensures first_is { (a c : ℕ) → ReachOf words.now a one.now → ReachOf words.now c other.now → option_map (λ o. o.0) result ≡ first_passing (λ o. is_common (merged words.now a) (merged words.now c) (place_of b.0 o)) (ops words.now b.0) }
 {
     let mut set = [0u64; 8];
     live_after(live, b, &mut set);
     let span = block_operations(words, b);
-    let first = span.start;
-    let mut o = span.end;
-    let mut found: u32 = 0;
-    while first < o {
-        o -= 1;
+    let mut found = None;
+    for o in (span.start..span.end).rev() {
         live_around(live, OpIdx(o), &mut set);
-        found = earliest(both_meet(one, other, &set), OpIdx(o), found);
+        if both_meet(one, other, &set) {
+            found = Some(OpIdx(o));
+        }
         live_before(live, OpIdx(o), &mut set);
     }
     found
 }
 
-// The words of an answer on two allocations: 1 or 0, block + 1, operation + 1.
-#[derive(Clone, Copy)]
-pub struct Crossing {
-    pub words: [u32; 3],
-}
-
-// Where two unmarked allocations cross, by their reaches.
+// Where two unmarked allocations cross, by their reaches, in the words of an answer: 1 or 0, block + 1, operation + 1.
 fn crossing_of_reaches<'a>(
     words: &[u32],
     visit: &[u32],
     live: &[u64],
     one: &'a [u64],
     other: &'a [u64],
-) -> Crossing
+) -> [u32; 3]
     requires visit_stage { VisitStage words.now visit.now }
     requires liveness_stage { LivenessStage words.now live.now }
     requires one_len { (length one.now ≡ 8) × (length other.now ≡ 8) }
-    ensures { (a c : ℕ) → ReachOf words.now a one.now → ReachOf words.now c other.now → result.words ≡ crossing words.now a c }
+    ensures { (a c : ℕ) → ReachOf words.now a one.now → ReachOf words.now c other.now → result ≡ crossing words.now a c }
 {
     let count = block_count(words);
-    let mut b: u32 = 0;
-    while b < count {
+    for b in 0..count {
         if is_visited(visit, BlockId(b)) {
-            let found = first_common(words, live, one, other, BlockId(b));
-            if found != 0 {
-                return Crossing {
-                    words: [1, b + 1, found],
-                };
+            if let Some(o) = first_common(words, live, one, other, BlockId(b)) {
+                return [1, b + 1, o.0 + 1];
             }
         }
-        b += 1;
     }
-    Crossing { words: [0, 0, 0] }
+    [0, 0, 0]
 }
 
 // Whether two unmarked allocations cross, and where.
@@ -113,12 +88,12 @@ fn unmarked_crossing(
     pointers: &[u32],
     one: AllocId,
     other: AllocId,
-) -> Crossing
+) -> [u32; 3]
     requires visit_stage { VisitStage words.now visit.now }
     requires pointer_stage { PointerStage words.now pointers.now }
     requires one_in_bounds { (one.0 < length (allocs words.now)) × (other.0 < length (allocs words.now)) }
     requires one_value { (marked words.now one.0 ≡ false) × (marked words.now other.0 ≡ false) }
-    ensures { result.words ≡ crossing words.now one.0 other.0 }
+    ensures { result ≡ crossing words.now one.0 other.0 }
 {
     let mut live = [0u64; LIVE];
     compute_liveness(words, visit, &mut live);
@@ -147,5 +122,5 @@ pub fn crossing_answer(
         return words_answer(&[1, 0, 0], out);
     }
     let told = unmarked_crossing(words, visit, pointers, one, other);
-    words_answer(&told.words, out)
+    words_answer(&told, out)
 }

@@ -14,11 +14,12 @@ ghost use Rattle.sir_answers.specs.declared.questions.Question.{Question};
 
 use crate::all_intervals::all_intervals_answer;
 use crate::all_sets::{all_entry_sets_answer, all_exit_sets_answer};
+use crate::counted::counted_answer;
 use crate::questions::LiveQuestion;
 use plank_core::dense_index_set::list;
 use plank_core::index::{BlockId, LocalId};
 use plank_core::rows::row_of;
-use sir_analyses::answers::{Answer, finish, words_answer};
+use sir_analyses::answers::{Answer, words_answer};
 use sir_analyses::local_intervals::compute_intervals;
 use sir_analyses::local_liveness::{compute_liveness, compute_liveness_at_block_entry};
 use sir_analyses::stages::{LIVE, exits, is_visited};
@@ -46,7 +47,7 @@ fn entry_answer(words: &[u32], visit: &[u32], live: &[u64], b: BlockId, out: &mu
     set_answer(&set.words, out)
 }
 
-// The intervals of a local: counts, then writes.
+// The intervals of a local.
 fn intervals_answer(
     words: &[u32],
     visit: &[u32],
@@ -58,11 +59,7 @@ fn intervals_answer(
     requires liveness_stage { LivenessStage words.now live.now × (v.0 < locals words.now) }
     ensures { made result.number result.length out.new ≡ answered (bind (intervals_answer words.now v.0) bytes_of) out.old }
 {
-    let n = compute_intervals(words, visit, live, v, &mut []);
-    let answer = finish(n, out.len());
-    let end = answer.length as usize;
-    compute_intervals(words, visit, live, v, &mut out[..end]);
-    answer
+    counted_answer(|part| compute_intervals(words, visit, live, v, part), out)
 }
 
 // The answer to a question on liveness, from the sets and the number of passes.

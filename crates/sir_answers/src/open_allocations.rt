@@ -39,9 +39,7 @@ fn scan_to(words: &[u32], live: &[u64], b: BlockId, o: OpIdx, set: &mut [u64])
     live_after(live, b, set);
     let span = block_operations(words, b);
     let last = o.0 + 1;
-    let mut p = span.end;
-    while last < p {
-        p -= 1;
+    for p in (last..span.end).rev() {
         live_before(live, OpIdx(p), set);
     }
     live_around(live, o, set);
@@ -54,10 +52,8 @@ fn add_owners(pointers: &[u32], ids: &[u32], owners: &mut [u64])
     requires owners_len { length owners.old ≡ 8 }
     ensures { Adds owners.old (λ r a. mem (a + 1) (map (unmarked_owner pointers.now) ids.now) && eqb r 0) owners.new }
 {
-    let mut i: usize = 0;
-    while i < ids.len() {
-        let owner = unmarked_owner(pointers, LocalId(ids[i]));
-        i += 1;
+    for v in ids {
+        let owner = unmarked_owner(pointers, LocalId(*v));
         if owner != 0 {
             row_add(owners, 0, owner - 1);
         }

@@ -11,9 +11,10 @@ ghost use Rattle.sir_answers.specs.declared.questions.Question.{Question};
 
 use crate::all_predecessors::all_predecessors_answer;
 use crate::all_uses::all_uses_answer;
+use crate::counted::counted_answer;
 use crate::questions::OrderQuestion;
 use plank_core::index::{BlockId, LocalId};
-use sir_analyses::answers::{Answer, finish, words_answer};
+use sir_analyses::answers::{Answer, words_answer};
 use sir_analyses::def_use::{input_counts, put_uses};
 use sir_analyses::predecessors::put_predecessors;
 use sir_analyses::reverse_post_order::order_words;
@@ -28,30 +29,22 @@ fn visit_answer(postorder: &[u32], out: &mut [u8]) -> Answer
     words_answer(&order[..n], out)
 }
 
-// Predecessors: counts, then writes.
+// The predecessors of a block.
 fn predecessors_answer(words: &[u32], visit: &[u32], b: BlockId, out: &mut [u8]) -> Answer
     requires { VisitStage words.now visit.now }
     ensures { made result.number result.length out.new ≡ answered (bind (predecessors_answer words.now b.0) bytes_of) out.old }
 {
-    let n = put_predecessors(words, visit, b, &mut []);
-    let answer = finish(n, out.len());
-    let end = answer.length as usize;
-    put_predecessors(words, visit, b, &mut out[..end]);
-    answer
+    counted_answer(|part| put_predecessors(words, visit, b, part), out)
 }
 
-// Uses: counts, then writes.
+// The uses of a local.
 fn uses_answer(words: &[u32], visit: &[u32], v: LocalId, out: &mut [u8]) -> Answer
     requires { VisitStage words.now visit.now }
     ensures { made result.number result.length out.new ≡ answered (bind (uses_answer words.now v.0) bytes_of) out.old }
 {
     let mut counts = [0u32; 1024];
     input_counts(words, v, &mut counts);
-    let n = put_uses(words, visit, &counts, v, &mut []);
-    let answer = finish(n, out.len());
-    let end = answer.length as usize;
-    put_uses(words, visit, &counts, v, &mut out[..end]);
-    answer
+    counted_answer(|part| put_uses(words, visit, &counts, v, part), out)
 }
 
 // The answer to a question of the order.

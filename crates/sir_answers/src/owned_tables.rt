@@ -24,7 +24,8 @@ pub const OWN_WORDS: usize = 4104;
 
 pub const OWNED: usize = 4616;
 
-// The owner of local v: its allocation + 1; 0 where it has none, or where that allocation is marked.
+// The owner of local v: its allocation + 1; 0 where it has none, or where that allocation is marked. No Option, since this is the row of
+// the local in `own_rows`, and what `own_words` stores.
 pub fn unmarked_owner(pointers: &[u32], v: LocalId) -> u32
     requires { (length pointers.now ≡ 2051) × (v.0 < 512) × (get_or (owners_in pointers.now) v.0 0 ≤ 512) }
     ensures { (result ≡ unmarked_owner pointers.now v.0) × (result ≤ 512) }
@@ -46,11 +47,9 @@ fn own_rows(words: &[u32], pointers: &[u32], rows: &mut [u64])
     ensures { Adds rows.old (λ r v. ltb v (locals words.now) && eqb (unmarked_owner pointers.now v) r) rows.new }
 {
     let count = local_count(words);
-    let mut v: u32 = 0;
-    while v < count {
+    for v in 0..count {
         let owner = unmarked_owner(pointers, LocalId(v));
         row_add(rows, owner as usize, v);
-        v += 1;
     }
 }
 
@@ -61,10 +60,8 @@ fn own_words(words: &[u32], pointers: &[u32], owners: &mut [u64])
     ensures { (v : ℕ) → number_at owners.new v ≡ cond (ltb v (locals words.now)) (unmarked_owner pointers.now v) (number_at owners.old v) }
 {
     let count = local_count(words);
-    let mut v: u32 = 0;
-    while v < count {
+    for v in 0..count {
         owners[v as usize] = unmarked_owner(pointers, LocalId(v)) as u64;
-        v += 1;
     }
 }
 
@@ -112,14 +109,11 @@ pub fn split_owners<'a>(ids: &[u32], owned: &'a [u64], set: &'a [u64], split: &m
     requires set_len { (length set.now ≡ 8) × (length split.old ≡ 16) }
     ensures { Adds split.old (λ r a. owns_one owned.now ids.now a && eqb r (side owned.now set.now a)) split.new }
 {
-    let mut i: usize = 0;
-    while i < ids.len() {
-        let v = ids[i];
-        let owner = owned[OWN_WORDS + v as usize] as usize;
-        i += 1;
+    for v in ids {
+        let owner = owned[OWN_WORDS + *v as usize] as usize;
         if owner != 0 {
             let a = owner - 1;
-            row_add(split, side_of(owned, set, LocalId(v), a), a as u32);
+            row_add(split, side_of(owned, set, LocalId(*v), a), a as u32);
         }
     }
 }

@@ -27,12 +27,8 @@ fn write_pages(words: &[u32], out: &mut [u8])
     ensures { out.new ≡ bind (bind (upto (length out.old / 512)) (page_of words.now)) bytes_of ++ drop (512 * (length out.old / 512)) out.old }
 {
     let n = out.len() / 512;
-    let mut p: usize = 0;
-    let mut start: usize = 0;
-    while p < n {
-        write_page(words, p, &mut out[start..]);
-        p += 1;
-        start += 512;
+    for p in 0..n {
+        write_page(words, p, &mut out[512 * p..]);
     }
 }
 

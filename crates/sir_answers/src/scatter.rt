@@ -21,10 +21,8 @@ pub fn append_each(cursors: &mut [usize], ids: &[u32], words: &[u32], out: &mut 
     requires fits { Fits forward (pieces_at (λ k. words.now) ids.now 0) cursors.old }
     ensures { Scatters forward (pieces_at (λ k. words.now) ids.now 0) cursors.old out.old cursors.new out.new }
 {
-    let mut i: usize = 0;
-    while i < ids.len() {
-        append(cursors, ids[i], words, out);
-        i += 1;
+    for id in ids {
+        append(cursors, *id, words, out);
     }
 }
 
@@ -42,10 +40,8 @@ pub fn advance_each(cursors: &mut [usize], ids: &[u32], n: usize)
     requires fits { Fits forward (pieces_at (λ k. blanks n) ids.now 0) cursors.old }
     ensures { Scatters forward (pieces_at (λ k. blanks n) ids.now 0) cursors.old [] cursors.new [] }
 {
-    let mut i: usize = 0;
-    while i < ids.len() {
-        advance(cursors, ids[i], n);
-        i += 1;
+    for id in ids {
+        advance(cursors, *id, n);
     }
 }
 
@@ -64,10 +60,8 @@ pub fn passed_words(cursors: &mut [usize])
     requires { (v : ℕ) → v < length cursors.old → number_at cursors.old v ≤ 2 ^ 59 }
     ensures { (v : ℕ) → v < length cursors.new → number_at cursors.new v ≡ 2 ^ 59 - number_at cursors.old v }
 {
-    let mut v: usize = 0;
-    while v < cursors.len() {
-        cursors[v] = 576460752303423488 - cursors[v];
-        v += 1;
+    for cursor in cursors.iter_mut() {
+        *cursor = 576460752303423488 - *cursor;
     }
 }
 
@@ -77,10 +71,8 @@ pub fn total_words(counts: &[usize]) -> usize
     ensures { result ≡ base (number_at counts.now) (length counts.now) }
 {
     let mut n: usize = 0;
-    let mut v: usize = 0;
-    while v < counts.len() {
-        n = n + 1 + counts[v];
-        v += 1;
+    for count in counts {
+        n = n + 1 + *count;
     }
     n
 }
@@ -104,12 +96,10 @@ pub fn put_lengths(cursors: &mut [usize], ends: bool, out: &mut [u8])
     ensures { Placed (toward ends) (number_at cursors.old) (length cursors.new) cursors.new out.new }
 {
     let mut start: usize = 0;
-    let mut v: usize = 0;
-    while v < cursors.len() {
-        let n = cursors[v];
+    for cursor in cursors.iter_mut() {
+        let n = *cursor;
         put_word(out, start, n as u32);
-        cursors[v] = origin(start, n, ends);
+        *cursor = origin(start, n, ends);
         start = start + 1 + n;
-        v += 1;
     }
 }

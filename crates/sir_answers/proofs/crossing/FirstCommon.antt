@@ -1,10 +1,12 @@
 -- The first operation that is common to two unmarked allocations: in a block, and over the blocks by id.
 use mathlib.Core.Path.{◌≡◌, refl, sym, ap, ap₂, ◌∙◌}
+use Rattle.std.proofs.Common.{Option, Some, None}
+use Rattle.std.specs.Prelude.{option_map}
+use Rattle.plank_core.specs.declared.index.OpIdx.{OpIdx}
 use mathlib.Core.Bool.{Bool, true, false, not, ◌&&◌, ◌||◌, cond}
 use mathlib.Core.List.Memᴰ
 use mathlib.Core.List.{List, [], ◌∷◌, ◌++◌, map, Memᴰ}
 use Prim.Native.Nat.{ℕ, suc, ◌+◌, ◌-◌, ◌*◌, ◌≤◌, ◌<◌}
-use native.Mathlib.Numerals.{add-one}
 use native.Mathlib.Omega.{arith}
 use lib.ListN.{length, get_or}
 use lib.Dec.{eqb, ltb}
@@ -32,28 +34,28 @@ module _ (f : Place → Bool) (b : ℕ) where
   abbrev passing : List ℕ → List Place
   passing os = keep f (map (place_of b) os)
 
-  -- the first of them, plus 1
-  abbrev first_in : List ℕ → ℕ
+  -- the first of them
+  abbrev first_in : List ℕ → Option ℕ
   first_in os = first_passing (λ o. f (place_of b o)) os
 
   -- none passes
-  pub none_passes : (os : List ℕ) → first_in os ≡ 0 → passing os ≡ []
+  pub none_passes : (os : List ℕ) → first_in os ≡ None → passing os ≡ []
   none_passes [] e = refl
   none_passes (o ∷ os) e = go (f (place_of b o)) (none_passes os) e
     where
-      go : (t : Bool) → (first_in os ≡ 0 → passing os ≡ []) → cond t (suc o) (first_in os) ≡ 0 → cond t (place_of b o ∷ passing os) (passing os) ≡ []
-      go true h e = absurd (omega arith)
+      go : (t : Bool) → (first_in os ≡ None → passing os ≡ []) → cond t (Some o) (first_in os) ≡ None → cond t (place_of b o ∷ passing os) (passing os) ≡ []
+      go true h e = cc
       go false h e = h e
 
   -- one passes: the three words name the first
-  pub first_passes : (os : List ℕ) (rest : List Place) → ¬ (first_in os ≡ 0) → first_of (passing os ++ rest) ≡ 1 ∷ suc b ∷ first_in os ∷ []
-  first_passes [] rest n = absurd (n refl)
-  first_passes (o ∷ os) rest n = go (f (place_of b o)) (first_passes os rest) n
+  pub first_passes : (os : List ℕ) (rest : List Place) (n : ℕ) → Some n ≡ first_in os → first_of (passing os ++ rest) ≡ 1 ∷ suc b ∷ suc n ∷ []
+  first_passes [] rest n e = cc
+  first_passes (o ∷ os) rest n e = go (f (place_of b o)) (first_passes os rest n) e
     where
-      go : (t : Bool) → (¬ (first_in os ≡ 0) → first_of (passing os ++ rest) ≡ 1 ∷ suc b ∷ first_in os ∷ []) → ¬ (cond t (suc o) (first_in os) ≡ 0)
-          → first_of (cond t (place_of b o ∷ passing os) (passing os) ++ rest) ≡ 1 ∷ suc b ∷ cond t (suc o) (first_in os) ∷ []
-      go true h n = refl
-      go false h n = h n
+      go : (t : Bool) → (Some n ≡ first_in os → first_of (passing os ++ rest) ≡ 1 ∷ suc b ∷ suc n ∷ []) → Some n ≡ cond t (Some o) (first_in os)
+          → first_of (cond t (place_of b o ∷ passing os) (passing os) ++ rest) ≡ 1 ∷ suc b ∷ suc n ∷ []
+      go true h e = cc
+      go false h e = h e
 
 -- the locals that an unmarked allocation owns show its reach
 pub owned_reach : {w pointers : List ℕ} → PointerStage w pointers → {a : ℕ} → a < length (allocs w) → marked w a ≡ false → {set : List ℕ}
@@ -67,32 +69,35 @@ common_told good mb mo {one = one} {other} k {a} {c} x y = ap₂ (λ (s t : Bool
 
 -- ---- the scan of a block
 
+-- the number of an operation, where there is one
+abbrev pub raw : Option OpIdx → Option ℕ
+raw o = option_map (λ o. o.0) o
+
 -- the operations os, the last of block b, are passed: what is live before them, and the first of them that is common
-pub record CommonScan (w one other : List ℕ) (b : ℕ) (os set : List ℕ) (found : ℕ) : Type 0 where
+pub record CommonScan (w one other : List ℕ) (b : ℕ) (os set : List ℕ) (found : Option OpIdx) : Type 0 where
   pub live : LiveBefore w b os set
-  pub first_is : (a c : ℕ) → ReachOf w a one → ReachOf w c other → found ≡ first_passing (λ o. is_common (merged w a) (merged w c) (place_of b o)) os
+  pub first_is : (a c : ℕ) → ReachOf w a one → ReachOf w c other → raw found ≡ first_passing (λ o. is_common (merged w a) (merged w c) (place_of b o)) os
 
 module _ {w live : List ℕ} (stage : LivenessStage w live) {one other : List ℕ} {first end : ℕ} {set₀ : List ℕ} {b : ℕ} (s : ScanStart w first end set₀ b) where
-  pub scan_none : {os : List ℕ} → os ≡ [] → CommonScan w one other b os set₀ 0
+  pub scan_none : {os : List ℕ} → os ≡ [] → CommonScan w one other b os set₀ None
   scan_none e = rw e (record { live = s.live; first_is = λ a c x y. refl })
 
-  module _ {o : ℕ} {set : List ℕ} {found : ℕ} (k : CommonScan w one other b (range (o + 1) end) set found) (h : first ≤ o) (q : o < end) where
+  module _ {o : ℕ} {set : List ℕ} {found : Option OpIdx} (k : CommonScan w one other b (range (o + 1) end) set found) (h : first ≤ o) (q : o < end) where
     held : o ∈ ops w b
     held = let e = s.end_is in let f = s.start_is in count_mem o (block_word w b 4) (block_word w b 5 - block_word w b 4) (omega arith) (omega arith)
 
     few : o < operations w
     few = omega (arith, s.end_is, stage.well_formed.in_range.ops_range b s.below)
 
-    pub scan_more : (around : List ℕ) {set' : List ℕ} {common : Bool} {found' : ℕ}
+    pub scan_more : (around : List ℕ) {set' : List ℕ} {common : Bool} {found' : Option OpIdx}
         → ((v : ℕ) → v < 512 → contains around v ≡ (contains set v || contains (reads_in live) (512 * o + v))) → length around ≡ 8
-        → common ≡ (meets one around && meets other around) → found' ≡ cond common (o + 1) found
+        → common ≡ (meets one around && meets other around) → raw found' ≡ cond common (Some o) (raw found)
         → ((v : ℕ) → v < 512 → contains set' v ≡ ((contains around v && not (contains (writes_in live) (512 * o + v))) || contains (reads_in live) (512 * o + v))) → length set' ≡ 8
         → CommonScan w one other b (o ∷ range (o + 1) end) set' found'
-    scan_more around {common = common} f long m n g long' = record {
+    scan_more around f long m n g long' = record {
       live = live_passed stage s.below k.live few around f g long';
       first_is = λ a c x y.
-          n ∙ ap₂ (λ (t : Bool) (r : ℕ). cond t (o + 1) r) (m ∙ common_told stage.well_formed s.visited held here x y) (k.first_is a c x y)
-          ∙ ap (λ (i : ℕ). cond (is_common (merged w a) (merged w c) (place_of b o)) i (first_passing (λ o. is_common (merged w a) (merged w c) (place_of b o)) (range (o + 1) end))) (add-one o);
+          n ∙ ap₂ (λ (t : Bool) (r : Option ℕ). cond t (Some o) r) (m ∙ common_told stage.well_formed s.visited held here x y) (k.first_is a c x y);
     }
       where
         here : LiveAround w b o around
@@ -133,10 +138,11 @@ module _ (w : List ℕ) (a c : ℕ) where
     pub crossing_on : keep common (in_block b) ≡ [] → crossing_from b ≡ crossing_from (b + 1)
     crossing_on e = ap first_of (step ∙ ap (λ (ps : List Place). ps ++ keep common (bind (range (b + 1) (blocks w)) in_block)) e)
 
-    pub crossing_found : {n : ℕ} → n ≡ first_passing (λ o. common (place_of b o)) (ops w b) → ¬ (n ≡ 0) → 1 ∷ (b + 1) ∷ n ∷ [] ≡ crossing_from b
-    crossing_found {n} e z =
+    pub crossing_found : {n : ℕ} → Some n ≡ first_passing (λ o. common (place_of b o)) (ops w b) → 1 ∷ (b + 1) ∷ (n + 1) ∷ [] ≡ crossing_from b
+    crossing_found {n} e =
         let k : b + 1 ≡ suc b = omega arith in
-        rw (k, e) (sym (ap first_of step ∙ first_passes common b (ops w b) (keep common (bind (range (b + 1) (blocks w)) in_block)) (λ q. z (e ∙ q))))
+        let m : n + 1 ≡ suc n = omega arith in
+        rw (k, m) (sym (ap first_of step ∙ first_passes common b (ops w b) (keep common (bind (range (b + 1) (blocks w)) in_block)) n e))
 
     -- nothing is common in a block that was not visited
     pub unvisited_apart : marked w a ≡ false → is_visited w b ≡ false → keep common (in_block b) ≡ []

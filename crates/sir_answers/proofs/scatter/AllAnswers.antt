@@ -52,9 +52,6 @@ module _ {n : ℕ} {ans : ℕ → List ℕ} {counts : List ℕ} (k : Counts n an
   pub lengths_fit : {m : ℕ} → Small n ans → m ≡ 4 * length (all_of ans n) → (base (number_at counts) (length counts) < 2 ^ 60) × ((4 * base (number_at counts) (length counts) ≤ m) × ((v : ℕ) → v < length counts → number_at counts v < 2 ^ 32))
   lengths_fit s l = (counts_fit s, (omega (arith, counts_total), λ v h. omega (arith, k.count_is v (omega (arith, k.wide)), s.words v (omega (arith, k.wide)))))
 
-  counts_finished : {r room number len : ℕ} → r ≡ base (number_at counts) (length counts) → Finished r room number len → Finished (length (all_of ans n)) room number len
-  counts_finished e f = rw (e ∙ counts_total) at f
-
   -- pieces for the segments of their size
   pub placed_fits : (d : Direction) {ps : Pieces} {cursors out : List ℕ} → ((v : ℕ) → v < n → pieces_of v (in_order d ps) ≡ ans v)
       → length cursors ≡ n → Placed d (number_at counts) (length cursors) cursors out → Small n ans → Fits d ps cursors
@@ -120,13 +117,9 @@ passed_all wide t same small s kept p = record {
 
 -- ---- 14, or the answer
 
-module _ {n : ℕ} {ans : ℕ → List ℕ} {counts : List ℕ} (k : Counts n ans counts) (out : List ℕ) {r number len : ℕ} (total : r ≡ base (number_at counts) (length counts)) (f : Finished r (length out) number len) where
-  -- the words of all ids
-  abbrev words : List ℕ
-  words = all_of ans n
-
+module _ (words out : List ℕ) {number len : ℕ} (f : Finished (length words) (length out) number len) where
   finish_cases : (P : Type 0) → (ltb (length out) (4 * length words) ≡ true → number ≡ 14 → len ≡ 0 → P) → (ltb (length out) (4 * length words) ≡ false → number ≡ 0 → len ≡ 4 * length words → P) → P
-  finish_cases P a b = go (ltb (length out) (4 * length words)) refl (counts_finished k total f)
+  finish_cases P a b = go (ltb (length out) (4 * length words)) refl f
     where
       go : (t : Bool) → ltb (length out) (4 * length words) ≡ t → Finished (length words) (length out) number len → P
       go true e g = a e (rw e at g.number_is) (rw e at g.len_is)

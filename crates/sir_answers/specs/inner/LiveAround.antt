@@ -1,5 +1,5 @@
 -- What is open at an operation and where two allocations cross, by the locals that are live around it: before it or after it.
-use Rattle.std.specs.Prelude.{◌≡◌, Bool, true, ◌||◌, cond, ℕ, suc, ◌+◌, ◌<◌, length}
+use Rattle.std.specs.Prelude.{◌≡◌, Bool, true, ◌||◌, cond, ℕ, suc, ◌+◌, ◌<◌, length, Option, Some, None}
 use mathlib.Core.List.{List, [], ◌∷◌, map, foldr}
 use Rattle.plank_core.specs.Lists.{range, mem}
 use Rattle.plank_core.specs.inner.DenseIndexSet.{contains, members}
@@ -33,7 +33,7 @@ pub record UnmarkedOwners (pointers set ids : List ℕ) : Type 0 where
 abbrev pub ReachOf : List ℕ → ℕ → List ℕ → Type 0
 ReachOf w a set = Unmarked w (alloc_at w a).block (alloc_at w a).op set a
 
--- the first of some operations that passes a test, plus 1; or 0
-abbrev pub first_passing : (ℕ → Bool) → List ℕ → ℕ
-first_passing f [] = 0
-first_passing f (o ∷ os) = cond (f o) (suc o) (first_passing f os)
+-- the first of some operations that passes a test
+abbrev pub first_passing : (ℕ → Bool) → List ℕ → Option ℕ
+first_passing f [] = None
+first_passing f (o ∷ os) = cond (f o) (Some o) (first_passing f os)

@@ -1,7 +1,10 @@
 -- `scan_allocations` meets its contract.
-use mathlib.Core.Path.{◌≡◌, refl, sym, ◌∙◌}
+use mathlib.Core.Path.{◌≡◌, refl, sym, ap, ◌∙◌}
 use native.Mathlib.Omega.{arith}
-use lib.ListN.{length}
+use mathlib.Core.List.{List}
+use Prim.Native.Nat.{ℕ}
+use lib.ListN.{length, get_or, length-append, get_or-append}
+use lib.Seq.{length-take-le}
 use Rattle.sir_answers.specs.inner.AllocationPieces.{visited_pieces, head_pieces}
 use Rattle.sir_analyses.proofs.allocation_liveness.PointerTables.{allocations_few}
 use Rattle.sir_answers.proofs.scatter.Scattering.{fits_first, fits_rest, scatters_then}
@@ -15,12 +18,17 @@ pub owned_tables-requires : goal.owned_tables-requires
 owned_tables-requires c =
     record { pointer_stage = c.requires.pointer_stage; owned_value = refl }
 
-pub slice_bounds-copy_numbers-end : goal.slice_bounds-copy_numbers-end
-slice_bounds-copy_numbers-end c = refl
-
-pub copy_numbers-requires : goal.copy_numbers-requires
-copy_numbers-requires c =
+pub slice_bounds-tops-end : goal.slice_bounds-tops-end
+slice_bounds-tops-end c =
     omega (arith, c.requires.cursors_len.0, allocations_few c.requires.pointer_stage)
+
+pub slice_bounds-copy_from_slice-end : goal.slice_bounds-copy_from_slice-end
+slice_bounds-copy_from_slice-end c =
+    sym (length-take-le _ _ (omega (arith, c.requires.cursors_len.0, allocations_few c.requires.pointer_stage)))
+
+pub copy_from_slice-requires : goal.copy_from_slice-requires
+copy_from_slice-requires c =
+    length-take-le _ _ (omega (arith, c.requires.cursors_len.0, allocations_few c.requires.pointer_stage))
 
 pub slice_bounds-sweep_blocks-end : goal.slice_bounds-sweep_blocks-end
 slice_bounds-sweep_blocks-end c =
@@ -33,10 +41,6 @@ sweep_blocks-requires c =
     let fits = fits_first (visited_pieces w) (head_pieces w) c.requires.cursors_len.1 in
     record { visit_stage = c.requires.visit_stage; liveness_stage = c.requires.liveness_stage; owned_tables = c.owned_tables.ensures; cursors_len = (wide, fits) }
 
-pub slice_bounds-put_heads-end : goal.slice_bounds-put_heads-end
-slice_bounds-put_heads-end c =
-    sym c.copy_numbers.auto.to
-
 pub put_heads-requires : goal.put_heads-requires
 put_heads-requires c =
     let w = c.args.words.now in
@@ -44,7 +48,8 @@ put_heads-requires c =
     let fits = fits_first (visited_pieces w) (head_pieces w) c.requires.cursors_len.1 in
     let s = c.sweep_blocks in
     let kept : length s.new.cursors ≡ length c.args.cursors.now = omega (arith, s.auto) in
-    record { pointer_stage = c.requires.pointer_stage; cursors_len = (kept ∙ wide, fits_rest (head_pieces w) c.requires.cursors_len.1 s.ensures); cursors_in_bounds = (omega (arith, kept, wide, allocations_few c.requires.pointer_stage, c.copy_numbers.auto), λ a h. c.copy_numbers.ensures a (omega (arith, kept)) ∙ tops_are c.requires.pointer_stage a wide fits s.ensures (omega (arith, kept))) }
+    let copied : length c.copy_from_slice.new.self ≡ length c.args.cursors.now = ap length c.copy_from_slice.ensures.after in
+    record { pointer_stage = c.requires.pointer_stage; cursors_len = (kept ∙ wide, fits_rest (head_pieces w) c.requires.cursors_len.1 s.ensures); cursors_in_bounds = (omega (arith, kept, c.copy_from_slice.ensures.after, copied, length-append {A = ℕ}), λ a h. get_or-append c.copy_from_slice.new.self _ 0 a (omega (arith, copied, kept)) ∙ ap (λ (l : List ℕ). get_or l a 0) c.copy_from_slice.ensures.after ∙ tops_are c.requires.pointer_stage a wide fits s.ensures (omega (arith, kept))) }
 
 pub shape_of-cursors : goal.shape_of-cursors
 shape_of-cursors c =

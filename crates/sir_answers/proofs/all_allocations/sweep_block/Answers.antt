@@ -73,8 +73,8 @@ loop-o-init c =
     let ends : SweptEnds w b [] c.set_ends.new.till = swept_none stage c.requires.owned_tables below (replicate 512 0) lives c.live_owners-n.ensures.1 c.set_ends.auto.till (λ v. zero_at 512 v) c.set_ends.ensures in
     (omega (arith, few, span.ensures), omega (arith, few, span.ensures), omega arith, c.live_owners-n.auto.ids, rw none lives, rw none ends, scattering_as (ap (λ (l : List ℕ). bind (reverse l) (swept_pieces w b) ++ open_pieces w b) os) (scattering_none c.requires.cursors_len.1))
 
-pub overflow_sub-o : goal.overflow_sub-o
-overflow_sub-o c = omega (arith, c.loop-o-test.true)
+pub overflow_step-o : goal.overflow_step-o
+overflow_step-o c = omega (arith, c.loop-o-test.true)
 
 pub slice_bounds-live_before-end : goal.slice_bounds-live_before-end
 slice_bounds-live_before-end c =
@@ -116,10 +116,6 @@ pub slice_bounds-close_before-end-in-loop-o : goal.slice_bounds-close_before-end
 slice_bounds-close_before-end-in-loop-o c =
     sym c.loop-o.invariant.5.long
 
-pub overflow_add-o : goal.overflow_add-o
-overflow_add-o c =
-    omega (arith, c.loop-o-test.true, c.loop-o.invariant.1, c.requires.liveness_stage.well_formed.sized.operations_most)
-
 pub close_before-requires : goal.close_before-requires
 close_before-requires c =
     let a = c.args in
@@ -139,7 +135,7 @@ close_before-requires c =
     let closed = ap (closed_pieces b (o + 1) (number_at L.till)) c.list_row-dead.ensures.1 ∙ swept_closed stage c.requires.owned_tables below L.invariant.4 L.invariant.5 m c.live_before.ensures long split os in
     let k = scattering_as (swept_next w b span.result.start L.o h) L.invariant.6 in
     let ready = close_ready closed (L.invariant.6.wide ∙ c.requires.cursors_len.0) (swept_below w stage.well_formed b o below) (scattering_fits (swept_pieces w b o) (swept_left w b span.result.start o) k) in
-    record { by_index = listed_below (row_of c.split_touched-split.result.words 1) L.till c.list_row-dead.ensures.1 L.invariant.5.long; below = ready.0; fits = ready.1 }
+    record { by_index = listed_below (row_of c.split_touched-split.result 1) L.till c.list_row-dead.ensures.1 L.invariant.5.long; below = ready.0; fits = ready.1 }
 
 pub slice_bounds-ids-end-in-loop-o-2 : goal.slice_bounds-ids-end-in-loop-o-2
 slice_bounds-ids-end-in-loop-o-2 c =
@@ -155,7 +151,7 @@ slice_bounds-set_ends-end-in-loop-o-2 c =
 
 pub set_ends-requires-in-loop-o : goal.set_ends-requires-in-loop-o
 set_ends-requires-in-loop-o c =
-    listed_below (row_of c.split_touched-split.result.words 1) c.loop-o.till c.list_row-dead.ensures.1 c.loop-o.invariant.5.long
+    listed_below (row_of c.split_touched-split.result 1) c.loop-o.till c.list_row-dead.ensures.1 c.loop-o.invariant.5.long
 
 pub slice_bounds-list_row-end-in-loop-o-3 : goal.slice_bounds-list_row-end-in-loop-o-3
 slice_bounds-list_row-end-in-loop-o-3 c =
@@ -183,11 +179,7 @@ slice_bounds-open_ends-end-in-loop-o c =
 
 pub open_ends-requires : goal.open_ends-requires
 open_ends-requires c =
-    listed_below (row_of c.split_touched-split.result.words 0) c.set_ends-in-loop-o.new.till c.list_row-alive.ensures.1 (omega (arith, c.set_ends-in-loop-o.auto, c.loop-o.invariant.5.long))
-
-pub loop-o-smaller : goal.loop-o-smaller
-loop-o-smaller c =
-    omega (arith, c.loop-o-test.true)
+    listed_below (row_of c.split_touched-split.result 0) c.set_ends-in-loop-o.new.till c.list_row-alive.ensures.1 (omega (arith, c.set_ends-in-loop-o.auto, c.loop-o.invariant.5.long))
 
 pub loop-o-preserved : goal.loop-o-preserved
 loop-o-preserved c =

@@ -9,21 +9,21 @@ use Rattle.sir_answers.proofs.scatter.Scattering.{scattering_none, scattering_as
 use Rattle.sir_answers.proofs.all_allocations.AllocationPieces.{visited_to, visited_next, visited_skip}
 use Rattle.sir_answers.proofs.all_allocations.sweep_blocks.Goals as goal
 
-pub block_count-b-requires : goal.block_count-b-requires
-block_count-b-requires c =
+pub block_count-count-requires : goal.block_count-count-requires
+block_count-count-requires c =
     omega (arith, c.requires.visit_stage.well_formed.sized.size)
 
 pub loop-b-init : goal.loop-b-init
 loop-b-init c =
-    let n = c.block_count-b.ensures in
-    (omega (arith, n), scattering_as (ap (visited_to c.args.words.now) (sym n)) (scattering_none c.requires.cursors_len.1))
+    let n = c.block_count-count.ensures in
+    scattering_as (ap (visited_to c.args.words.now) (sym n)) (scattering_none c.requires.cursors_len.1)
 
-pub overflow_sub-b : goal.overflow_sub-b
-overflow_sub-b c = omega (arith, c.loop-b-test.true)
+pub overflow_step-b : goal.overflow_step-b
+overflow_step-b c = omega (arith, c.loop-b-test.true)
 
 pub is_visited-requires : goal.is_visited-requires
 is_visited-requires c =
-    (c.requires.visit_stage.long, omega (arith, c.loop-b-test.true, c.loop-b.invariant.0, c.requires.visit_stage.well_formed.sized.blocks_most))
+    (c.requires.visit_stage.long, omega (arith, c.loop-b-test.true, c.requires.visit_stage.well_formed.sized.blocks_most))
 
 pub sweep_block-requires : goal.sweep_block-requires
 sweep_block-requires c =
@@ -31,14 +31,10 @@ sweep_block-requires c =
     let L = c.loop-b in
     let h = c.loop-b-test.true in
     let b = L.b - 1 in
-    let below : b < blocks w = omega (arith, h, L.invariant.0) in
+    let below : b < blocks w = omega (arith, h) in
     let t = sym (c.requires.visit_stage.visited_is b below) ∙ sym c.is_visited.ensures ∙ c.if-is_visited.true in
-    let k = scattering_as (visited_next w L.b h t) L.invariant.1 in
-    record { liveness_stage = c.requires.liveness_stage; owned_tables = c.requires.owned_tables; b_bound = below; cursors_len = (L.invariant.1.wide ∙ c.requires.cursors_len.0, scattering_fits (sweep_pieces w b) (visited_to w b) k) }
-
-pub loop-b-smaller-then-is_visited : goal.loop-b-smaller-then-is_visited
-loop-b-smaller-then-is_visited c =
-    omega (arith, c.loop-b-test.true)
+    let k = scattering_as (visited_next w L.b h t) L.invariant in
+    record { liveness_stage = c.requires.liveness_stage; owned_tables = c.requires.owned_tables; b_bound = below; cursors_len = (L.invariant.wide ∙ c.requires.cursors_len.0, scattering_fits (sweep_pieces w b) (visited_to w b) k) }
 
 pub loop-b-preserved-then-is_visited : goal.loop-b-preserved-then-is_visited
 loop-b-preserved-then-is_visited c =
@@ -46,14 +42,10 @@ loop-b-preserved-then-is_visited c =
     let L = c.loop-b in
     let h = c.loop-b-test.true in
     let b = L.b - 1 in
-    let below : b < blocks w = omega (arith, h, L.invariant.0) in
+    let below : b < blocks w = omega (arith, h) in
     let t = sym (c.requires.visit_stage.visited_is b below) ∙ sym c.is_visited.ensures ∙ c.if-is_visited.true in
-    let k = scattering_as (visited_next w L.b h t) L.invariant.1 in
-    (omega (arith, L.invariant.0), scattering_more (visited_to w b) k c.sweep_block.ensures)
-
-pub loop-b-smaller : goal.loop-b-smaller
-loop-b-smaller c =
-    omega (arith, c.loop-b-test.true)
+    let k = scattering_as (visited_next w L.b h t) L.invariant in
+    scattering_more (visited_to w b) k c.sweep_block.ensures
 
 pub loop-b-preserved : goal.loop-b-preserved
 loop-b-preserved c =
@@ -61,21 +53,21 @@ loop-b-preserved c =
     let L = c.loop-b in
     let h = c.loop-b-test.true in
     let b = L.b - 1 in
-    let below : b < blocks w = omega (arith, h, L.invariant.0) in
+    let below : b < blocks w = omega (arith, h) in
     let t = sym (c.requires.visit_stage.visited_is b below) ∙ sym c.is_visited.ensures ∙ c.if-is_visited.false in
-    (omega (arith, L.invariant.0), scattering_as (visited_skip w L.b h t) L.invariant.1)
+    scattering_as (visited_skip w L.b h t) L.invariant
 
 pub shape_of-cursors : goal.shape_of-cursors
 shape_of-cursors c =
-    c.loop-b.invariant.1.wide
+    c.loop-b.invariant.wide
 
 pub shape_of-out : goal.shape_of-out
 shape_of-out c =
-    c.loop-b.invariant.1.long
+    c.loop-b.invariant.long
 
 pub returns : goal.returns
 returns c =
     let L = c.loop-b in
     let z : L.b ≡ 0 = omega (arith, c.loop-b-test.false) in
     let e : visited_to c.args.words.now L.b ≡ [] = rw z in
-    scattering_all e L.invariant.1
+    scattering_all e L.invariant

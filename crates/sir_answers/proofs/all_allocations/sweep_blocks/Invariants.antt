@@ -1,6 +1,4 @@
 -- `sweep_blocks` meets its contract. The invariant: the pieces of the visited blocks below b are to be put.
-use Prim.Native.Nat.{◌≤◌}
-use Rattle.sir_data.specs.Records.{blocks}
 use Rattle.sir_answers.specs.inner.Scatter.{backward}
 use Rattle.sir_answers.specs.inner.AllocationPieces.{visited_pieces}
 use Rattle.sir_answers.proofs.scatter.Scattering.{Scattering}
@@ -8,7 +6,4 @@ use Rattle.sir_answers.proofs.all_allocations.AllocationPieces.{visited_to}
 use Rattle.sir_answers.proofs.all_allocations.sweep_blocks.Given as goal
 
 abbrev pub invariant-loop-b : goal.invariant-loop-b
-invariant-loop-b l = (l.b ≤ blocks l.words) × Scattering backward (visited_pieces l.words) l.initial.cursors l.initial.out (visited_to l.words l.b) l.cursors l.out
-
-abbrev pub decreases-loop-b : goal.decreases-loop-b
-decreases-loop-b l = l.b
+invariant-loop-b l = Scattering backward (visited_pieces l.words) l.initial.cursors l.initial.out (visited_to l.words l.b) l.cursors l.out

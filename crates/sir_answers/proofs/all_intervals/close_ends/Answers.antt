@@ -4,37 +4,39 @@ use lib.ListN.{get_or}
 use Rattle.plank_core.specs.laws.Lists.{get_or_mem}
 use Rattle.sir_answers.proofs.all_intervals.OpenEnds.{closing_none, closing_fits, closing_more, closing_skip, closing_all}
 use Rattle.sir_answers.proofs.all_intervals.close_ends.Goals as goal
+use Rattle.sir_answers.proofs.all_intervals.close_ends.Goals.{then-to-ne0, else-to-ne0}
 
-pub loop-i-init : goal.loop-i-init
-loop-i-init c = (omega arith, closing_none c.requires.fits)
+pub loop-v-init : goal.loop-v-init
+loop-v-init c = closing_none c.requires.fits
 
 pub overflow_cast-to : goal.overflow_cast-to
-overflow_cast-to c = omega (arith, c.type_inv.ids c.loop-i.i)
+overflow_cast-to c = omega (arith, c.type_inv.ids c.loop-v.v-index)
 
 pub offset_bounds-till-v : goal.offset_bounds-till-v
-offset_bounds-till-v c = omega (arith, c.type_inv.ids c.loop-i.i)
+offset_bounds-till-v c = omega (arith, c.type_inv.ids c.loop-v.v-index)
 
 pub bounds-till-v : goal.bounds-till-v
 bounds-till-v c =
-    c.requires.by_index (get_or c.args.ids.now c.loop-i.i 0) (get_or_mem c.args.ids.now c.loop-i.i 0 c.loop-i-test.true)
+    c.requires.by_index (get_or c.args.ids.now c.loop-v.v-index 0) (get_or_mem c.args.ids.now c.loop-v.v-index 0 c.loop-v-test.true)
 
 pub append-requires : goal.append-requires
 append-requires c =
-    closing_fits c.loop-i.invariant.1 c.loop-i-test.true c.if-to-ne0.true c.requires.below
+    closing_fits c.loop-v.invariant c.loop-v-test.true c.if-to-ne0.true c.requires.below
 
-pub loop-i-preserved-then-to-ne0 : goal.loop-i-preserved-then-to-ne0
-loop-i-preserved-then-to-ne0 c =
-    (omega arith, closing_more c.loop-i.invariant.1 c.loop-i-test.true c.if-to-ne0.true c.append.ensures)
-
-pub loop-i-preserved : goal.loop-i-preserved
-loop-i-preserved c =
-    (omega arith, closing_skip c.loop-i.invariant.1 c.loop-i-test.true c.if-to-ne0.false)
+pub loop-v-preserved : goal.loop-v-preserved
+loop-v-preserved c =
+    let k = c.loop-v.invariant in
+    let h = c.loop-v-test.true in
+    elim c.if-to-ne0.branch [
+      | then-to-ne0 w ↦ rw (w.cursors-is, w.out-is) (closing_more k h w.if-to-ne0.true w.append.ensures)
+      | else-to-ne0 w ↦ rw (w.cursors-is, w.out-is) (closing_skip k h w.if-to-ne0.false)
+    ]
 
 pub shape_of-cursors : goal.shape_of-cursors
-shape_of-cursors c = c.loop-i.invariant.1.put.wide
+shape_of-cursors c = c.loop-v.invariant.put.wide
 
 pub shape_of-out : goal.shape_of-out
-shape_of-out c = c.loop-i.invariant.1.put.long
+shape_of-out c = c.loop-v.invariant.put.long
 
 pub returns : goal.returns
-returns c = closing_all c.loop-i.invariant.1 c.loop-i-test.false
+returns c = closing_all c.loop-v.invariant c.loop-v-test.false

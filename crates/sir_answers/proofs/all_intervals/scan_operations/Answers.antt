@@ -32,8 +32,8 @@ loop-o-init c =
     let os : ops w b ≡ range span.result.start span.result.end = sym (ap₂ range span.ensures.0 span.ensures.1) in
     (omega (arith, few, span.ensures), omega (arith, few, span.ensures), omega arith, search rules, rw (range_none span.result.end span.result.end (omega arith)) c.requires.b_bound.1, scattering_as (ap (λ (l : List ℕ). bind (reverse l) (operation_pieces w b)) os) (scattering_none c.requires.cursors_len.1))
 
-pub overflow_sub-o : goal.overflow_sub-o
-overflow_sub-o c = omega (arith, c.loop-o-test.true)
+pub overflow_step-o : goal.overflow_step-o
+overflow_step-o c = omega (arith, c.loop-o-test.true)
 
 pub overflow_cast-row : goal.overflow_cast-row
 overflow_cast-row c =
@@ -61,10 +61,6 @@ slice_bounds-ids-end c =
 pub slice_bounds-close_ends-end : goal.slice_bounds-close_ends-end
 slice_bounds-close_ends-end c =
     front_length _ _ (omega (arith, c.list_row-n.ensures.0, c.list_row-n.auto, c.loop-o.invariant.3))
-
-pub overflow_add-o : goal.overflow_add-o
-overflow_add-o c =
-    omega (arith, c.loop-o-test.true, c.loop-o.invariant.1, c.requires.liveness_stage.well_formed.sized.operations_most)
 
 pub close_ends-requires : goal.close_ends-requires
 close_ends-requires c =

@@ -1,33 +1,31 @@
 -- `fill_predecessors` meets its contract.
-use native.Mathlib.Omega.{arith}
+use mathlib.Core.Path.{◌≡◌, sym, ap, subst, ◌∙◌}
+use mathlib.Core.List.{List}
+use Prim.Native.Nat.{ℕ, ◌*◌}
+use lib.ListN.{length}
+use Rattle.std.proofs.Common.{rules}
+use Rattle.std.proofs.iter.Serving.{serving}
+use Rattle.sir_data.specs.Records.{blocks}
+use Rattle.sir_analyses.specs.All.{all}
+use Rattle.sir_analyses.specs.Answers.{predecessors_answer}
+use Rattle.sir_answers.specs.inner.Scatter.{Counts}
 use Rattle.sir_answers.proofs.all_predecessors.EdgePieces.{predecessors_small}
-use Rattle.sir_answers.proofs.scatter.AllAnswers.{counts_fit, not_answered, answer_room, whole_answered, lent_long, lent_words}
+use Rattle.sir_answers.proofs.scatter.AllAnswers.{counts_fit, counts_total}
 use Rattle.sir_answers.proofs.all_predecessors.fill_predecessors.Goals as goal
 
-pub total_words-requires : goal.total_words-requires
-total_words-requires c =
+pub segments_answer-requires-clause-total : goal.segments_answer-requires-clause-total
+segments_answer-requires-clause-total c =
     counts_fit c.count_predecessors.ensures (predecessors_small c.args.words.now c.requires.visit_stage.well_formed)
 
-pub finish-answer-requires : goal.finish-answer-requires
-finish-answer-requires c =
-    omega (arith, c.total_words.ensures, counts_fit c.count_predecessors.ensures (predecessors_small c.args.words.now c.requires.visit_stage.well_formed))
-
-pub returns-then-answer-ne0 : goal.returns-then-answer-ne0
-returns-then-answer-ne0 c =
-    not_answered c.count_predecessors.ensures c.args.out.now c.total_words.ensures c.finish-answer.ensures c.if-answer-ne0.true
-
-pub slice_bounds-write_predecessors-end : goal.slice_bounds-write_predecessors-end
-slice_bounds-write_predecessors-end c =
-    answer_room c.count_predecessors.ensures c.args.out.now c.total_words.ensures c.finish-answer.ensures c.if-answer-ne0.false
-
-pub slice_bounds-write_predecessors-end-2 : goal.slice_bounds-write_predecessors-end-2
-slice_bounds-write_predecessors-end-2 c =
-    lent_long c.count_predecessors.ensures c.args.out.now c.total_words.ensures c.finish-answer.ensures c.if-answer-ne0.false
-
-pub write_predecessors-requires : goal.write_predecessors-requires
-write_predecessors-requires c =
-    record { visit_stage = c.requires.visit_stage; counts = c.count_predecessors.ensures; out_len = lent_words c.count_predecessors.ensures c.args.out.now c.total_words.ensures c.finish-answer.ensures c.if-answer-ne0.false }
+pub segments_answer-requires-clause-callable : goal.segments_answer-requires-clause-callable
+segments_answer-requires-clause-callable c =
+    λ s t e l.
+    let w = c.args.words.now in
+    let k : Counts (blocks w) (predecessors_answer w) s.now = subst (λ (n : List ℕ). Counts (blocks w) (predecessors_answer w) n) (sym e) c.count_predecessors.ensures in
+    let m : length t.now ≡ 4 * length (all blocks predecessors_answer w) = l ∙ ap (λ (i : ℕ). 4 * i) (counts_total c.count_predecessors.ensures) in
+    search (rules, serving)
 
 pub returns : goal.returns
 returns c =
-    whole_answered c.count_predecessors.ensures c.args.out.now c.total_words.ensures c.finish-answer.ensures c.if-answer-ne0.false c.write_predecessors.ensures
+    let w = c.args.words.now in
+    c.segments_answer.ensures (all blocks predecessors_answer w) (sym (counts_total c.count_predecessors.ensures)) (λ s t u v e l p. search rules)

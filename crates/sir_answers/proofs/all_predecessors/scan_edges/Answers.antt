@@ -10,7 +10,7 @@ use Rattle.sir_answers.proofs.scatter.PieceLaws.{piece_fits, piece_more, piece_a
 use Rattle.sir_answers.proofs.all_predecessors.scan_edges.Goals as goal
 
 pub loop-i-init : goal.loop-i-init
-loop-i-init c = (omega arith, scattering_none c.requires.fits)
+loop-i-init c = scattering_none c.requires.fits
 
 pub successor-s-requires : goal.successor-s-requires
 successor-s-requires c =
@@ -24,7 +24,7 @@ append-requires c =
     let h : i < length (successors w p) = omega (arith, c.successor_count-count.ensures) in
     let r = c.successor-s.result.0 in
     let l : r < blocks w = rw c.successor-s.ensures (c.requires.well_formed.in_range.successor p (get_or (successors w p) i 0) c.requires.p_bound.0 (get_or_mem (successors w p) i 0 h)) in
-    (omega (arith, c.requires.p_bound.1, c.loop-i.invariant.1.wide), piece_fits (λ k. p ∷ []) (successors w p) c.loop-i.i c.loop-i.invariant.1 h c.successor-s.ensures)
+    (omega (arith, c.requires.p_bound.1, c.loop-i.invariant.wide), piece_fits (λ k. p ∷ []) (successors w p) c.loop-i.i c.loop-i.invariant h c.successor-s.ensures)
 
 pub loop-i-preserved : goal.loop-i-preserved
 loop-i-preserved c =
@@ -32,15 +32,15 @@ loop-i-preserved c =
     let p = c.args.p.0 in
     let i = c.loop-i.i in
     let h : i < length (successors w p) = omega (arith, c.successor_count-count.ensures) in
-    (omega arith, piece_more (λ k. p ∷ []) (successors w p) c.loop-i.i c.loop-i.invariant.1 h c.successor-s.ensures c.append.ensures)
+    piece_more (λ k. p ∷ []) (successors w p) c.loop-i.i c.loop-i.invariant h c.successor-s.ensures c.append.ensures
 
 pub shape_of-cursors : goal.shape_of-cursors
-shape_of-cursors c = c.loop-i.invariant.1.wide
+shape_of-cursors c = c.loop-i.invariant.wide
 
 pub shape_of-out : goal.shape_of-out
-shape_of-out c = c.loop-i.invariant.1.long
+shape_of-out c = c.loop-i.invariant.long
 
 pub returns : goal.returns
 returns c =
     let a = c.args in
-    piece_all (λ k. a.p.0 ∷ []) (successors a.words.now a.p.0) c.loop-i.i c.loop-i.invariant.1 (omega (arith, c.successor_count-count.ensures))
+    piece_all (λ k. a.p.0 ∷ []) (successors a.words.now a.p.0) c.loop-i.i c.loop-i.invariant (omega (arith, c.successor_count-count.ensures))

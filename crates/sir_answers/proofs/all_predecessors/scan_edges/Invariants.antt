@@ -1,6 +1,5 @@
 -- `scan_edges` meets its contract. The invariant: the pieces of the successors left are to be put.
 use mathlib.Core.List.{◌∷◌, []}
-use Prim.Native.Nat.{◌-◌, ◌≤◌}
 use lib.ListN.{drop}
 use Rattle.sir_data.specs.Records.{successors}
 use Rattle.sir_answers.specs.inner.Scatter.{forward}
@@ -9,7 +8,4 @@ use Rattle.sir_answers.proofs.scatter.Scattering.{Scattering}
 use Rattle.sir_answers.proofs.all_predecessors.scan_edges.Given as goal
 
 abbrev pub invariant-loop-i : goal.invariant-loop-i
-invariant-loop-i l = (l.i ≤ l.count) × Scattering forward (edge_pieces l.words l.p.0) l.initial.cursors l.initial.out (pieces_at (λ k. l.p.0 ∷ []) (drop l.i (successors l.words l.p.0)) l.i) l.cursors l.out
-
-abbrev pub decreases-loop-i : goal.decreases-loop-i
-decreases-loop-i l = l.count - l.i
+invariant-loop-i l = Scattering forward (edge_pieces l.words l.p.0) l.initial.cursors l.initial.out (pieces_at (λ k. l.p.0 ∷ []) (drop l.i (successors l.words l.p.0)) l.i) l.cursors l.out

@@ -1,6 +1,6 @@
 -- `scan_predecessors` meets its contract. The invariant: the pieces of the visited blocks from p on are to be put.
 use mathlib.Core.Path.{◌≡◌, sym, ◌∙◌}
-use mathlib.Core.Bool.{true, false}
+use mathlib.Core.Bool.{true}
 use Prim.Native.Nat.{◌+◌, ◌<◌}
 use native.Mathlib.Omega.{arith}
 use Rattle.plank_core.specs.laws.Loops.{range_all}
@@ -10,9 +10,10 @@ use Rattle.sir_answers.specs.inner.Pieces.{edge_pieces}
 use Rattle.sir_answers.proofs.scatter.Scattering.{scattering_none, scattering_as, scattering_fits, scattering_more, scattering_all}
 use Rattle.sir_analyses.proofs.predecessors.Edges.{visited_left, visited_step, unvisited_step, visited_end}
 use Rattle.sir_answers.proofs.all_predecessors.scan_predecessors.Goals as goal
+use Rattle.sir_answers.proofs.all_predecessors.scan_predecessors.Goals.{then-is_visited, else-is_visited}
 
 pub loop-p-init : goal.loop-p-init
-loop-p-init c = (omega arith, scattering_as (rw (c.block_count-count.ensures, range_all)) (scattering_none c.requires.cursors_len.1))
+loop-p-init c = scattering_as (rw (c.block_count-count.ensures, range_all)) (scattering_none c.requires.cursors_len.1)
 
 pub is_visited-requires : goal.is_visited-requires
 is_visited-requires c =
@@ -26,34 +27,28 @@ scan_edges-requires c =
     let h : p < blocks w = omega (arith, c.block_count-count.ensures, c.loop-p-test.true) in
     let t : is_visited w p ≡ true = sym (c.requires.visit_stage.visited_is p h) ∙ sym c.is_visited.ensures ∙ c.if-is_visited.true in
     let e = visited_step w (edge_pieces w) p n c.loop-p-test.true t in
-    record { well_formed = c.requires.visit_stage.well_formed; p_bound = (h, c.loop-p.invariant.1.wide ∙ c.requires.cursors_len.0); fits = scattering_fits (edge_pieces w p) (visited_left w (edge_pieces w) (p + 1) n) (scattering_as e c.loop-p.invariant.1) }
-
-pub loop-p-preserved-then-is_visited : goal.loop-p-preserved-then-is_visited
-loop-p-preserved-then-is_visited c =
-    let w = c.args.words.now in
-    let p = c.loop-p.p in
-    let n = c.block_count-count.result in
-    let h : p < blocks w = omega (arith, c.block_count-count.ensures, c.loop-p-test.true) in
-    let t : is_visited w p ≡ true = sym (c.requires.visit_stage.visited_is p h) ∙ sym c.is_visited.ensures ∙ c.if-is_visited.true in
-    let e = visited_step w (edge_pieces w) p n c.loop-p-test.true t in
-    (omega arith, scattering_more (visited_left w (edge_pieces w) (p + 1) n) (scattering_as e c.loop-p.invariant.1) c.scan_edges.ensures)
+    record { well_formed = c.requires.visit_stage.well_formed; p_bound = (h, c.loop-p.invariant.wide ∙ c.requires.cursors_len.0); fits = scattering_fits (edge_pieces w p) (visited_left w (edge_pieces w) (p + 1) n) (scattering_as e c.loop-p.invariant) }
 
 pub loop-p-preserved : goal.loop-p-preserved
 loop-p-preserved c =
     let w = c.args.words.now in
     let p = c.loop-p.p in
     let n = c.block_count-count.result in
-    let h : p < blocks w = omega (arith, c.block_count-count.ensures, c.loop-p-test.true) in
-    let t : is_visited w p ≡ false = sym (c.requires.visit_stage.visited_is p h) ∙ sym c.is_visited.ensures ∙ c.if-is_visited.false in
-    (omega arith, scattering_as (unvisited_step w (edge_pieces w) p n c.loop-p-test.true t) c.loop-p.invariant.1)
+    let l = c.loop-p-test.true in
+    let h : p < blocks w = omega (arith, c.block_count-count.ensures, l) in
+    let seen : is_visited w p ≡ c.is_visited.result = sym (c.requires.visit_stage.visited_is p h) ∙ sym c.is_visited.ensures in
+    elim c.if-is_visited.branch [
+      | then-is_visited x ↦ rw (x.cursors-is, x.out-is) (scattering_more (visited_left w (edge_pieces w) (p + 1) n) (scattering_as (visited_step w (edge_pieces w) p n l (seen ∙ x.if-is_visited.true)) c.loop-p.invariant) x.scan_edges.ensures)
+      | else-is_visited x ↦ rw (x.cursors-is, x.out-is) (scattering_as (unvisited_step w (edge_pieces w) p n l (seen ∙ x.if-is_visited.false)) c.loop-p.invariant)
+    ]
 
 pub shape_of-cursors : goal.shape_of-cursors
-shape_of-cursors c = c.loop-p.invariant.1.wide
+shape_of-cursors c = c.loop-p.invariant.wide
 
 pub shape_of-out : goal.shape_of-out
-shape_of-out c = c.loop-p.invariant.1.long
+shape_of-out c = c.loop-p.invariant.long
 
 pub returns : goal.returns
 returns c =
     let w = c.args.words.now in
-    scattering_all (visited_end w (edge_pieces w) c.loop-p.p c.block_count-count.result c.loop-p-test.false) c.loop-p.invariant.1
+    scattering_all (visited_end w (edge_pieces w) c.loop-p.p c.block_count-count.result c.loop-p-test.false) c.loop-p.invariant

@@ -1,5 +1,4 @@
 -- `scan_predecessors` meets its contract. The invariant: the pieces of the visited blocks from p on are to be put.
-use Prim.Native.Nat.{◌-◌, ◌≤◌}
 use Rattle.sir_answers.specs.inner.Scatter.{forward}
 use Rattle.sir_answers.specs.inner.Pieces.{edge_pieces, predecessor_pieces}
 use Rattle.sir_answers.proofs.scatter.Scattering.{Scattering}
@@ -7,7 +6,4 @@ use Rattle.sir_analyses.proofs.predecessors.Edges.{visited_left}
 use Rattle.sir_answers.proofs.all_predecessors.scan_predecessors.Given as goal
 
 abbrev pub invariant-loop-p : goal.invariant-loop-p
-invariant-loop-p l = (l.p ≤ l.count) × Scattering forward (predecessor_pieces l.words) l.initial.cursors l.initial.out (visited_left l.words (edge_pieces l.words) l.p l.count) l.cursors l.out
-
-abbrev pub decreases-loop-p : goal.decreases-loop-p
-decreases-loop-p l = l.count - l.p
+invariant-loop-p l = Scattering forward (predecessor_pieces l.words) l.initial.cursors l.initial.out (visited_left l.words (edge_pieces l.words) l.p l.count) l.cursors l.out

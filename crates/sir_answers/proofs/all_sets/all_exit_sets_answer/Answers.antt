@@ -1,31 +1,10 @@
 -- `all_exit_sets_answer` meets its contract.
-use mathlib.Core.Path.{refl, sym}
-use lib.Seq.{length-take-le}
-use Rattle.sir_data.specs.Records.{blocks}
-use Rattle.sir_analyses.specs.All.{all}
-use Rattle.sir_analyses.specs.Answers.{exit_answer}
-use Rattle.sir_analyses.proofs.answers.Calls.{count_write, finish_fits}
 use native.Mathlib.Omega.{arith}
+use Rattle.std.proofs.Common.{rules, ◌≤◌}
 use Rattle.sir_answers.proofs.all_sets.all_exit_sets_answer.Goals as goal
 
-pub put_exit_sets-n-requires : goal.put_exit_sets-n-requires
-put_exit_sets-n-requires c =
-    c.requires
-
-pub finish-answer-requires : goal.finish-answer-requires
-finish-answer-requires c = omega (arith, c.put_exit_sets-n.ensures.0)
-
-pub slice_bounds-put_exit_sets-end-2 : goal.slice_bounds-put_exit_sets-end-2
-slice_bounds-put_exit_sets-end-2 c = finish_fits c.finish-answer.ensures
-
-pub slice_bounds-put_exit_sets-end-3 : goal.slice_bounds-put_exit_sets-end-3
-slice_bounds-put_exit_sets-end-3 c = sym (length-take-le _ _ (finish_fits c.finish-answer.ensures))
-
-pub put_exit_sets-requires : goal.put_exit_sets-requires
-put_exit_sets-requires c =
-    c.requires
-
-pub returns : goal.returns
-returns c =
-    let a = c.args in
-    count_write (all blocks exit_answer a.words.now) a.out.now c.put_exit_sets-n.ensures.1 c.finish-answer.ensures c.put_exit_sets.ensures.1 refl
+pub counted_answer-requires-clause-few : goal.counted_answer-requires-clause-few
+counted_answer-requires-clause-few c =
+    λ s n t p.
+    let most : n ≤ 131328 = search rules in
+    omega (arith, most)

@@ -16,28 +16,20 @@ block_count-count-requires c =
 
 pub loop-b-init : goal.loop-b-init
 loop-b-init c =
-    (omega arith, omega arith, putting_as (ap (λ (n : ℕ). bind (upto n) (λ i. length (entry_answer c.args.words.now i) ∷ entry_answer c.args.words.now i)) (sym c.block_count-count.ensures) ∙ bind_all (λ i. length (entry_answer c.args.words.now i) ∷ entry_answer c.args.words.now i) c.block_count-count.result) putting_none)
+    (omega arith, putting_as (ap (λ (n : ℕ). bind (upto n) (λ i. length (entry_answer c.args.words.now i) ∷ entry_answer c.args.words.now i)) (sym c.block_count-count.ensures) ∙ bind_all (λ i. length (entry_answer c.args.words.now i) ∷ entry_answer c.args.words.now i) c.block_count-count.result) putting_none)
 
 pub put_entry_set-m-requires : goal.put_entry_set-m-requires
 put_entry_set-m-requires c =
-    record { visit_stage = c.requires.visit_stage; liveness_stage = (c.requires.liveness_stage, omega (arith, c.loop-b-test.true, c.block_count-count.ensures), omega (arith, c.loop-b.invariant.1, c.loop-b-test.true, c.block_count-count.ensures, c.requires.visit_stage.well_formed.sized.blocks_most)) }
-
-pub overflow_add-b : goal.overflow_add-b
-overflow_add-b c =
-    omega (arith, c.loop-b-test.true, c.block_count-count.ensures, c.requires.visit_stage.well_formed.sized.blocks_most)
-
-pub loop-b-smaller : goal.loop-b-smaller
-loop-b-smaller c =
-    omega (arith, c.loop-b-test.true, c.block_count-count.ensures, c.requires.visit_stage.well_formed.sized.blocks_most)
+    record { visit_stage = c.requires.visit_stage; liveness_stage = (c.requires.liveness_stage, omega (arith, c.loop-b-test.true, c.block_count-count.ensures), omega (arith, c.loop-b.invariant.0, c.loop-b-test.true, c.block_count-count.ensures, c.requires.visit_stage.well_formed.sized.blocks_most)) }
 
 pub loop-b-preserved : goal.loop-b-preserved
 loop-b-preserved c =
     let w = c.args.words.now in
-    (omega (arith, c.loop-b-test.true), omega (arith, c.put_entry_set-m.ensures.0, c.loop-b.invariant.1), putting_more (putting_as (bind_step (λ i. length (entry_answer w i) ∷ entry_answer w i) c.loop-b.b c.block_count-count.result c.loop-b-test.true) c.loop-b.invariant.2) c.put_entry_set-m.ensures.1)
+    (omega (arith, c.put_entry_set-m.ensures.0, c.loop-b.invariant.0), putting_more (putting_as (bind_step (λ i. length (entry_answer w i) ∷ entry_answer w i) c.loop-b.b c.block_count-count.result c.loop-b-test.true) c.loop-b.invariant.1) c.put_entry_set-m.ensures.1)
 
 pub shape_of-out : goal.shape_of-out
-shape_of-out c = c.loop-b.invariant.2.long
+shape_of-out c = c.loop-b.invariant.1.long
 
 pub returns : goal.returns
 returns c =
-    (omega (arith, c.loop-b.invariant.0, c.loop-b.invariant.1, c.block_count-count.ensures, c.requires.visit_stage.well_formed.sized.blocks_most), putting_all (bind_end (λ i. length (entry_answer c.args.words.now i) ∷ entry_answer c.args.words.now i) c.loop-b.b c.block_count-count.result c.loop-b-test.false) c.loop-b.invariant.2)
+    (omega (arith, c.loop-b.invariant.0, c.block_count-count.ensures, c.requires.visit_stage.well_formed.sized.blocks_most), putting_all (bind_end (λ i. length (entry_answer c.args.words.now i) ∷ entry_answer c.args.words.now i) c.loop-b.b c.block_count-count.result c.loop-b-test.false) c.loop-b.invariant.1)

@@ -1,6 +1,6 @@
 -- `put_entry_sets` meets its contract. The invariant: the answers from id b on are to be put.
 use mathlib.Core.List.{◌∷◌}
-use Prim.Native.Nat.{◌-◌, ◌*◌, ◌≤◌}
+use Prim.Native.Nat.{◌*◌, ◌≤◌}
 use lib.ListN.{length}
 use Rattle.plank_core.specs.Lists.{bind, range}
 use Rattle.sir_data.specs.Records.{blocks}
@@ -10,7 +10,4 @@ use Rattle.sir_analyses.proofs.answers.Writing.{Putting}
 use Rattle.sir_answers.proofs.all_sets.put_entry_sets.Given as goal
 
 abbrev pub invariant-loop-b : goal.invariant-loop-b
-invariant-loop-b l = (l.b ≤ l.count) × (l.m ≤ 513 * l.b) × Putting 0 (all blocks entry_answer l.words) l.initial.out (bind (range l.b l.count) (λ i. length (entry_answer l.words i) ∷ entry_answer l.words i)) l.out l.m
-
-abbrev pub decreases-loop-b : goal.decreases-loop-b
-decreases-loop-b l = l.count - l.b
+invariant-loop-b l = (l.m ≤ 513 * l.b) × Putting 0 (all blocks entry_answer l.words) l.initial.out (bind (range l.b l.count) (λ i. length (entry_answer l.words i) ∷ entry_answer l.words i)) l.out l.m

@@ -1,6 +1,6 @@
 -- `put_owners` meets its contract. The invariant: the answers from id v on are to be put.
 use mathlib.Core.List.{◌∷◌}
-use Prim.Native.Nat.{◌-◌, ◌*◌, ◌≤◌}
+use Prim.Native.Nat.{◌*◌, ◌≤◌}
 use lib.ListN.{length}
 use Rattle.plank_core.specs.Lists.{bind, range}
 use Rattle.sir_data.specs.Records.{locals}
@@ -10,7 +10,4 @@ use Rattle.sir_analyses.proofs.answers.Writing.{Putting}
 use Rattle.sir_answers.proofs.all_sets.put_owners.Given as goal
 
 abbrev pub invariant-loop-v : goal.invariant-loop-v
-invariant-loop-v l = (l.v ≤ l.count) × (l.m ≤ 2 * l.v) × Putting 0 (all locals owner_answer l.words) l.initial.out (bind (range l.v l.count) (λ i. length (owner_answer l.words i) ∷ owner_answer l.words i)) l.out l.m
-
-abbrev pub decreases-loop-v : goal.decreases-loop-v
-decreases-loop-v l = l.count - l.v
+invariant-loop-v l = (l.m ≤ 2 * l.v) × Putting 0 (all locals owner_answer l.words) l.initial.out (bind (range l.v l.count) (λ i. length (owner_answer l.words i) ∷ owner_answer l.words i)) l.out l.m

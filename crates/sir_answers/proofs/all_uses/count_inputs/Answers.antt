@@ -15,7 +15,7 @@ use Rattle.sir_answers.proofs.all_uses.count_inputs.Goals as goal
 
 pub loop-o-init : goal.loop-o-init
 loop-o-init c =
-    (omega arith, scattering_as (rw (c.operation_count-last.ensures, range_all)) (scattering_none c.requires.fits))
+    scattering_as (rw (c.operation_count-last.ensures, range_all)) (scattering_none c.requires.fits)
 
 pub op_inputs-requires : goal.op_inputs-requires
 op_inputs-requires c =
@@ -38,7 +38,7 @@ advance_each-requires c =
     let n = 3 * get_or c.args.times.now o 0 in
     let last = c.operation_count-last.result in
     let g : ℕ → Pieces = λ o. pieces_at (λ k. blanks (3 * get_or c.args.times.now o 0)) (ins w o) 0 in
-    let h : o < operations w = omega (arith, c.operation_count-last.ensures, c.loop-o-test.true) in record { known = λ v m. omega (arith, c.requires.operation_times.1, c.loop-o.invariant.1.wide, c.requires.well_formed.in_range.read o v h (rw is at m)); fits = fits_as (ap (λ (l : List ℕ). pieces_at (λ k. blanks n) l 0) (sym is)) (scattering_fits (g o) (bind (range (o + 1) last) g) (scattering_as (bind_step g o last c.loop-o-test.true) c.loop-o.invariant.1)) }
+    let h : o < operations w = omega (arith, c.operation_count-last.ensures, c.loop-o-test.true) in record { known = λ v m. omega (arith, c.requires.operation_times.1, c.loop-o.invariant.wide, c.requires.well_formed.in_range.read o v h (rw is at m)); fits = fits_as (ap (λ (l : List ℕ). pieces_at (λ k. blanks n) l 0) (sym is)) (scattering_fits (g o) (bind (range (o + 1) last) g) (scattering_as (bind_step g o last c.loop-o-test.true) c.loop-o.invariant)) }
 
 pub loop-o-preserved : goal.loop-o-preserved
 loop-o-preserved c =
@@ -47,13 +47,13 @@ loop-o-preserved c =
     let n = 3 * get_or c.args.times.now o 0 in
     let last = c.operation_count-last.result in
     let g : ℕ → Pieces = λ o. pieces_at (λ k. blanks (3 * get_or c.args.times.now o 0)) (ins c.args.words.now o) 0 in
-    (omega arith, scattering_more (bind (range (o + 1) last) g) (scattering_as (bind_step g o last c.loop-o-test.true) c.loop-o.invariant.1) (scatters_as (ap (λ (l : List ℕ). pieces_at (λ k. blanks n) l 0) is) c.advance_each.ensures))
+    scattering_more (bind (range (o + 1) last) g) (scattering_as (bind_step g o last c.loop-o-test.true) c.loop-o.invariant) (scatters_as (ap (λ (l : List ℕ). pieces_at (λ k. blanks n) l 0) is) c.advance_each.ensures)
 
 pub shape_of-cursors : goal.shape_of-cursors
-shape_of-cursors c = c.loop-o.invariant.1.wide
+shape_of-cursors c = c.loop-o.invariant.wide
 
 pub returns : goal.returns
 returns c =
     let a = c.args in
     let g : ℕ → Pieces = λ o. pieces_at (λ k. blanks (3 * get_or a.times.now o 0)) (ins a.words.now o) 0 in
-    scattering_all (bind_end g c.loop-o.o c.operation_count-last.result c.loop-o-test.false) c.loop-o.invariant.1
+    scattering_all (bind_end g c.loop-o.o c.operation_count-last.result c.loop-o-test.false) c.loop-o.invariant

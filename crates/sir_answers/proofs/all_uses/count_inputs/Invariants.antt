@@ -1,6 +1,6 @@
 -- `count_inputs` meets its contract. The invariant: the inputs of the operations left are to be counted.
 use mathlib.Core.List.{[]}
-use Prim.Native.Nat.{◌-◌, ◌*◌, ◌≤◌}
+use Prim.Native.Nat.{◌*◌}
 use lib.ListN.{get_or}
 use Rattle.plank_core.specs.Lists.{bind, range}
 use Rattle.sir_data.specs.Records.{ins}
@@ -10,7 +10,4 @@ use Rattle.sir_answers.proofs.scatter.Scattering.{Scattering}
 use Rattle.sir_answers.proofs.all_uses.count_inputs.Given as goal
 
 abbrev pub invariant-loop-o : goal.invariant-loop-o
-invariant-loop-o l = (l.o ≤ l.last) × Scattering forward (input_pieces l.words l.times) l.initial.cursors [] (bind (range l.o l.last) (λ o. pieces_at (λ k. blanks (3 * get_or l.times o 0)) (ins l.words o) 0)) l.cursors []
-
-abbrev pub decreases-loop-o : goal.decreases-loop-o
-decreases-loop-o l = l.last - l.o
+invariant-loop-o l = Scattering forward (input_pieces l.words l.times) l.initial.cursors [] (bind (range l.o l.last) (λ o. pieces_at (λ k. blanks (3 * get_or l.times o 0)) (ins l.words o) 0)) l.cursors []

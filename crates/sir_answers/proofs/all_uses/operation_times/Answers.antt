@@ -18,37 +18,37 @@ pub rpo-order-requires : goal.rpo-order-requires
 rpo-order-requires c =
     (c.requires.visit_stage.long, c.requires.visit_stage.few)
 
-pub loop-i-init : goal.loop-i-init
-loop-i-init c =
+pub loop-b-init : goal.loop-b-init
+loop-b-init c =
     let w = c.args.words.now in
-    (omega arith, scattering_none (fits_as (ap (λ (l : List ℕ). bind l (one_pieces w)) (sym (c.rpo-order.ensures ∙ c.requires.visit_stage.rpo_is))) (zero_room c.requires.times_len.1 (λ o h. omega (arith, ones_most w c.requires.visit_stage.well_formed o)))))
+    scattering_none (fits_as (ap (λ (l : List ℕ). bind l (one_pieces w)) (sym (c.rpo-order.ensures ∙ c.requires.visit_stage.rpo_is))) (zero_room c.requires.times_len.1 (λ o h. omega (arith, ones_most w c.requires.visit_stage.well_formed o))))
 
 pub count_operations-requires : goal.count_operations-requires
 count_operations-requires c =
     let w = c.args.words.now in
     let good = c.requires.visit_stage.well_formed in
     let order = c.rpo-order.result.now in
-    let i = c.loop-i.i in
+    let i = c.loop-b.b-index in
     let b = get_or order i 0 in
-    let h = c.loop-i-test.true in
-    record { well_formed = good; b_bound = (rpo_below w good (c.rpo-order.ensures ∙ c.requires.visit_stage.rpo_is) b (get_or_mem order i 0 h), c.loop-i.invariant.1.wide ∙ c.requires.times_len.0); fits = scattering_fits (one_pieces w b) (bind (drop (i + 1) order) (one_pieces w)) (scattering_as (bind_drop_step (one_pieces w) order i h) c.loop-i.invariant.1) }
+    let h = c.loop-b-test.true in
+    record { well_formed = good; b_bound = (rpo_below w good (c.rpo-order.ensures ∙ c.requires.visit_stage.rpo_is) b (get_or_mem order i 0 h), c.loop-b.invariant.wide ∙ c.requires.times_len.0); fits = scattering_fits (one_pieces w b) (bind (drop (i + 1) order) (one_pieces w)) (scattering_as (bind_drop_step (one_pieces w) order i h) c.loop-b.invariant) }
 
-pub loop-i-preserved : goal.loop-i-preserved
-loop-i-preserved c =
+pub loop-b-preserved : goal.loop-b-preserved
+loop-b-preserved c =
     let w = c.args.words.now in
     let order = c.rpo-order.result.now in
-    let i = c.loop-i.i in
-    (omega arith, scattering_more (bind (drop (i + 1) order) (one_pieces w)) (scattering_as (bind_drop_step (one_pieces w) order i c.loop-i-test.true) c.loop-i.invariant.1) c.count_operations.ensures)
+    let i = c.loop-b.b-index in
+    scattering_more (bind (drop (i + 1) order) (one_pieces w)) (scattering_as (bind_drop_step (one_pieces w) order i c.loop-b-test.true) c.loop-b.invariant) c.count_operations.ensures
 
 pub shape_of-times : goal.shape_of-times
-shape_of-times c = c.loop-i.invariant.1.wide
+shape_of-times c = c.loop-b.invariant.wide
 
 pub returns : goal.returns
 returns c =
     let g = one_pieces c.args.words.now in
     let e = ap (λ (l : List ℕ). bind l g) (c.rpo-order.ensures ∙ c.requires.visit_stage.rpo_is) in
-    let p = scatters_as e (scattering_all (bind_drop_end g c.rpo-order.result.now c.loop-i.i c.loop-i-test.false) c.loop-i.invariant.1) in
+    let p = scatters_as e (scattering_all (bind_drop_end g c.rpo-order.result.now c.loop-b.b-index c.loop-b-test.false) c.loop-b.invariant) in
     record {
-      wide = c.loop-i.invariant.1.wide ∙ c.requires.times_len.0;
+      wide = c.loop-b.invariant.wide ∙ c.requires.times_len.0;
       times_is = λ o h. scatters_cursor o (omega (arith, c.requires.times_len.0, c.requires.visit_stage.well_formed.sized.operations_most)) p ∙ omega (arith, c.requires.times_len.1 o);
     }

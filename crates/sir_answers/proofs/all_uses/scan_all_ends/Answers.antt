@@ -2,7 +2,6 @@
 use mathlib.Core.Path.{sym, ap, ◌∙◌}
 use mathlib.Core.List.{List}
 use Prim.Native.Nat.{ℕ, ◌+◌}
-use native.Mathlib.Omega.{arith}
 use lib.ListN.{get_or, drop}
 use Rattle.plank_core.specs.Lists.{bind}
 use Rattle.plank_core.specs.laws.Lists.{get_or_mem}
@@ -16,34 +15,34 @@ pub rpo-order-requires : goal.rpo-order-requires
 rpo-order-requires c =
     (c.requires.visit_stage.long, c.requires.visit_stage.few)
 
-pub loop-i-init : goal.loop-i-init
-loop-i-init c =
-    (omega arith, scattering_none (fits_as (ap (λ (l : List ℕ). bind l (end_pieces c.args.words.now)) (sym (c.rpo-order.ensures ∙ c.requires.visit_stage.rpo_is))) c.requires.fits))
+pub loop-b-init : goal.loop-b-init
+loop-b-init c =
+    scattering_none (fits_as (ap (λ (l : List ℕ). bind l (end_pieces c.args.words.now)) (sym (c.rpo-order.ensures ∙ c.requires.visit_stage.rpo_is))) c.requires.fits)
 
 pub scan_ends-requires : goal.scan_ends-requires
 scan_ends-requires c =
     let w = c.args.words.now in
     let good = c.requires.visit_stage.well_formed in
     let order = c.rpo-order.result.now in
-    let i = c.loop-i.i in
+    let i = c.loop-b.b-index in
     let b = get_or order i 0 in
-    let h = c.loop-i-test.true in
-    record { well_formed = good; b_bound = (rpo_below w good (c.rpo-order.ensures ∙ c.requires.visit_stage.rpo_is) b (get_or_mem order i 0 h), c.loop-i.invariant.1.wide ∙ c.requires.cursors_len); fits = scattering_fits (end_pieces w b) (bind (drop (i + 1) order) (end_pieces w)) (scattering_as (bind_drop_step (end_pieces w) order i h) c.loop-i.invariant.1) }
+    let h = c.loop-b-test.true in
+    record { well_formed = good; b_bound = (rpo_below w good (c.rpo-order.ensures ∙ c.requires.visit_stage.rpo_is) b (get_or_mem order i 0 h), c.loop-b.invariant.wide ∙ c.requires.cursors_len); fits = scattering_fits (end_pieces w b) (bind (drop (i + 1) order) (end_pieces w)) (scattering_as (bind_drop_step (end_pieces w) order i h) c.loop-b.invariant) }
 
-pub loop-i-preserved : goal.loop-i-preserved
-loop-i-preserved c =
+pub loop-b-preserved : goal.loop-b-preserved
+loop-b-preserved c =
     let w = c.args.words.now in
     let order = c.rpo-order.result.now in
-    let i = c.loop-i.i in
-    (omega arith, scattering_more (bind (drop (i + 1) order) (end_pieces w)) (scattering_as (bind_drop_step (end_pieces w) order i c.loop-i-test.true) c.loop-i.invariant.1) c.scan_ends.ensures)
+    let i = c.loop-b.b-index in
+    scattering_more (bind (drop (i + 1) order) (end_pieces w)) (scattering_as (bind_drop_step (end_pieces w) order i c.loop-b-test.true) c.loop-b.invariant) c.scan_ends.ensures
 
 pub shape_of-cursors : goal.shape_of-cursors
-shape_of-cursors c = c.loop-i.invariant.1.wide
+shape_of-cursors c = c.loop-b.invariant.wide
 
 pub shape_of-out : goal.shape_of-out
-shape_of-out c = c.loop-i.invariant.1.long
+shape_of-out c = c.loop-b.invariant.long
 
 pub returns : goal.returns
 returns c =
     let g = end_pieces c.args.words.now in
-    scatters_as (ap (λ (l : List ℕ). bind l g) (c.rpo-order.ensures ∙ c.requires.visit_stage.rpo_is)) (scattering_all (bind_drop_end g c.rpo-order.result.now c.loop-i.i c.loop-i-test.false) c.loop-i.invariant.1)
+    scatters_as (ap (λ (l : List ℕ). bind l g) (c.rpo-order.ensures ∙ c.requires.visit_stage.rpo_is)) (scattering_all (bind_drop_end g c.rpo-order.result.now c.loop-b.b-index c.loop-b-test.false) c.loop-b.invariant)

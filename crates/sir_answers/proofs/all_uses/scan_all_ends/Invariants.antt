@@ -1,14 +1,10 @@
 -- `scan_all_ends` meets its contract. The invariant: the pieces of the blocks left are to be put.
-use Prim.Native.Nat.{◌-◌, ◌≤◌}
-use lib.ListN.{length, drop}
+use lib.ListN.{drop}
 use Rattle.plank_core.specs.Lists.{bind}
 use Rattle.sir_answers.specs.inner.Scatter.{forward}
 use Rattle.sir_answers.specs.inner.Pieces.{end_pieces}
 use Rattle.sir_answers.proofs.scatter.Scattering.{Scattering}
 use Rattle.sir_answers.proofs.all_uses.scan_all_ends.Given as goal
 
-abbrev pub invariant-loop-i : goal.invariant-loop-i
-invariant-loop-i l = (l.i ≤ length l.order) × Scattering forward (bind l.order (end_pieces l.words)) l.initial.cursors l.initial.out (bind (drop l.i l.order) (end_pieces l.words)) l.cursors l.out
-
-abbrev pub decreases-loop-i : goal.decreases-loop-i
-decreases-loop-i l = length l.order - l.i
+abbrev pub invariant-loop-b : goal.invariant-loop-b
+invariant-loop-b l = Scattering forward (bind l.order (end_pieces l.words)) l.initial.cursors l.initial.out (bind (drop l.b-index l.order) (end_pieces l.words)) l.cursors l.out

@@ -8,7 +8,7 @@ use Rattle.sir_analyses.specs.Allocation.{merged}
 use Rattle.sir_analyses.specs.Open.{is_common}
 use Rattle.sir_answers.proofs.crossing.FirstCommon.{none_passes, crossing_starts, crossing_ends, crossing_on, crossing_found, unvisited_apart}
 use Rattle.sir_answers.proofs.crossing.crossing_of_reaches.Goals as goal
-use Rattle.sir_answers.proofs.crossing.crossing_of_reaches.Goals.{then-is_visited+else-found-ne0, else-is_visited}
+use Rattle.sir_answers.proofs.crossing.crossing_of_reaches.Goals.{then-is_visited+in_default, else-is_visited}
 
 pub block_count-count-requires : goal.block_count-count-requires
 block_count-count-requires c =
@@ -22,30 +22,11 @@ pub is_visited-requires : goal.is_visited-requires
 is_visited-requires c =
     (c.requires.visit_stage.long, omega (arith, c.loop-b-test.true, c.block_count-count.ensures, c.requires.visit_stage.well_formed.sized.blocks_most))
 
-pub first_common-found-requires : goal.first_common-found-requires
-first_common-found-requires c =
+pub first_common-requires : goal.first_common-requires
+first_common-requires c =
     let b = c.loop-b.b in
     let h : b < blocks c.args.words.now = omega (arith, c.loop-b-test.true, c.block_count-count.ensures) in
     record { liveness_stage = c.requires.liveness_stage; b_bound = (h, sym (c.is_visited.ensures ∙ c.requires.visit_stage.visited_is b h) ∙ c.if-is_visited.true, c.requires.one_len.0, c.requires.one_len.1) }
-
-pub overflow_add-result : goal.overflow_add-result
-overflow_add-result c =
-    omega (arith, c.loop-b-test.true)
-
-pub returns-then-found-ne0 : goal.returns-then-found-ne0
-returns-then-found-ne0 c =
-    let w = c.args.words.now in
-    let b = c.loop-b.b in
-    let h : b < blocks w = omega (arith, c.loop-b-test.true, c.block_count-count.ensures) in
-    λ a d x y. crossing_found w a d b h (c.first_common-found.ensures a d x y) c.if-found-ne0.true ∙ sym (c.loop-b.invariant a d x y)
-
-pub overflow_add-b : goal.overflow_add-b
-overflow_add-b c =
-    omega (arith, c.loop-b-test.true)
-
-pub loop-b-smaller : goal.loop-b-smaller
-loop-b-smaller c =
-    omega (arith, c.loop-b-test.true)
 
 pub loop-b-preserved : goal.loop-b-preserved
 loop-b-preserved c =
@@ -57,9 +38,16 @@ loop-b-preserved c =
     c.loop-b.invariant a d x y
     ∙ crossing_on w a d b h
     (elim c.if-is_visited.branch [
-      | then-is_visited+else-found-ne0 p ↦ none_passes (is_common (merged w a) (merged w d)) b (ops w b) (sym (p.first_common-found.ensures a d x y) ∙ p.if-found-ne0.false)
+      | then-is_visited+in_default p ↦ none_passes (is_common (merged w a) (merged w d)) b (ops w b) (sym (p.in_default.ensures.first_is a d x y))
       | else-is_visited p ↦ unvisited_apart w a d b h x.unmarked (sym seen ∙ p.if-is_visited.false)
     ])
+
+pub returns-in-Some : goal.returns-in-Some
+returns-in-Some c =
+    let w = c.args.words.now in
+    let b = c.loop-b.b in
+    let h : b < blocks w = omega (arith, c.loop-b-test.true, c.block_count-count.ensures) in
+    λ a d x y. crossing_found w a d b h (c.in-Some.ensures.first_is a d x y) ∙ sym (c.loop-b.invariant a d x y)
 
 pub returns : goal.returns
 returns c =

@@ -1,6 +1,6 @@
 -- `crossing_of_reaches` meets its contract. The invariant: the blocks from b on decide.
 use mathlib.Core.Path.{◌≡◌}
-use Prim.Native.Nat.{ℕ, ◌-◌}
+use Prim.Native.Nat.{ℕ}
 use Rattle.sir_analyses.specs.Open.{crossing}
 use Rattle.sir_answers.specs.inner.LiveAround.{ReachOf}
 use Rattle.sir_answers.proofs.crossing.FirstCommon.{crossing_from}
@@ -8,6 +8,3 @@ use Rattle.sir_answers.proofs.crossing.crossing_of_reaches.Given as goal
 
 abbrev pub invariant-loop-b : goal.invariant-loop-b
 invariant-loop-b l = (a c : ℕ) → ReachOf l.words a l.one → ReachOf l.words c l.other → crossing l.words a c ≡ crossing_from l.words a c l.b
-
-abbrev pub decreases-loop-b : goal.decreases-loop-b
-decreases-loop-b l = l.count - l.b

@@ -1,5 +1,8 @@
 -- `first_common` meets its contract. The invariant: whatever block the scan started in, the operations from o on are passed.
-use mathlib.Core.Path.{◌≡◌, refl, ap₂}
+use mathlib.Core.Path.{◌≡◌, refl, ap, ap₂, ◌∙◌}
+use mathlib.Core.Bool.{cond}
+use Rattle.std.proofs.Common.{◌<◌, Some}
+use Rattle.std.specs.Prelude.{IfSome}
 use Prim.Native.Nat.{◌+◌, ◌-◌}
 use native.Mathlib.Omega.{arith}
 use lib.ListN.{length}
@@ -8,8 +11,9 @@ use Rattle.plank_core.specs.laws.Loops.{range_before, range_none}
 use Rattle.sir_data.specs.Records.{block_word, ops}
 use Rattle.sir_analyses.proofs.claims.order.OrderProof.{blocks_seen}
 use Rattle.sir_answers.proofs.LiveSets.{ScanStart, live_none}
-use Rattle.sir_answers.proofs.crossing.FirstCommon.{CommonScan, scan_none, scan_more}
+use Rattle.sir_answers.proofs.crossing.FirstCommon.{raw, CommonScan, scan_none, scan_more}
 use Rattle.sir_answers.proofs.crossing.first_common.Goals as goal
+use Rattle.sir_answers.proofs.crossing.first_common.Goals.{then-both_meet, else-both_meet}
 
 pub slice_bounds-live_after-end : goal.slice_bounds-live_after-end
 slice_bounds-live_after-end c = refl
@@ -29,6 +33,7 @@ loop-o-init c =
       omega arith,
       omega (arith, c.live_after.auto),
       λ b s. scan_none c.requires.liveness_stage s (range_none span.result.end span.result.end (omega arith)),
+      tt,
     )
 
 pub slice_bounds-live_around-end : goal.slice_bounds-live_around-end
@@ -47,10 +52,6 @@ pub both_meet-requires : goal.both_meet-requires
 both_meet-requires c =
     (c.requires.b_bound.2, c.requires.b_bound.3, omega (arith, c.live_around.auto, c.loop-o.invariant.2))
 
-pub earliest-found-requires : goal.earliest-found-requires
-earliest-found-requires c =
-    omega (arith, c.loop-o.invariant.1, c.block_operations-span.ensures, c.requires.liveness_stage.well_formed.in_range.ops_range c.args.b.0 c.requires.b_bound.0, c.requires.liveness_stage.well_formed.sized.operations_most)
-
 pub slice_bounds-live_before-end : goal.slice_bounds-live_before-end
 slice_bounds-live_before-end c =
     omega (arith, c.live_around.auto, c.loop-o.invariant.2)
@@ -67,18 +68,28 @@ loop-o-preserved c =
     let g = c.live_before in
     let test = c.loop-o-test.true in
     let next : l.o - 1 + 1 ≡ l.o = omega (arith, test) in
-    let long : length f.new.set ≡ 8 = omega (arith, f.auto, l.invariant.2) in (
+    let long : length f.new.set ≡ 8 = omega (arith, f.auto, l.invariant.2) in
+    let few : l.o - 1 < 1024 = omega (arith, test, l.invariant.1, span.ensures, c.requires.liveness_stage.well_formed.in_range.ops_range c.args.b.0 c.requires.b_bound.0, c.requires.liveness_stage.well_formed.sized.operations_most) in
+    let step : (raw c.if-both_meet.found ≡ cond c.both_meet.result (Some (l.o - 1)) (raw l.found)) × IfSome c.if-both_meet.found (λ o. o.0 < 1024) =
+    elim c.if-both_meet.branch [
+      | then-both_meet w ↦ (ap raw w.found-is ∙ rw w.if-both_meet.true, rw w.found-is few)
+      | else-both_meet w ↦ (ap raw w.found-is ∙ rw w.if-both_meet.false, rw w.found-is l.invariant.4)
+    ] in (
       omega (arith, test),
       omega (arith, l.invariant.1),
       omega (arith, g.auto, f.auto, l.invariant.2),
       λ b s.
           let k : CommonScan c.args.words.now c.args.one.now c.args.other.now b (range (l.o - 1 + 1) span.result.end) l.set l.found = rw next (l.invariant.3 b s) in
           rw (range_before l.o span.result.end (omega arith) (omega (arith, l.invariant.1)))
-          (rw next at (scan_more c.requires.liveness_stage s k (omega (arith, test, l.invariant.0)) (omega (arith, test, l.invariant.1)) f.new.set f.ensures long c.both_meet.ensures c.earliest-found.ensures g.ensures (omega (arith, g.auto, f.auto, l.invariant.2)))),
+          (rw next at (scan_more c.requires.liveness_stage s k (omega (arith, test, l.invariant.0)) (omega (arith, test, l.invariant.1)) f.new.set f.ensures long c.both_meet.ensures step.0 g.ensures (omega (arith, g.auto, f.auto, l.invariant.2)))),
+      step.1,
     )
 
-pub returns : goal.returns
-returns c =
+pub returns-clause-few : goal.returns-clause-few
+returns-clause-few c = c.loop-o.invariant.4
+
+pub returns-clause-first_is : goal.returns-clause-first_is
+returns-clause-first_is c =
     let w = c.args.words.now in
     let b = c.args.b.0 in
     let l = c.loop-o in

@@ -1,7 +1,5 @@
 -- `add_owners` meets its contract. The invariant: the owners of the locals before i are in the set.
-use mathlib.Core.Path.{◌≡◌}
-use Prim.Native.Nat.{ℕ, ◌-◌, ◌≤◌}
-use lib.ListN.{length}
+use Prim.Native.Nat.{ℕ}
 use Rattle.sir_analyses.specs.inner.Tables.{Adds}
 use Rattle.sir_answers.specs.inner.AllocationPieces.{unmarked_owner}
 use Rattle.sir_answers.proofs.owned_tables.OwnedTables.{split_to}
@@ -11,8 +9,5 @@ use Rattle.sir_answers.proofs.open_allocations.add_owners.Given as goal
 abbrev pub one_row : ℕ → ℕ
 one_row a = 0
 
-abbrev pub invariant-loop-i : goal.invariant-loop-i
-invariant-loop-i l = (l.i ≤ length l.ids) × (length l.owners ≡ length l.initial.owners) × Adds l.initial.owners (split_to (unmarked_owner l.pointers) one_row l.ids l.initial.owners l.owners l.i) l.owners
-
-abbrev pub decreases-loop-i : goal.decreases-loop-i
-decreases-loop-i l = length l.ids - l.i
+abbrev pub invariant-loop-v : goal.invariant-loop-v
+invariant-loop-v l = Adds l.initial.owners (split_to (unmarked_owner l.pointers) one_row l.ids l.initial.owners l.owners l.v-index) l.owners

@@ -10,6 +10,3 @@ use Rattle.sir_answers.proofs.open_allocations.scan_to.Given as goal
 
 abbrev pub invariant-loop-p : goal.invariant-loop-p
 invariant-loop-p l = (l.last ≤ l.p) × (l.p ≤ l.initial.p) × (length l.set ≡ 8) × ((b : ℕ) → b < blocks l.words → l.initial.p ≡ block_word l.words b 5 → LiveBefore l.words b [] l.initial.set → LiveBefore l.words b (range l.p l.initial.p) l.set)
-
-abbrev pub decreases-loop-p : goal.decreases-loop-p
-decreases-loop-p l = l.p

@@ -1,5 +1,5 @@
 -- `own_rows` meets its contract. The invariant: the locals below v are in their rows.
-use mathlib.Core.Path.{◌≡◌, refl}
+use mathlib.Core.Path.{◌≡◌}
 use Prim.Native.Nat.{◌<◌}
 use native.Mathlib.Omega.{arith}
 use Rattle.sir_data.specs.Records.{locals}
@@ -14,7 +14,7 @@ local_count-count-requires c =
 
 pub loop-v-init : goal.loop-v-init
 loop-v-init c =
-    (omega arith, refl, rows_none (unmarked_owner c.args.pointers.now) c.args.rows.now c.args.rows.now)
+    rows_none (unmarked_owner c.args.pointers.now) c.args.rows.now c.args.rows.now
 
 pub unmarked_owner-owner-requires : goal.unmarked_owner-owner-requires
 unmarked_owner-owner-requires c =
@@ -26,15 +26,7 @@ overflow_cast-owner c =
 
 pub row_add-requires : goal.row_add-requires
 row_add-requires c =
-    (omega (arith, c.unmarked_owner-owner.ensures.1, c.loop-v.invariant.1, c.requires.rows_len), omega (arith, c.loop-v-test.true, c.local_count-count.ensures, c.requires.pointer_stage.well_formed.sized.locals_most))
-
-pub overflow_add-v : goal.overflow_add-v
-overflow_add-v c =
-    omega (arith, c.loop-v-test.true, c.local_count-count.ensures, c.requires.pointer_stage.well_formed.sized.locals_most)
-
-pub loop-v-smaller : goal.loop-v-smaller
-loop-v-smaller c =
-    omega (arith, c.loop-v-test.true)
+    (omega (arith, c.unmarked_owner-owner.ensures.1, c.loop-v.auto.rows, c.requires.rows_len), omega (arith, c.loop-v-test.true, c.local_count-count.ensures, c.requires.pointer_stage.well_formed.sized.locals_most))
 
 pub loop-v-preserved : goal.loop-v-preserved
 loop-v-preserved c =
@@ -42,14 +34,14 @@ loop-v-preserved c =
     let L = c.loop-v in
     let r = c.unmarked_owner-owner in
     let h : L.v < 512 = omega (arith, c.loop-v-test.true, c.local_count-count.ensures, c.requires.pointer_stage.well_formed.sized.locals_most) in
-    (omega (arith, c.loop-v-test.true), omega (arith, c.row_add.auto, L.invariant.1), rows_more own c.args.rows.now L.rows L.v r.result h r.ensures.0 c.row_add.ensures.1 L.invariant.2)
+    rows_more own c.args.rows.now L.rows L.v r.result h r.ensures.0 c.row_add.ensures.1 L.invariant
 
 pub shape_of-rows : goal.shape_of-rows
 shape_of-rows c =
-    c.loop-v.invariant.1
+    c.loop-v.auto.rows
 
 pub returns : goal.returns
 returns c =
     let L = c.loop-v in
-    let e : L.v ≡ locals c.args.words.now = omega (arith, L.invariant.0, c.loop-v-test.false, c.local_count-count.ensures) in
-    rw e at L.invariant.2
+    let e : L.v ≡ locals c.args.words.now = omega (arith, c.loop-v-test.false, c.local_count-count.ensures) in
+    rw e at L.invariant

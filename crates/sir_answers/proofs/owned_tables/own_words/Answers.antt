@@ -1,8 +1,8 @@
 -- `own_words` meets its contract. The invariant: the owners of the locals below v are stored.
-use mathlib.Core.Path.{◌≡◌, refl, ◌∙◌}
+use mathlib.Core.Path.{◌≡◌}
 use Prim.Native.Nat.{◌<◌}
 use native.Mathlib.Omega.{arith}
-use lib.ListN.{length, length-set}
+use lib.ListN.{length}
 use Rattle.sir_data.specs.Records.{locals}
 use Rattle.sir_answers.specs.inner.AllocationPieces.{unmarked_owner}
 use Rattle.sir_analyses.proofs.allocation_liveness.PointerTables.{allocations_few}
@@ -15,7 +15,7 @@ local_count-count-requires c =
 
 pub loop-v-init : goal.loop-v-init
 loop-v-init c =
-    (omega arith, refl, words_none (unmarked_owner c.args.pointers.now) c.args.owners.now c.args.owners.now)
+    words_none (unmarked_owner c.args.pointers.now) c.args.owners.now c.args.owners.now
 
 pub unmarked_owner-requires : goal.unmarked_owner-requires
 unmarked_owner-requires c =
@@ -35,30 +35,22 @@ offset_bounds-owners-v c =
 
 pub bounds-owners-v : goal.bounds-owners-v
 bounds-owners-v c =
-    omega (arith, c.loop-v-test.true, c.local_count-count.ensures, c.requires.pointer_stage.well_formed.sized.locals_most, c.loop-v.invariant.1, c.requires.owners_len)
-
-pub overflow_add-v : goal.overflow_add-v
-overflow_add-v c =
-    omega (arith, c.loop-v-test.true, c.local_count-count.ensures, c.requires.pointer_stage.well_formed.sized.locals_most)
-
-pub loop-v-smaller : goal.loop-v-smaller
-loop-v-smaller c =
-    omega (arith, c.loop-v-test.true)
+    omega (arith, c.loop-v-test.true, c.local_count-count.ensures, c.requires.pointer_stage.well_formed.sized.locals_most, c.loop-v.auto.owners, c.requires.owners_len)
 
 pub loop-v-preserved : goal.loop-v-preserved
 loop-v-preserved c =
     let own = unmarked_owner c.args.pointers.now in
     let L = c.loop-v in
     let r = c.unmarked_owner in
-    let h : L.v < length L.owners = omega (arith, c.loop-v-test.true, c.local_count-count.ensures, c.requires.pointer_stage.well_formed.sized.locals_most, L.invariant.1, c.requires.owners_len) in
-    (omega (arith, c.loop-v-test.true), length-set L.owners L.v r.result ∙ L.invariant.1, words_more own c.args.owners.now L.owners L.v r.result h r.ensures.0 L.invariant.2)
+    let h : L.v < length L.owners = omega (arith, c.loop-v-test.true, c.local_count-count.ensures, c.requires.pointer_stage.well_formed.sized.locals_most, L.auto.owners, c.requires.owners_len) in
+    words_more own c.args.owners.now L.owners L.v r.result h r.ensures.0 L.invariant
 
 pub shape_of-owners : goal.shape_of-owners
 shape_of-owners c =
-    c.loop-v.invariant.1
+    c.loop-v.auto.owners
 
 pub returns : goal.returns
 returns c =
     let L = c.loop-v in
-    let e : L.v ≡ locals c.args.words.now = omega (arith, L.invariant.0, c.loop-v-test.false, c.local_count-count.ensures) in
-    rw e at L.invariant.2
+    let e : L.v ≡ locals c.args.words.now = omega (arith, c.loop-v-test.false, c.local_count-count.ensures) in
+    rw e at L.invariant

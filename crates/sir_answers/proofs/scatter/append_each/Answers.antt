@@ -9,30 +9,30 @@ use Rattle.sir_answers.proofs.scatter.Scattering.{scattering_none}
 use Rattle.sir_answers.proofs.scatter.PieceLaws.{piece_fits, piece_more, piece_all}
 use Rattle.sir_answers.proofs.scatter.append_each.Goals as goal
 
-pub loop-i-init : goal.loop-i-init
-loop-i-init c = (omega arith, scattering_none c.requires.fits)
+pub loop-id-init : goal.loop-id-init
+loop-id-init c = scattering_none c.requires.fits
 
 pub append-requires : goal.append-requires
 append-requires c =
     let ids = c.args.ids.now in
-    let i = c.loop-i.i in
+    let i = c.loop-id.id-index in
     let g : ℕ → List ℕ = λ k. c.args.words.now in
     let h : i < length ids = omega arith in
-    (omega (arith, c.requires.known (get_or ids i 0) (get_or_mem ids i 0 h), c.loop-i.invariant.1.wide), piece_fits g ids c.loop-i.i c.loop-i.invariant.1 h refl)
+    (omega (arith, c.requires.known (get_or ids i 0) (get_or_mem ids i 0 h), c.loop-id.invariant.wide), piece_fits g ids c.loop-id.id-index c.loop-id.invariant h refl)
 
-pub loop-i-preserved : goal.loop-i-preserved
-loop-i-preserved c =
+pub loop-id-preserved : goal.loop-id-preserved
+loop-id-preserved c =
     let ids = c.args.ids.now in
     let g : ℕ → List ℕ = λ k. c.args.words.now in
-    (omega arith, piece_more g ids c.loop-i.i c.loop-i.invariant.1 (omega arith) refl c.append.ensures)
+    piece_more g ids c.loop-id.id-index c.loop-id.invariant (omega arith) refl c.append.ensures
 
 pub shape_of-cursors : goal.shape_of-cursors
-shape_of-cursors c = c.loop-i.invariant.1.wide
+shape_of-cursors c = c.loop-id.invariant.wide
 
 pub shape_of-out : goal.shape_of-out
-shape_of-out c = c.loop-i.invariant.1.long
+shape_of-out c = c.loop-id.invariant.long
 
 pub returns : goal.returns
 returns c =
     let a = c.args in
-    piece_all (λ k. a.words.now) a.ids.now c.loop-i.i c.loop-i.invariant.1 (omega arith)
+    piece_all (λ k. a.words.now) a.ids.now c.loop-id.id-index c.loop-id.invariant (omega arith)

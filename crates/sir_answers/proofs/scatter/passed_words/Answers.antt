@@ -2,36 +2,34 @@
 use mathlib.Core.Path.{◌≡◌, refl, ap, ◌∙◌}
 use Prim.Native.Nat.{ℕ, ◌-◌, ◌^◌}
 use native.Mathlib.Omega.{arith}
-use lib.ListN.{set, length-set}
+use lib.ListN.{set}
 use lib.Seq.{get_or-set_same, get_or-set_other}
 use Rattle.plank_core.specs.laws.Lists.{below_next}
 use Rattle.sir_answers.specs.inner.Scatter.{number_at}
 use Rattle.sir_answers.proofs.scatter.passed_words.Goals as goal
 
-pub loop-v-init : goal.loop-v-init
-loop-v-init c = (omega arith, refl, (λ u h. absurd (omega arith)), λ u h. refl)
+pub loop-cursor-init : goal.loop-cursor-init
+loop-cursor-init c = ((λ u h. absurd (omega arith)), λ u h. refl)
 
-pub overflow_sub-cursors : goal.overflow_sub-cursors
-overflow_sub-cursors c =
-    let v = c.loop-v.v in
-    omega (arith, c.requires v (omega arith), c.loop-v.invariant.3 v (omega arith))
+pub overflow_sub-cursor : goal.overflow_sub-cursor
+overflow_sub-cursor c =
+    let v = c.loop-cursor.cursor-index in
+    omega (arith, c.requires v (omega arith), c.loop-cursor.invariant.1 v (omega arith))
 
-pub loop-v-preserved : goal.loop-v-preserved
-loop-v-preserved c =
-    let v = c.loop-v.v in
-    let cs = c.loop-v.cursors in
+pub loop-cursor-preserved : goal.loop-cursor-preserved
+loop-cursor-preserved c =
+    let v = c.loop-cursor.cursor-index in
+    let cs = c.loop-cursor.cursors in
     let cs₀ = c.args.cursors.now in
     let x = 2 ^ 59 - number_at cs v in (
-      omega arith,
-      simp length-set c.loop-v.invariant.1,
       below_next (λ u. number_at (set cs v x) u ≡ 2 ^ 59 - number_at cs₀ u) v
-          (λ u h. get_or-set_other cs v u x 0 (λ e. omega arith) ∙ c.loop-v.invariant.2 u h)
-          (get_or-set_same cs v x 0 (omega arith) ∙ ap (λ (i : ℕ). 2 ^ 59 - i) (c.loop-v.invariant.3 v (omega arith))),
-      λ u h. get_or-set_other cs v u x 0 (λ e. omega arith) ∙ c.loop-v.invariant.3 u (omega arith),
+          (λ u h. get_or-set_other cs v u x 0 (λ e. omega arith) ∙ c.loop-cursor.invariant.0 u h)
+          (get_or-set_same cs v x 0 (omega arith) ∙ ap (λ (i : ℕ). 2 ^ 59 - i) (c.loop-cursor.invariant.1 v (omega arith))),
+      λ u h. get_or-set_other cs v u x 0 (λ e. omega arith) ∙ c.loop-cursor.invariant.1 u (omega arith),
     )
 
 pub shape_of-cursors : goal.shape_of-cursors
-shape_of-cursors c = c.loop-v.invariant.1
+shape_of-cursors c = c.loop-cursor.auto.cursors
 
 pub returns : goal.returns
-returns c = λ v h. c.loop-v.invariant.2 v (omega arith)
+returns c = λ v h. c.loop-cursor.invariant.0 v (omega arith)

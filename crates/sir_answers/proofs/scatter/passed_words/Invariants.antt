@@ -1,12 +1,8 @@
 -- `passed_words` meets its contract. The invariant: the first cursors are numbers of words, the others as they were.
 use mathlib.Core.Path.{◌≡◌}
 use Prim.Native.Nat.{ℕ, ◌-◌, ◌^◌, ◌≤◌, ◌<◌}
-use lib.ListN.{length}
 use Rattle.sir_answers.specs.inner.Scatter.{number_at}
 use Rattle.sir_answers.proofs.scatter.passed_words.Given as goal
 
-abbrev pub invariant-loop-v : goal.invariant-loop-v
-invariant-loop-v l = (l.v ≤ length l.initial.cursors) × (length l.cursors ≡ length l.initial.cursors) × ((u : ℕ) → u < l.v → number_at l.cursors u ≡ 2 ^ 59 - number_at l.initial.cursors u) × ((u : ℕ) → l.v ≤ u → number_at l.cursors u ≡ number_at l.initial.cursors u)
-
-abbrev pub decreases-loop-v : goal.decreases-loop-v
-decreases-loop-v l = length l.initial.cursors - l.v
+abbrev pub invariant-loop-cursor : goal.invariant-loop-cursor
+invariant-loop-cursor l = ((u : ℕ) → u < l.cursor-index → number_at l.cursors u ≡ 2 ^ 59 - number_at l.initial.cursors u) × ((u : ℕ) → l.cursor-index ≤ u → number_at l.cursors u ≡ number_at l.initial.cursors u)

@@ -6,45 +6,45 @@ use Rattle.sir_answers.specs.inner.Scatter.{number_at, origin, toward}
 use Rattle.sir_answers.proofs.scatter.Scattering.{placing_none, placing_next, placing_more, origin_is}
 use Rattle.sir_answers.proofs.scatter.put_lengths.Goals as goal
 
-pub loop-v-init : goal.loop-v-init
-loop-v-init c = let a = c.args in (omega arith, refl, refl, placing_none (toward a.ends) a.cursors.now a.out.now)
+pub loop-cursor-init : goal.loop-cursor-init
+loop-cursor-init c = let a = c.args in (refl, refl, placing_none (toward a.ends) a.cursors.now a.out.now)
 
 pub overflow_cast-n : goal.overflow_cast-n
 overflow_cast-n c =
-    omega (arith, (placing_next (length c.args.cursors.now) (omega arith) c.loop-v.invariant.3).0, c.requires.by_index c.loop-v.v (omega arith))
+    omega (arith, (placing_next (length c.args.cursors.now) (omega arith) c.loop-cursor.invariant.2).0, c.requires.by_index c.loop-cursor.cursor-index (omega arith))
 
 pub put_word-requires : goal.put_word-requires
 put_word-requires c =
-    omega (arith, (placing_next (length c.args.cursors.now) (omega arith) c.loop-v.invariant.3).1)
+    omega (arith, (placing_next (length c.args.cursors.now) (omega arith) c.loop-cursor.invariant.2).1)
 
 pub origin-requires : goal.origin-requires
 origin-requires c =
-    omega (arith, (placing_next (length c.args.cursors.now) (omega arith) c.loop-v.invariant.3).1)
+    omega (arith, (placing_next (length c.args.cursors.now) (omega arith) c.loop-cursor.invariant.2).1)
 
 pub overflow_add-start : goal.overflow_add-start
 overflow_add-start c =
-    omega (arith, (placing_next (length c.args.cursors.now) (omega arith) c.loop-v.invariant.3).1)
+    omega (arith, (placing_next (length c.args.cursors.now) (omega arith) c.loop-cursor.invariant.2).1)
 
-pub overflow_add-start-in-loop-v : goal.overflow_add-start-in-loop-v
-overflow_add-start-in-loop-v c =
-    omega (arith, (placing_next (length c.args.cursors.now) (omega arith) c.loop-v.invariant.3).1)
+pub overflow_add-start-in-loop-cursor : goal.overflow_add-start-in-loop-cursor
+overflow_add-start-in-loop-cursor c =
+    omega (arith, (placing_next (length c.args.cursors.now) (omega arith) c.loop-cursor.invariant.2).1)
 
-pub loop-v-preserved : goal.loop-v-preserved
-loop-v-preserved c =
-    let L = c.loop-v in
+pub loop-cursor-preserved : goal.loop-cursor-preserved
+loop-cursor-preserved c =
+    let L = c.loop-cursor in
     let f = number_at c.args.cursors.now in
-    let n = placing_next (length c.args.cursors.now) (omega arith) L.invariant.3 in
-    let o : c.origin.result ≡ origin (toward c.args.ends) f L.v = c.origin.ensures ∙ rw (n.0, L.invariant.3.start_is) (sym (origin_is c.args.ends f L.v)) in
-    (omega arith, simp length-set L.invariant.1, omega arith, placing_more L.invariant.3 (omega arith) (omega arith) (ap (set L.cursors L.v) o) c.put_word.ensures.left)
+    let n = placing_next (length c.args.cursors.now) (omega arith) L.invariant.2 in
+    let o : c.origin.result ≡ origin (toward c.args.ends) f L.cursor-index = c.origin.ensures ∙ rw (n.0, L.invariant.2.start_is) (sym (origin_is c.args.ends f L.cursor-index)) in
+    (simp length-set L.invariant.0, omega arith, placing_more L.invariant.2 (omega arith) (omega arith) (ap (set L.cursors L.cursor-index) o) c.put_word.ensures.left)
 
 pub shape_of-cursors : goal.shape_of-cursors
-shape_of-cursors c = c.loop-v.invariant.1
+shape_of-cursors c = c.loop-cursor.invariant.0
 
 pub shape_of-out : goal.shape_of-out
-shape_of-out c = c.loop-v.invariant.2
+shape_of-out c = c.loop-cursor.invariant.1
 
 pub returns : goal.returns
 returns c =
-    let L = c.loop-v in
-    let e : L.v ≡ length L.cursors = omega arith in
-    rw e at L.invariant.3.placed
+    let L = c.loop-cursor in
+    let e : L.cursor-index ≡ length L.cursors = omega arith in
+    rw e at L.invariant.2.placed

@@ -6,28 +6,28 @@ use Rattle.sir_answers.specs.inner.Scatter.{number_at, base}
 use Rattle.sir_answers.specs.laws.Scatter.{base_next, base_within}
 use Rattle.sir_answers.proofs.scatter.total_words.Goals as goal
 
-pub loop-v-init : goal.loop-v-init
+pub loop-count-init : goal.loop-count-init
 unfolding base
-loop-v-init c = (omega arith, refl)
+loop-count-init c = refl
 
 pub overflow_add-n : goal.overflow_add-n
 overflow_add-n c =
-    let L = c.loop-v in
-    omega (arith, base_within (number_at c.args.counts.now) L.v (length c.args.counts.now) c.loop-v-test.true)
+    let L = c.loop-count in
+    omega (arith, base_within (number_at c.args.counts.now) L.count-index (length c.args.counts.now) c.loop-count-test.true)
 
-pub overflow_add-n-in-loop-v : goal.overflow_add-n-in-loop-v
-overflow_add-n-in-loop-v c =
-    let L = c.loop-v in
-    omega (arith, base_within (number_at c.args.counts.now) L.v (length c.args.counts.now) c.loop-v-test.true)
+pub overflow_add-n-in-loop-count : goal.overflow_add-n-in-loop-count
+overflow_add-n-in-loop-count c =
+    let L = c.loop-count in
+    omega (arith, base_within (number_at c.args.counts.now) L.count-index (length c.args.counts.now) c.loop-count-test.true)
 
-pub loop-v-preserved : goal.loop-v-preserved
-loop-v-preserved c =
-    let L = c.loop-v in
-    (omega arith, omega (arith, base_next (number_at c.args.counts.now) L.v))
+pub loop-count-preserved : goal.loop-count-preserved
+loop-count-preserved c =
+    let L = c.loop-count in
+    omega (arith, base_next (number_at c.args.counts.now) L.count-index)
 
 pub returns : goal.returns
 returns c =
-    let L = c.loop-v in
+    let L = c.loop-count in
     let n = length c.args.counts.now in
-    let e : L.v ≡ n = omega arith in
-    L.invariant.1 ∙ ap (base (number_at c.args.counts.now)) e
+    let e : L.count-index ≡ n = omega arith in
+    L.invariant ∙ ap (base (number_at c.args.counts.now)) e

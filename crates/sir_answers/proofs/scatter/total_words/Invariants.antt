@@ -1,12 +1,7 @@
 -- `total_words` meets its contract. The invariant: so many words do the first segments take.
 use mathlib.Core.Path.{◌≡◌}
-use Prim.Native.Nat.{◌-◌, ◌≤◌}
-use lib.ListN.{length}
 use Rattle.sir_answers.specs.inner.Scatter.{number_at, base}
 use Rattle.sir_answers.proofs.scatter.total_words.Given as goal
 
-abbrev pub invariant-loop-v : goal.invariant-loop-v
-invariant-loop-v l = (l.v ≤ length l.counts) × (l.n ≡ base (number_at l.counts) l.v)
-
-abbrev pub decreases-loop-v : goal.decreases-loop-v
-decreases-loop-v l = length l.counts - l.v
+abbrev pub invariant-loop-count : goal.invariant-loop-count
+invariant-loop-count l = (l.n ≡ base (number_at l.counts) l.count-index)
