@@ -14,8 +14,8 @@ use plank_core::index::{BlockId, OpIdx};
 use plank_core::rows::{row_add, row_difference_with, row_of, row_union_with};
 use plank_core::span::Span;
 use sir_data::records::{
-    Tested, block_count, block_operations, op_inputs, op_outputs, operation_count,
-    returned_outputs, successor, successor_count, tested_local,
+    block_count, block_operations, op_inputs, op_outputs, operation_count, returned_outputs,
+    successor, successor_count, tested_local,
 };
 
 // Adds the locals of a run to a row.
@@ -58,7 +58,7 @@ fn add_condition(words: &[u32], b: BlockId, uses: &mut [u64])
     requires b_bound { (b.0 < blocks words.now) × (length uses.old ≡ 2048) }
     ensures { Adds uses.old (λ r v. eqb r b.0 && mem v (condition words.now b.0)) uses.new }
 {
-    if let Tested::Local(v) = tested_local(words, b) {
+    if let Some(v) = tested_local(words, b) {
         row_add(uses, b.0 as usize, v.0);
     }
 }

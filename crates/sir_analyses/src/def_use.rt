@@ -12,7 +12,7 @@ ghost use Rattle.sir_analyses.specs.inner.Stages.{VisitStage};
 use crate::answers::put_triple;
 use crate::stages::rpo;
 use plank_core::index::{BlockId, LocalId, OpIdx};
-use sir_data::records::{Tested, op_inputs, operation_count};
+use sir_data::records::{op_inputs, operation_count};
 use sir_data::view::{condition, operations, outputs};
 
 // How a block uses a local, as the numbers of the answer say it.
@@ -79,10 +79,7 @@ fn is_condition(words: &[u32], b: BlockId, local: LocalId) -> bool
     requires b_bound { b.0 < blocks words.now }
     ensures { result ≡ mem local.0 (condition words.now b.0) }
 {
-    match condition(words, b) {
-        Tested::Local(v) => local == v,
-        _ => false,
-    }
+    condition(words, b) == Some(local)
 }
 
 // The use as a block's condition.

@@ -19,7 +19,7 @@ use crate::segments::segments_answer;
 use plank_core::index::{BlockId, OpIdx};
 use sir_analyses::answers::Answer;
 use sir_analyses::stages::rpo;
-use sir_data::records::{Tested, local_count, op_inputs, operation_count};
+use sir_data::records::{local_count, op_inputs, operation_count};
 use sir_data::view::{condition, operations, outputs};
 
 // A block's operations in turn, for each input.
@@ -43,7 +43,7 @@ fn scan_condition(words: &[u32], b: BlockId, cursors: &mut [usize], out: &mut [u
     requires fits { Fits forward (condition_pieces words.now b.0) cursors.old }
     ensures { Scatters forward (condition_pieces words.now b.0) cursors.old out.old cursors.new out.new }
 {
-    let Tested::Local(v) = condition(words, b) else {
+    let Some(v) = condition(words, b) else {
         return;
     };
     let piece = [b.0, 1, 0];
