@@ -47,13 +47,10 @@ fn say_blocks(
     let mut others = [0u64; 8];
     other_locals(pointers, series, &mut others);
     let order = rpo(visit);
-    let mut i: usize = 0;
-    while i < order.len() {
-        let b = BlockId(order[i]);
-        let end = LINE * block_lines(words, b);
-        put_block(words, live, pointers, &others, series, b, &mut out[..end]);
+    for b in order {
+        let end = LINE * block_lines(words, BlockId(*b));
+        put_block(words, live, pointers, &others, series, BlockId(*b), &mut out[..end]);
         say(rt, &out[..end])?;
-        i += 1;
     }
     Ok(())
 }
@@ -83,11 +80,9 @@ fn say_chart(
 {
     let mut out = [0u8; BLOCK];
     let count = series_count(alloc_sites(pointers).len());
-    let mut series: usize = 0;
-    while series < count {
+    for series in 0..count {
         say_blocks(rt, words, visit, live, pointers, series, &mut out)?;
         say_filling(rt, words, visit, &mut out)?;
-        series += 1;
     }
     Ok(())
 }

@@ -109,13 +109,11 @@ fn say_blocks(
     requires liveness_stage { LivenessStage words.now live.now × (196608 ≤ length line.old) }
 {
     let count = block_count(words);
-    let mut b: u32 = 0;
-    while b < count {
+    for b in 0..count {
         if is_visited(visit, BlockId(b)) {
             let n = block_text(words, live, BlockId(b), line);
             say(rt, &line[..n])?;
         }
-        b += 1;
     }
     Ok(())
 }
@@ -157,11 +155,9 @@ fn say_locals(
     requires out_len { (length out.old ≡ 65536) × (196608 ≤ length line.old) }
 {
     let count = local_count(words);
-    let mut v: u32 = 0;
-    while v < count {
+    for v in 0..count {
         let n = local_text(words, visit, live, LocalId(v), out, line);
         say(rt, &line[..n])?;
-        v += 1;
     }
     Ok(())
 }
@@ -198,13 +194,11 @@ fn say_allocations(
     requires out_len { (length out.old ≡ 65536) × (196608 ≤ length line.old) }
 {
     let count = alloc_sites(pointers).len();
-    let mut a: usize = 0;
-    while a < count {
+    for a in 0..count {
         let r = allocation_answer(words, visit, live, pointers, AllocId(a as u32), out);
         let end = r.length as usize;
         let n = allocation_text(words, visit, AllocId(a as u32), &out[..end], line);
         say(rt, &line[..n])?;
-        a += 1;
     }
     Ok(())
 }

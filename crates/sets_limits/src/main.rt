@@ -16,13 +16,10 @@ fn say(rt: &impl Print, text: &[u8]) -> io::Result<()> {
 fn say_ids(rt: &impl Print, ids: &[u32], n: usize) -> io::Result<()>
     requires { n ≤ length ids.now }
 {
-    let mut k: usize = 0;
-    while k < n {
-        say(rt, b" ")?;
-        rt.print(ids[k])?;
-        k += 1;
+    for id in &ids[..n] {
+        print!(rt; " {id}")?;
     }
-    say(rt, b"\n")
+    rt.println("")
 }
 
 fn say_if(rt: &impl Print, name: &[u8], holds: bool) -> io::Result<()> {
@@ -62,10 +59,8 @@ fn below(n: u32) -> DenseIndexSet
     requires { n ≤ 512 }
 {
     let mut set = empty();
-    let mut i: u32 = 0;
-    while i < n {
+    for i in 0..n {
         set = with(set, i);
-        i += 1;
     }
     set
 }
