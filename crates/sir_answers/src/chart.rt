@@ -155,6 +155,7 @@ fn put_chart(
     ensures { out.new ≡ chart_text words.now }
 {
     let count = series_count(alloc_sites(pointers).len());
+    // By offsets: after the borrow of a chunk a proof knows only its length.
     let mut at: usize = 0;
     for series in 0..count {
         let end = at + bytes;

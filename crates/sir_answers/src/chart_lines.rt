@@ -1,4 +1,5 @@
-// The lines of a chart: 72 columns, and a line feed beyond them.
+// The lines of a chart: 72 columns, and a line feed beyond them. They are put by offsets into what the caller lends, since C lends it
+// and nothing may be allocated.
 ghost use Rattle.std.specs.Prelude.{◌≡◌, cond, ◌++◌, ◌∷◌, [], ◌+◌, ◌*◌, ◌/◌, ◌<◌, ◌≤◌, length, replicate};
 ghost use Rattle.plank_core.specs.inner.Putting.{Put};
 ghost use Rattle.sir_data.specs.Codes.{is_call};
