@@ -5,7 +5,7 @@ ghost use Rattle.sir_analyses.specs.inner.Stages.{VisitStage, AcceptedStage, Liv
 
 use plank_core::index::BlockId;
 use report_lines::Printed;
-use report_lines::lines::refused_line;
+use report_lines::lines::RefusedLine;
 use sir_analyses::allocation_answers::compute_pointers;
 use sir_analyses::loading::load;
 use sir_analyses::local_liveness::compute_liveness;
@@ -21,13 +21,6 @@ const BLOCK: usize = 74825;
 // Prints some bytes.
 fn say(rt: &impl Print, text: &[u8]) -> io::Result<()> {
     rt.write_all(text)
-}
-
-// The line of a refusal.
-fn say_refused(rt: &impl Print, number: u32) -> io::Result<()> {
-    let mut line = [0u8; 32];
-    let n = refused_line(number, &mut line);
-    say(rt, &line[..n])
 }
 
 // The blocks of a series, in the order's sequence.
@@ -47,13 +40,18 @@ fn say_blocks(
     let mut others = [0u64; 8];
     other_locals(pointers, series, &mut others);
     let order = rpo(visit);
-    let mut i: usize = 0;
-    while i < order.len() {
-        let b = BlockId(order[i]);
-        let end = LINE * block_lines(words, b);
-        put_block(words, live, pointers, &others, series, b, &mut out[..end]);
+    for b in order {
+        let end = LINE * block_lines(words, BlockId(*b));
+        put_block(
+            words,
+            live,
+            pointers,
+            &others,
+            series,
+            BlockId(*b),
+            &mut out[..end],
+        );
         say(rt, &out[..end])?;
-        i += 1;
     }
     Ok(())
 }
@@ -83,11 +81,9 @@ fn say_chart(
 {
     let mut out = [0u8; BLOCK];
     let count = series_count(alloc_sites(pointers).len());
-    let mut series: usize = 0;
-    while series < count {
+    for series in 0..count {
         say_blocks(rt, words, visit, live, pointers, series, &mut out)?;
         say_filling(rt, words, visit, &mut out)?;
-        series += 1;
     }
     Ok(())
 }
@@ -115,7 +111,7 @@ pub fn chart(rt: &impl Print, image: &[u8]) -> Printed
     let sizes = load(image, &mut words, &mut postorder, &mut visit, &mut sites);
     let number = sizes.number;
     if number != 0 {
-        let written = say_refused(rt, number);
+        let written = rt.print(RefusedLine(number));
         return Printed { number, written };
     }
     let n = sizes.words;

@@ -6,8 +6,12 @@ ghost use Rattle.std.specs.Io.{ReadsAtMost};
 ghost use Rattle.std.specs.Io.KnownBytes.{Consumes, IsAtEnd};
 
 use std::env::{Env, FillError};
-use std::io;
+use std::fs::Files;
 use std::io::Read;
+use std::{fs, io};
+
+// The most that is read of an image. It is more than an image may have, so a longer input is still seen as too long.
+const MOST: usize = 60417;
 
 // Reads to the front of the space until it is full or nothing is left, and returns how many bytes that were. Where a reader's
 // bytes are known, these are its first, and all of them where the space is not full.
@@ -27,6 +31,18 @@ pub fn read_full<R: Read>(from: &mut R, space: &mut [u8]) -> io::Result<usize>
     Ok(done)
 }
 
+// Reads an image, and gives it to `visit`.
+pub fn with_image<T, V: FnOnce(&[u8]) -> io::Result<T>>(
+    from: &mut impl Read,
+    visit: V,
+) -> io::Result<T>
+    requires { V.IsAlwaysCallable visit }
+{
+    let mut image = [0u8; MOST];
+    let n = read_full(from, &mut image)?;
+    visit(&image[..n])
+}
+
 // Puts argument i at the front of the space and returns it as text, or `None` where there is no such argument. One that is longer
 // than the space, or is not text, is an error.
 pub fn argument<'a>(rt: &impl Env, i: usize, space: &'a mut [u8]) -> io::Result<Option<&'a str>> {
@@ -39,4 +55,35 @@ pub fn argument<'a>(rt: &impl Env, i: usize, space: &'a mut [u8]) -> io::Result<
         Ok(name) => Ok(Some(name)),
         Err(_) => Err(io::Error::from(io::ErrorKind::InvalidData)),
     }
+}
+
+// Opens the file that argument i names, and gives its name and it to `visit`. `None` where there is no such argument.
+fn visit_argument<R: Env + Files, T, V: Fn(&str, &mut R::File) -> io::Result<T>>(
+    rt: &R,
+    i: usize,
+    visit: &V,
+) -> io::Result<Option<T>>
+    requires { V.IsAlwaysCallable visit.now }
+{
+    let mut space = [0u8; 4096];
+    let Some(name) = argument(rt, i, &mut space)? else {
+        return Ok(None);
+    };
+    let mut file = fs::open(rt, name)?;
+    Ok(Some(visit(name, &mut file)?))
+}
+
+// Gives the name and the file of each argument to `visit`, in turn, as long as that answers true; how many these were.
+pub fn visit_arguments<R: Env + Files, V: Fn(&str, &mut R::File) -> io::Result<bool>>(
+    rt: &R,
+    visit: V,
+) -> io::Result<usize>
+    requires { V.IsAlwaysCallable visit }
+{
+    for i in 1..usize::MAX {
+        if visit_argument(rt, i, &visit)? != Some(true) {
+            return Ok(i - 1);
+        }
+    }
+    Ok(usize::MAX - 1)
 }

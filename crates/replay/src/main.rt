@@ -11,13 +11,11 @@ mod questions;
 ghost use Rattle.std.specs.Prelude.{◌≡◌, ◌≤◌, length, IfOk};
 ghost use Rattle.std.specs.Io.{ReadsAtMost};
 
-use program_input::{argument, read_full};
+use program_input::{read_full, visit_arguments};
 use questions::ask;
 use sir_data::pages::word_at;
-use std::env::Env;
-use std::fs::Files;
+use std::io;
 use std::io::Read;
-use std::{fs, io};
 
 // The most bytes of an image or a result slice that a file may have.
 const MOST: usize = 65536;
@@ -103,12 +101,10 @@ fn agreeing(file: &mut impl Read, image: &[u8], count: u32) -> io::Result<u32>
     ensures { IfOk result (λ found. found ≤ count) }
 {
     let mut found: u32 = 0;
-    let mut i: u32 = 0;
-    while i < count {
+    for i in 0..count {
         if agrees(file, image)? {
             found += 1;
         }
-        i += 1;
     }
     Ok(found)
 }
@@ -138,22 +134,10 @@ fn replay(rt: &impl Print, file: &mut impl Read) -> io::Result<bool> {
     Ok(true)
 }
 
-// The line of argument i. False where there is no such argument, or the file is cut short.
-fn print_line<R: Env + Files + Print>(rt: &R, i: usize) -> io::Result<bool> {
-    let mut space = [0u8; 4096];
-    let Some(name) = argument(rt, i, &mut space)? else {
-        return Ok(false);
-    };
-    let mut file = fs::open(rt, name)?;
-    rt.print(name)?;
-    replay(rt, &mut file)
-}
-
 fn main(rt: HostRuntime) -> io::Result<()> {
-    for i in 1..usize::MAX {
-        if !print_line(&rt, i)? {
-            break;
-        }
-    }
+    visit_arguments(&rt, |name, file| {
+        rt.print(name)?;
+        replay(&rt, file)
+    })?;
     Ok(())
 }

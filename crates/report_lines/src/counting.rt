@@ -16,13 +16,11 @@ pub fn local_too_long(words: &[u32], visit: &[u32], live: &[u64]) -> bool
     ensures { result ≡ local_too_long words.now }
 {
     let count = local_count(words);
-    let mut v: u32 = 0;
-    while v < count {
+    for v in 0..count {
         let n = compute_intervals(words, visit, live, LocalId(v), &mut []);
         if 16384 < n {
             return true;
         }
-        v += 1;
     }
     false
 }
@@ -41,13 +39,11 @@ pub fn allocation_too_long(
     ensures { result ≡ allocation_too_long words.now }
 {
     let count = alloc_sites(pointers).len();
-    let mut a: usize = 0;
-    while a < count {
+    for a in 0..count {
         let r = allocation_answer(words, visit, live, pointers, AllocId(a as u32), out);
         if r.number == 14 {
             return true;
         }
-        a += 1;
     }
     false
 }

@@ -1,41 +1,55 @@
-// The lines of a report, each to the front of `line`: how many bytes it has.
-ghost use Rattle.std.specs.Prelude.{◌-◌, ◌/◌, ◌≤◌, length};
+// The lines of a report. Those of words at hand show themselves. The others go to the front of `line`, and come back as how many
+// bytes they have: a value that shows itself would have to borrow the arrays in which its function lists the members or the answer.
+ghost use Rattle.std.specs.Prelude.{Some, ◌-◌, ◌/◌, ◌≤◌, length};
 ghost use Rattle.report_lines.specs.Lines.{refused_line, order_line, rounds_line, block_line};
 ghost use Rattle.plank_core.specs.inner.Putting.{Put};
 ghost use Rattle.report_lines.specs.inner.AnswerLines.{local_line, allocation_head, allocation_line, EndsSome};
 
-use crate::text::{put_blocks, put_intervals_at, put_members, put_named};
-use plank_core::text::{put_number, put_text};
+use crate::text::{put_intervals_at, put_members, put_named, write_blocks};
+use plank_core::text::put_text;
 use sir_data::pages::word_at;
+use std::fmt;
 
 // `refused` and the number.
-pub fn refused_line(number: u32, line: &mut [u8]) -> usize
-    requires { 32 ≤ length line.old }
-    ensures { Put (refused_line number) 0 line.old line.new result }
-{
-    let a = put_text(line, 0, b"refused ");
-    let b = put_number(line, a, number);
-    put_text(line, b, b"\n")
+#[derive(Drop)]
+pub struct RefusedLine(pub u32);
+
+impl fmt::Display for RefusedLine {
+    ghost output = { λ x. Some (refused_line x.0) };
+
+    fn fmt<W: fmt::Write>(&self, f: &mut fmt::Formatter<W>) -> fmt::Result {
+        let number = self.0;
+        write!(f, "refused {number}\n")
+    }
 }
 
 // `order` and the blocks.
-pub fn order_line(rpo: &[u32], line: &mut [u8]) -> usize
-    requires { (length rpo.now ≤ 256) × (196608 ≤ length line.old) }
-    ensures { Put (order_line rpo.now) 0 line.old line.new result }
-{
-    let a = put_text(line, 0, b"order");
-    let b = put_blocks(line, a, rpo);
-    put_text(line, b, b"\n")
+#[derive(Drop)]
+pub struct OrderLine<'a> {
+    pub rpo: &'a [u32],
+}
+
+impl<'a> fmt::Display for OrderLine<'a> {
+    ghost output = { λ x. Some (order_line x.rpo.now) };
+
+    fn fmt<W: fmt::Write>(&self, f: &mut fmt::Formatter<W>) -> fmt::Result {
+        write!(f, "order")?;
+        write_blocks(f, self.rpo)?;
+        write!(f, "\n")
+    }
 }
 
 // `rounds` and their number.
-pub fn rounds_line(rounds: u32, line: &mut [u8]) -> usize
-    requires { 196608 ≤ length line.old }
-    ensures { Put (rounds_line rounds) 0 line.old line.new result }
-{
-    let a = put_text(line, 0, b"rounds ");
-    let b = put_number(line, a, rounds);
-    put_text(line, b, b"\n")
+#[derive(Drop)]
+pub struct RoundsLine(pub u32);
+
+impl fmt::Display for RoundsLine {
+    ghost output = { λ x. Some (rounds_line x.0) };
+
+    fn fmt<W: fmt::Write>(&self, f: &mut fmt::Formatter<W>) -> fmt::Result {
+        let rounds = self.0;
+        write!(f, "rounds {rounds}\n")
+    }
 }
 
 // Block b with the members of its entry and its exit set.

@@ -8,14 +8,12 @@ ghost use Rattle.sir_analyses.specs.Liveness.{rounds};
 ghost use Rattle.sir_analyses.specs.Allocation.{allocs};
 ghost use Rattle.sir_analyses.specs.Answers.{order_answer, intervals_answer, allocation_answer};
 ghost use Rattle.sir_analyses.specs.inner.Stages.{VisitStage, AcceptedStage, LivenessStage, PointerStage};
-ghost use Rattle.report_lines.specs.Lines.{order_text, rounds_text, block_text, local_text, allocation_text};
+ghost use Rattle.report_lines.specs.Lines.{order_line, order_text, rounds_line, rounds_text, block_text, local_text, allocation_text};
 ghost use Rattle.plank_core.specs.inner.Putting.{Put};
 ghost use Rattle.report_lines.specs.Counting.{too_long, local_too_long, allocation_too_long, some_too_long, reported};
 
 use crate::counting::{allocation_too_long, local_too_long};
-use crate::lines::{
-    allocation_line, block_line, local_line, order_line, refused_line, rounds_line,
-};
+use crate::lines::{OrderLine, RefusedLine, RoundsLine, allocation_line, block_line, local_line};
 use plank_core::dense_index_set::list;
 use plank_core::index::{AllocId, BlockId, LocalId};
 use plank_core::rows::row_of;
@@ -41,46 +39,20 @@ fn say(rt: &impl Print, text: &[u8]) -> io::Result<()> {
     rt.write_all(text)
 }
 
-// The line of a refusal.
-fn say_refused(rt: &impl Print, number: u32, line: &mut [u8]) -> io::Result<()>
-    requires { 32 ≤ length line.old }
-{
-    let n = refused_line(number, line);
-    say(rt, &line[..n])
-}
-
 // The line of the order of some words, from their visit.
-fn order_text(words: &[u32], visit: &[u32], line: &mut [u8]) -> usize
+fn order_text<'a>(words: &[u32], visit: &'a [u32]) -> OrderLine<'a>
     requires visit_stage { VisitStage words.now visit.now }
-    requires in_bounds { 196608 ≤ length line.old }
-    ensures { Put (order_text words.now) 0 line.old line.new result }
+    ensures { order_line result.rpo.now ≡ order_text words.now }
 {
-    order_line(rpo(visit), line)
-}
-
-// The blocks in order.
-fn say_order(rt: &impl Print, words: &[u32], visit: &[u32], line: &mut [u8]) -> io::Result<()>
-    requires visit_stage { VisitStage words.now visit.now }
-    requires in_bounds { 196608 ≤ length line.old }
-{
-    let n = order_text(words, visit, line);
-    say(rt, &line[..n])
+    OrderLine { rpo: rpo(visit) }
 }
 
 // The line of the rounds of some words, from their number.
-fn rounds_text(words: &[u32], done: u32, line: &mut [u8]) -> usize
-    requires { (done ≡ rounds words.now) × (196608 ≤ length line.old) }
-    ensures { Put (rounds_text words.now) 0 line.old line.new result }
+fn rounds_text(words: &[u32], done: u32) -> RoundsLine
+    requires { done ≡ rounds words.now }
+    ensures { rounds_line result.0 ≡ rounds_text words.now }
 {
-    rounds_line(done, line)
-}
-
-// The rounds of liveness.
-fn say_rounds(rt: &impl Print, words: &[u32], done: u32, line: &mut [u8]) -> io::Result<()>
-    requires { (done ≡ rounds words.now) × (196608 ≤ length line.old) }
-{
-    let n = rounds_text(words, done, line);
-    say(rt, &line[..n])
+    RoundsLine(done)
 }
 
 // The line of block b, from the tables of liveness.
@@ -109,13 +81,11 @@ fn say_blocks(
     requires liveness_stage { LivenessStage words.now live.now × (196608 ≤ length line.old) }
 {
     let count = block_count(words);
-    let mut b: u32 = 0;
-    while b < count {
+    for b in 0..count {
         if is_visited(visit, BlockId(b)) {
             let n = block_text(words, live, BlockId(b), line);
             say(rt, &line[..n])?;
         }
-        b += 1;
     }
     Ok(())
 }
@@ -157,11 +127,9 @@ fn say_locals(
     requires out_len { (length out.old ≡ 65536) × (196608 ≤ length line.old) }
 {
     let count = local_count(words);
-    let mut v: u32 = 0;
-    while v < count {
+    for v in 0..count {
         let n = local_text(words, visit, live, LocalId(v), out, line);
         say(rt, &line[..n])?;
-        v += 1;
     }
     Ok(())
 }
@@ -198,13 +166,11 @@ fn say_allocations(
     requires out_len { (length out.old ≡ 65536) × (196608 ≤ length line.old) }
 {
     let count = alloc_sites(pointers).len();
-    let mut a: usize = 0;
-    while a < count {
+    for a in 0..count {
         let r = allocation_answer(words, visit, live, pointers, AllocId(a as u32), out);
         let end = r.length as usize;
         let n = allocation_text(words, visit, AllocId(a as u32), &out[..end], line);
         say(rt, &line[..n])?;
-        a += 1;
     }
     Ok(())
 }
@@ -225,8 +191,8 @@ fn say_lines(
     requires pointer_stage { PointerStage words.now pointers.now × (allocation_too_long words.now ≡ false) × (done ≡ rounds words.now) }
     requires out_len { (length out.old ≡ 65536) × (196608 ≤ length line.old) }
 {
-    say_order(rt, words, visit, line)?;
-    say_rounds(rt, words, done, line)?;
+    rt.print(order_text(words, visit))?;
+    rt.print(rounds_text(words, done))?;
     say_blocks(rt, words, visit, live, line)?;
     say_locals(rt, words, visit, live, out, line)?;
     say_allocations(rt, words, visit, live, pointers, out, line)
@@ -249,14 +215,14 @@ fn report_tables(
     let mut out = [0u8; 65536];
     let mut line = [0u8; 196608];
     if local_too_long(words, visit, live) {
-        let written = say_refused(rt, 14, &mut line);
+        let written = rt.print(RefusedLine(14));
         return Printed {
             number: 14,
             written,
         };
     }
     if allocation_too_long(words, visit, live, pointers, &mut out) {
-        let written = say_refused(rt, 14, &mut line);
+        let written = rt.print(RefusedLine(14));
         return Printed {
             number: 14,
             written,
@@ -290,7 +256,7 @@ pub fn report(rt: &impl Print, image: &[u8]) -> Printed
     let sizes = load(image, &mut words, &mut postorder, &mut visit, &mut sites);
     let number = sizes.number;
     if number != 0 {
-        let written = say_refused(rt, number, &mut [0u8; 32]);
+        let written = rt.print(RefusedLine(number));
         return Printed { number, written };
     }
     let n = sizes.words;

@@ -1,6 +1,6 @@
 // Pieces of a line. Each is put after the first `at` bytes of a line; the answer is where it ends.
-ghost use Rattle.std.specs.Prelude.{◌+◌, ◌*◌, ◌≤◌, ◌<◌, length};
-ghost use Rattle.plank_core.specs.Lists.{bind};
+ghost use Rattle.std.specs.Prelude.{Some, ◌+◌, ◌*◌, ◌≤◌, ◌<◌, length};
+ghost use Rattle.std.specs.Fmt.{DisplaysOnOk};
 ghost use Rattle.sir_data.specs.Pages.{word_at};
 ghost use Rattle.report_lines.specs.Lines.{named, locals_text, blocks_text, members_text, start_text, end_text, interval};
 ghost use Rattle.plank_core.specs.inner.Putting.{Put};
@@ -8,6 +8,7 @@ ghost use Rattle.report_lines.specs.inner.AnswerLines.{interval_at, intervals_at
 
 use plank_core::text::{put_number, put_text};
 use sir_data::pages::word_at;
+use std::fmt;
 
 // A name of at most three bytes and a number.
 pub fn put_named(line: &mut [u8], at: usize, name: &[u8], n: u32) -> usize
@@ -18,34 +19,26 @@ pub fn put_named(line: &mut [u8], at: usize, name: &[u8], n: u32) -> usize
     put_number(line, m, n)
 }
 
-// A name and a number for each of some ids.
-fn put_ids(line: &mut [u8], at: usize, name: &[u8], ids: &[u32]) -> usize
-    requires { (length name.now ≤ 3) × (at + 13 * length ids.now ≤ length line.old) }
-    ensures { Put (bind ids.now (named name.now)) at line.old line.new result }
-{
-    let mut m = at;
-    let mut k: usize = 0;
-    while k < ids.len() {
-        m = put_named(line, m, name, ids[k]);
-        k += 1;
-    }
-    m
-}
-
 // Each of some locals.
 pub fn put_locals(line: &mut [u8], at: usize, ids: &[u32]) -> usize
     requires { at + 13 * length ids.now ≤ length line.old }
     ensures { Put (locals_text ids.now) at line.old line.new result }
 {
-    put_ids(line, at, b" v", ids)
+    let mut m = at;
+    for v in ids {
+        m = put_named(line, m, b" v", *v);
+    }
+    m
 }
 
 // Each of some blocks.
-pub fn put_blocks(line: &mut [u8], at: usize, ids: &[u32]) -> usize
-    requires { at + 13 * length ids.now ≤ length line.old }
-    ensures { Put (blocks_text ids.now) at line.old line.new result }
+pub fn write_blocks<W: fmt::Write>(f: &mut fmt::Formatter<W>, ids: &[u32]) -> fmt::Result
+    ensures { DisplaysOnOk W.write_str_gives f.old result (Some (blocks_text ids.now)) f.new }
 {
-    put_ids(line, at, b" b", ids)
+    for b in ids {
+        write!(f, " b{b}")?;
+    }
+    Ok(())
 }
 
 // The members of a set; a hyphen where it is empty.
@@ -116,10 +109,8 @@ pub fn put_intervals_at(
     ensures { Put (intervals_at answer.now first count) at line.old line.new result }
 {
     let mut m = at;
-    let mut k: usize = 0;
-    while k < count {
+    for k in 0..count {
         m = put_interval_at(line, m, answer, first + 3 * k);
-        k += 1;
     }
     m
 }

@@ -39,10 +39,8 @@ pub fn series_lines(words: &[u32], visit: &[u32]) -> usize
 {
     let order = rpo(visit);
     let mut n: usize = 0;
-    let mut i: usize = 0;
-    while i < order.len() {
-        n += block_lines(words, BlockId(order[i]));
-        i += 1;
+    for b in order {
+        n += block_lines(words, BlockId(*b));
     }
     n
 }
@@ -89,10 +87,8 @@ pub fn put_block(
     closed_columns(pointers, series, &mut columns);
     let mut shown = DenseIndexSet { words: [0u64; 8] };
     let span = block_operations(words, b);
-    let mut o = span.end;
     let mut end = out.len();
-    while span.start < o {
-        o -= 1;
+    for o in (span.start..span.end).rev() {
         let at = end - LINE;
         live_around(live, OpIdx(o), &mut set);
         shown = update_columns(
@@ -127,13 +123,18 @@ fn put_series(
     other_locals(pointers, series, &mut others);
     let order = rpo(visit);
     let mut at: usize = 0;
-    let mut i: usize = 0;
-    while i < order.len() {
-        let b = BlockId(order[i]);
-        let end = at + LINE * block_lines(words, b);
-        put_block(words, live, pointers, &others, series, b, &mut out[at..end]);
+    for b in order {
+        let end = at + LINE * block_lines(words, BlockId(*b));
+        put_block(
+            words,
+            live,
+            pointers,
+            &others,
+            series,
+            BlockId(*b),
+            &mut out[at..end],
+        );
         at = end;
-        i += 1;
     }
     put_blanks(&mut out[at..]);
 }
@@ -154,13 +155,12 @@ fn put_chart(
     ensures { out.new ≡ chart_text words.now }
 {
     let count = series_count(alloc_sites(pointers).len());
+    // By offsets: after the borrow of a chunk a proof knows only its length.
     let mut at: usize = 0;
-    let mut series: usize = 0;
-    while series < count {
+    for series in 0..count {
         let end = at + bytes;
         put_series(words, visit, live, pointers, series, &mut out[at..end]);
         at = end;
-        series += 1;
     }
 }
 

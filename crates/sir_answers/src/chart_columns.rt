@@ -30,12 +30,10 @@ pub fn other_locals(pointers: &[u32], series: usize, others: &mut [u64])
     requires series_bound { (series < 8) × (others.old ≡ replicate 8 0) }
     ensures { OtherLocals pointers.now series others.new }
 {
-    let mut v: u32 = 0;
-    while v < 512 {
+    for v in 0..512 {
         let owner = unmarked_owner(pointers, LocalId(v)) as usize;
-        v += 1;
         if !in_series(series, owner) {
-            row_add(others, 0, v - 1);
+            row_add(others, 0, v);
         }
     }
 }
@@ -49,21 +47,6 @@ pub fn of_series<'a>(set: &'a [u64], others: &'a [u64]) -> DenseIndexSet
     row_union_with(&mut words, 0, set);
     row_difference_with(&mut words, 0, others);
     DenseIndexSet { words }
-}
-
-// Whether two sets are the same.
-fn is_same<'a>(one: &'a [u64], other: &'a [u64]) -> bool
-    requires { (length one.now ≡ 8) × (length other.now ≡ 8) }
-    ensures { result ≡ true → one.now ≡ other.now }
-{
-    let mut k: usize = 0;
-    while k < 8 {
-        if one[k] != other[k] {
-            return false;
-        }
-        k += 1;
-    }
-    true
 }
 
 // The column of allocation a where it is not open.
@@ -86,10 +69,8 @@ pub fn closed_columns(pointers: &[u32], series: usize, columns: &mut [u8])
     requires series_bound { (series < 8) × (length columns.old ≡ 64) }
     ensures { Columns pointers.now series (replicate 8 0) columns.new }
 {
-    let mut k: usize = 0;
-    while k < SERIES {
-        columns[k] = closed_column(pointers, SERIES * series + k);
-        k += 1;
+    for (k, column) in columns.iter_mut().enumerate() {
+        *column = closed_column(pointers, SERIES * series + k);
     }
 }
 
@@ -101,11 +82,9 @@ fn open_columns(pointers: &[u32], series: usize, ids: &[u32], columns: &mut [u8]
     ensures { (k : ℕ) → k < 64 → get_or columns.new k 0 ≡ cond (owns_some pointers.now ids.now (64 * series + k)) 35 (get_or columns.old k 0) }
 {
     let first = SERIES * series + 1;
-    let mut i: usize = 0;
-    while i < ids.len() {
-        let owner = unmarked_owner(pointers, LocalId(ids[i])) as usize;
+    for v in ids {
+        let owner = unmarked_owner(pointers, LocalId(*v)) as usize;
         columns[owner - first] = b'#';
-        i += 1;
     }
 }
 
@@ -137,7 +116,7 @@ pub fn update_columns(
     ensures words_value { result.words ≡ set.words }
     ensures columns { Columns pointers.now series set.words columns.new }
 {
-    if is_same(&set.words, &kept.words) {
+    if set.words == kept.words {
         return set;
     }
     columns_of(pointers, series, &set.words, columns);

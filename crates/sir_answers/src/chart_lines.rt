@@ -1,4 +1,5 @@
-// The lines of a chart: 72 columns, and a line feed beyond them.
+// The lines of a chart: 72 columns, and a line feed beyond them. They are put by offsets into what the caller lends, since C lends it
+// and nothing may be allocated.
 ghost use Rattle.std.specs.Prelude.{◌≡◌, cond, ◌++◌, ◌∷◌, [], ◌+◌, ◌*◌, ◌/◌, ◌<◌, ◌≤◌, length, replicate};
 ghost use Rattle.plank_core.specs.inner.Putting.{Put};
 ghost use Rattle.sir_data.specs.Codes.{is_call};
@@ -23,13 +24,8 @@ fn put_spaces(line: &mut [u8], at: usize, count: usize) -> usize
     requires { at + count ≤ length line.old }
     ensures { Put (spaces count) at line.old line.new result }
 {
-    let mut k: usize = 0;
-    let mut m = at;
-    while k < count {
-        m = put_byte(line, m, b' ');
-        k += 1;
-    }
-    m
+    line[at..at + count].fill(b' ');
+    at + count
 }
 
 // The digit of a number that counts so much; a space where the number is less.
@@ -104,10 +100,9 @@ pub fn put_blanks(out: &mut [u8])
     requires { length out.old ≡ 73 * (length out.old / 73) }
     ensures { out.new ≡ text_of (replicate (length out.old / 73) blank_line) }
 {
-    let mut at: usize = 0;
-    while at < out.len() {
-        let end = at + LINE;
-        put_blank(&mut out[at..end]);
-        at = end;
+    // By index: after the borrow of a chunk a proof knows only its length.
+    for k in 0..out.len() / LINE {
+        let at = LINE * k;
+        put_blank(&mut out[at..at + LINE]);
     }
 }

@@ -9,7 +9,6 @@ use Rattle.plank_core.specs.laws.Lists.{get_or_mem}
 use Rattle.plank_core.specs.Lists.{◌∈◌}
 use Rattle.sir_analyses.proofs.claims.order.OrderProof.{blocks_below}
 use Rattle.sir_analyses.specs.Order.{blocks_rpo}
-use Rattle.sir_answers.proofs.chart.ChartTexts.{order_most}
 use Rattle.chart.proofs.printing.say_blocks.Goals as goal
 
 pub slice_bounds-other_locals-end : goal.slice_bounds-other_locals-end
@@ -23,16 +22,12 @@ pub rpo-order-requires : goal.rpo-order-requires
 rpo-order-requires g c =
     (c.requires.visit_stage.long, c.requires.visit_stage.few)
 
-pub loop-i-init : goal.loop-i-init
-loop-i-init g c =
-    (omega arith, c.requires.pointer_stage.2)
-
 pub block_lines-end-requires : goal.block_lines-end-requires
 block_lines-end-requires g c =
     let order = c.rpo-order.result.now in
-    let i = c.loop-i.i in
+    let i = c.loop-b.b-index in
     let same : order ≡ blocks_rpo c.args.words.now = c.rpo-order.ensures ∙ c.requires.visit_stage.rpo_is in
-    let member = subst (λ (bs : List ℕ). get_or order i 0 ∈ bs) same (get_or_mem order i 0 c.loop-i-test.true) in
+    let member = subst (λ (bs : List ℕ). get_or order i 0 ∈ bs) same (get_or_mem order i 0 c.loop-b-test.true) in
     let good = c.requires.visit_stage.well_formed in
     record { well_formed = good; b_bound = blocks_below c.args.words.now good (get_or order i 0) member }
 
@@ -43,49 +38,36 @@ pub slice_bounds-put_block-end : goal.slice_bounds-put_block-end
 slice_bounds-put_block-end g c =
     sym c.other_locals.ensures.long
 
-pub slice_bounds-put_block-end-in-loop-i : goal.slice_bounds-put_block-end-in-loop-i
-slice_bounds-put_block-end-in-loop-i g c =
-    omega (arith, c.block_lines-end.ensures.1, c.loop-i.invariant.1)
+pub slice_bounds-put_block-end-in-loop-b : goal.slice_bounds-put_block-end-in-loop-b
+slice_bounds-put_block-end-in-loop-b g c =
+    omega (arith, c.block_lines-end.ensures.1, c.loop-b.auto.out, c.requires.pointer_stage.2)
 
-pub slice_bounds-put_block-end-in-loop-i-2 : goal.slice_bounds-put_block-end-in-loop-i-2
-slice_bounds-put_block-end-in-loop-i-2 g c =
-    sym (length-take-le (73 * c.block_lines-end.result) c.loop-i.out (omega (arith, c.block_lines-end.ensures.1, c.loop-i.invariant.1)))
+pub slice_bounds-put_block-end-in-loop-b-2 : goal.slice_bounds-put_block-end-in-loop-b-2
+slice_bounds-put_block-end-in-loop-b-2 g c =
+    sym (length-take-le (73 * c.block_lines-end.result) c.loop-b.out (omega (arith, c.block_lines-end.ensures.1, c.loop-b.auto.out, c.requires.pointer_stage.2)))
 
 pub put_block-requires : goal.put_block-requires
 put_block-requires g c =
     let order = c.rpo-order.result.now in
-    let i = c.loop-i.i in
+    let i = c.loop-b.b-index in
     let same : order ≡ blocks_rpo c.args.words.now = c.rpo-order.ensures ∙ c.requires.visit_stage.rpo_is in
-    let member = subst (λ (bs : List ℕ). get_or order i 0 ∈ bs) same (get_or_mem order i 0 c.loop-i-test.true) in
-    let long = length-take-le (73 * c.block_lines-end.result) c.loop-i.out (omega (arith, c.block_lines-end.ensures.1, c.loop-i.invariant.1)) in
+    let member = subst (λ (bs : List ℕ). get_or order i 0 ∈ bs) same (get_or_mem order i 0 c.loop-b-test.true) in
+    let long = length-take-le (73 * c.block_lines-end.result) c.loop-b.out (omega (arith, c.block_lines-end.ensures.1, c.loop-b.auto.out, c.requires.pointer_stage.2)) in
     record { liveness_stage = c.requires.liveness_stage; pointer_stage = c.requires.pointer_stage.0; series_bound = (c.requires.pointer_stage.1, c.other_locals.ensures); fact = (member, omega (arith, long, c.block_lines-end.ensures.0)) }
 
 pub slice_bounds-say-end : goal.slice_bounds-say-end
 slice_bounds-say-end g c =
-    let l = c.loop-i in
+    let l = c.loop-b in
     let n = 73 * c.block_lines-end.result in
-    omega (arith, length_front l.out c.put_block.new.out n (omega (arith, c.put_block.auto)), c.block_lines-end.ensures.1, l.invariant.1)
+    omega (arith, length_front l.out c.put_block.new.out n (omega (arith, c.put_block.auto)), c.block_lines-end.ensures.1, l.auto.out, c.requires.pointer_stage.2)
 
-pub slice_bounds-say-end-in-loop-i : goal.slice_bounds-say-end-in-loop-i
-slice_bounds-say-end-in-loop-i g c =
-    let l = c.loop-i in
+pub slice_bounds-say-end-in-loop-b : goal.slice_bounds-say-end-in-loop-b
+slice_bounds-say-end-in-loop-b g c =
+    let l = c.loop-b in
     let n = 73 * c.block_lines-end.result in
-    sym (length-take-le n _ (omega (arith, length_front l.out c.put_block.new.out n (omega (arith, c.put_block.auto)), c.block_lines-end.ensures.1, l.invariant.1)))
-
-pub overflow_add-i : goal.overflow_add-i
-overflow_add-i g c =
-    omega (arith, c.loop-i-test.true, order_most c.requires.visit_stage c.rpo-order.ensures)
-
-pub loop-i-smaller : goal.loop-i-smaller
-loop-i-smaller g c =
-    omega (arith, c.loop-i-test.true)
-
-pub loop-i-preserved : goal.loop-i-preserved
-loop-i-preserved g c =
-    let l = c.loop-i in
-    (omega (arith, c.loop-i-test.true), length_front l.out c.put_block.new.out (73 * c.block_lines-end.result) (omega (arith, c.put_block.auto)) ∙ l.invariant.1)
+    sym (length-take-le n _ (omega (arith, length_front l.out c.put_block.new.out n (omega (arith, c.put_block.auto)), c.block_lines-end.ensures.1, l.auto.out, c.requires.pointer_stage.2)))
 
 pub shape_of-out-in_err-say : goal.shape_of-out-in_err-say
 shape_of-out-in_err-say g c =
-    let l = c.loop-i in
-    length_front l.out c.put_block.new.out (73 * c.block_lines-end.result) (omega (arith, c.put_block.auto)) ∙ l.invariant.1 ∙ sym c.requires.pointer_stage.2
+    let l = c.loop-b in
+    length_front l.out c.put_block.new.out (73 * c.block_lines-end.result) (omega (arith, c.put_block.auto)) ∙ l.auto.out

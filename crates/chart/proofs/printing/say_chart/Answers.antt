@@ -16,34 +16,25 @@ series_count-count-requires g c =
     omega (arith, ap length c.alloc_sites.ensures, sites_few c.requires.pointer_stage)
 
 pub loop-series-init : goal.loop-series-init
-loop-series-init g c = (omega arith, length-replicate {A = ℕ} 74825 0)
+loop-series-init g c = length-replicate {A = ℕ} 74825 0
 
 pub slice_bounds-say_blocks-end : goal.slice_bounds-say_blocks-end
 slice_bounds-say_blocks-end g c =
-    sym c.loop-series.invariant.1
+    sym c.loop-series.invariant
 
 pub say_blocks-requires : goal.say_blocks-requires
 say_blocks-requires g c =
     let eight : c.series_count-count.result ≤ 8 = rw c.series_count-count.ensures (series_most (length c.alloc_sites.result.now) (omega (arith, ap length c.alloc_sites.ensures, sites_few c.requires.pointer_stage))) in
-    record { visit_stage = c.requires.visit_stage; liveness_stage = c.requires.liveness_stage; pointer_stage = (c.requires.pointer_stage, omega (arith, eight, c.loop-series-test.true), c.loop-series.invariant.1) }
+    record { visit_stage = c.requires.visit_stage; liveness_stage = c.requires.liveness_stage; pointer_stage = (c.requires.pointer_stage, omega (arith, eight, c.loop-series-test.true), c.loop-series.invariant) }
 
 pub slice_bounds-say_filling-end : goal.slice_bounds-say_filling-end
 slice_bounds-say_filling-end g c =
-    omega (arith, c.say_blocks.auto, c.loop-series.invariant.1)
+    omega (arith, c.say_blocks.auto, c.loop-series.invariant)
 
 pub say_filling-requires : goal.say_filling-requires
 say_filling-requires g c =
-    record { visit_stage = c.requires.visit_stage; out_len = omega (arith, c.say_blocks.auto, c.loop-series.invariant.1) }
-
-pub overflow_add-series : goal.overflow_add-series
-overflow_add-series g c =
-    let eight : c.series_count-count.result ≤ 8 = rw c.series_count-count.ensures (series_most (length c.alloc_sites.result.now) (omega (arith, ap length c.alloc_sites.ensures, sites_few c.requires.pointer_stage))) in
-    omega (arith, eight, c.loop-series-test.true)
-
-pub loop-series-smaller : goal.loop-series-smaller
-loop-series-smaller g c =
-    omega (arith, c.loop-series-test.true)
+    record { visit_stage = c.requires.visit_stage; out_len = omega (arith, c.say_blocks.auto, c.loop-series.invariant) }
 
 pub loop-series-preserved : goal.loop-series-preserved
 loop-series-preserved g c =
-    (omega (arith, c.loop-series-test.true), omega (arith, c.say_filling.auto, c.say_blocks.auto, c.loop-series.invariant.1))
+    omega (arith, c.say_filling.auto, c.say_blocks.auto, c.loop-series.invariant)

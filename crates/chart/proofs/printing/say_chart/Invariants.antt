@@ -1,11 +1,7 @@
 -- `say_chart` meets its contract. The invariant: the slice keeps its length.
 use mathlib.Core.Path.{◌≡◌}
-use Prim.Native.Nat.{◌-◌, ◌≤◌}
 use lib.ListN.{length}
 use Rattle.chart.proofs.printing.say_chart.Given as goal
 
 abbrev pub invariant-loop-series : goal.invariant-loop-series
-invariant-loop-series g l = (l.series ≤ l.count) × (length l.out ≡ 74825)
-
-abbrev pub decreases-loop-series : goal.decreases-loop-series
-decreases-loop-series g l = l.count - l.series
+invariant-loop-series g l = length l.out ≡ 74825

@@ -15,7 +15,7 @@ alloc_sites-count-requires c =
 
 pub loop-a-init : goal.loop-a-init
 loop-a-init c =
-    (omega arith, refl, allocations_start c.args.words.now)
+    (refl, allocations_start c.args.words.now)
 
 pub overflow_cast-a : goal.overflow_cast-a
 overflow_cast-a c =
@@ -27,30 +27,26 @@ allocation_answer-r-requires c =
 
 pub shape_of-out-then-r-eq14 : goal.shape_of-out-then-r-eq14
 shape_of-out-then-r-eq14 c =
-    omega (arith, c.allocation_answer-r.auto, c.loop-a.invariant.1)
+    omega (arith, c.allocation_answer-r.auto, c.loop-a.invariant.0)
 
 pub returns-then-r-eq14 : goal.returns-then-r-eq14
 returns-then-r-eq14 c =
     let w = c.args.words.now in
     let L = c.loop-a in
     let l : L.a < length (allocs w) = omega (arith, c.loop-a-test.true, sites_count c.requires.pointer_stage.0 (ap length c.alloc_sites-count.ensures)) in
-    sym (any_stop (long_allocation w) L.a (length (allocs w)) l (refused_long (allocation_answer w L.a) L.out (L.invariant.1 ∙ c.requires.pointer_stage.1) c.allocation_answer-r.ensures c.if-r-eq14.true)) ∙ L.invariant.2
-
-pub overflow_add-a : goal.overflow_add-a
-overflow_add-a c =
-    omega (arith, c.loop-a-test.true, ap length c.alloc_sites-count.ensures, sites_most c.requires.pointer_stage.0)
+    sym (any_stop (long_allocation w) L.a (length (allocs w)) l (refused_long (allocation_answer w L.a) L.out (L.invariant.0 ∙ c.requires.pointer_stage.1) c.allocation_answer-r.ensures c.if-r-eq14.true)) ∙ L.invariant.1
 
 pub loop-a-preserved : goal.loop-a-preserved
 loop-a-preserved c =
     let w = c.args.words.now in
     let L = c.loop-a in
     let l : L.a < length (allocs w) = omega (arith, c.loop-a-test.true, sites_count c.requires.pointer_stage.0 (ap length c.alloc_sites-count.ensures)) in
-    (omega arith, omega (arith, c.allocation_answer-r.auto, L.invariant.1), any_step (long_allocation w) L.a (length (allocs w)) l (answered_short (allocation_answer w L.a) L.out (L.invariant.1 ∙ c.requires.pointer_stage.1) c.allocation_answer-r.ensures c.if-r-eq14.false) ∙ L.invariant.2)
+    (omega (arith, c.allocation_answer-r.auto, L.invariant.0), any_step (long_allocation w) L.a (length (allocs w)) l (answered_short (allocation_answer w L.a) L.out (L.invariant.0 ∙ c.requires.pointer_stage.1) c.allocation_answer-r.ensures c.if-r-eq14.false) ∙ L.invariant.1)
 
 pub shape_of-out : goal.shape_of-out
-shape_of-out c = c.loop-a.invariant.1
+shape_of-out c = c.loop-a.invariant.0
 
 pub returns : goal.returns
 returns c =
     let w = c.args.words.now in
-    sym (any_end (long_allocation w) c.loop-a.a (length (allocs w)) (omega (arith, c.loop-a-test.false, sites_count c.requires.pointer_stage.0 (ap length c.alloc_sites-count.ensures)))) ∙ c.loop-a.invariant.2
+    sym (any_end (long_allocation w) c.loop-a.a (length (allocs w)) (omega (arith, c.loop-a-test.false, sites_count c.requires.pointer_stage.0 (ap length c.alloc_sites-count.ensures)))) ∙ c.loop-a.invariant.1

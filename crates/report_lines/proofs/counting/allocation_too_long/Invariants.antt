@@ -1,6 +1,5 @@
 -- `allocation_too_long` meets its contract.
 use mathlib.Core.Path.{◌≡◌}
-use Prim.Native.Nat.{◌-◌, ◌≤◌}
 use lib.ListN.{length}
 use Rattle.plank_core.specs.Lists.{any, range}
 use Rattle.sir_analyses.specs.Allocation.{allocs}
@@ -9,7 +8,4 @@ use Rattle.report_lines.proofs.TooLong.{long_allocation}
 use Rattle.report_lines.proofs.counting.allocation_too_long.Given as goal
 
 abbrev pub invariant-loop-a : goal.invariant-loop-a
-invariant-loop-a l = (l.a ≤ l.count) × (length l.out ≡ length l.initial.out) × (any (long_allocation l.words) (range l.a (length (allocs l.words))) ≡ allocation_too_long l.words)
-
-abbrev pub decreases-loop-a : goal.decreases-loop-a
-decreases-loop-a l = l.count - l.a
+invariant-loop-a l = (length l.out ≡ length l.initial.out) × (any (long_allocation l.words) (range l.a (length (allocs l.words))) ≡ allocation_too_long l.words)

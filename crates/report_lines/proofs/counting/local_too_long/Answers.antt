@@ -13,7 +13,7 @@ local_count-count-requires c = omega (arith, c.requires.visit_stage.well_formed.
 
 pub loop-v-init : goal.loop-v-init
 loop-v-init c =
-    (omega arith, locals_start c.args.words.now)
+    locals_start c.args.words.now
 
 pub compute_intervals-n-requires : goal.compute_intervals-n-requires
 compute_intervals-n-requires c =
@@ -24,16 +24,16 @@ returns-then-n-gt16384 c =
     let w = c.args.words.now in
     let v = c.loop-v.v in
     let l : v < locals w = omega (arith, c.loop-v-test.true, c.local_count-count.ensures) in
-    sym (any_stop (long_local w) v (locals w) l (is_long (intervals_answer w v) c.compute_intervals-n.ensures.1 c.if-n-gt16384.true)) ∙ c.loop-v.invariant.1
+    sym (any_stop (long_local w) v (locals w) l (is_long (intervals_answer w v) c.compute_intervals-n.ensures.1 c.if-n-gt16384.true)) ∙ c.loop-v.invariant
 
 pub loop-v-preserved : goal.loop-v-preserved
 loop-v-preserved c =
     let w = c.args.words.now in
     let v = c.loop-v.v in
     let l : v < locals w = omega (arith, c.loop-v-test.true, c.local_count-count.ensures) in
-    (omega arith, any_step (long_local w) v (locals w) l (not_long (intervals_answer w v) c.compute_intervals-n.ensures.1 c.if-n-gt16384.false) ∙ c.loop-v.invariant.1)
+    any_step (long_local w) v (locals w) l (not_long (intervals_answer w v) c.compute_intervals-n.ensures.1 c.if-n-gt16384.false) ∙ c.loop-v.invariant
 
 pub returns : goal.returns
 returns c =
     let w = c.args.words.now in
-    sym (any_end (long_local w) c.loop-v.v (locals w) (omega (arith, c.loop-v-test.false, c.local_count-count.ensures))) ∙ c.loop-v.invariant.1
+    sym (any_end (long_local w) c.loop-v.v (locals w) (omega (arith, c.loop-v-test.false, c.local_count-count.ensures))) ∙ c.loop-v.invariant

@@ -1,6 +1,5 @@
 -- `local_too_long` meets its contract.
 use mathlib.Core.Path.{◌≡◌}
-use Prim.Native.Nat.{◌-◌, ◌≤◌}
 use Rattle.plank_core.specs.Lists.{any, range}
 use Rattle.sir_data.specs.Records.{locals}
 use Rattle.report_lines.specs.Counting.{local_too_long}
@@ -8,7 +7,4 @@ use Rattle.report_lines.proofs.TooLong.{long_local}
 use Rattle.report_lines.proofs.counting.local_too_long.Given as goal
 
 abbrev pub invariant-loop-v : goal.invariant-loop-v
-invariant-loop-v l = (l.v ≤ l.count) × (any (long_local l.words) (range l.v (locals l.words)) ≡ local_too_long l.words)
-
-abbrev pub decreases-loop-v : goal.decreases-loop-v
-decreases-loop-v l = l.count - l.v
+invariant-loop-v l = (any (long_local l.words) (range l.v (locals l.words)) ≡ local_too_long l.words)

@@ -10,9 +10,6 @@ pub local_too_long-requires : goal.local_too_long-requires
 local_too_long-requires g c =
     record { visit_stage = c.requires.visit_stage; liveness_stage = c.requires.liveness_stage }
 
-pub say_refused-written-requires : goal.say_refused-written-requires
-say_refused-written-requires g c = omega (arith, length-replicate {A = ℕ} 196608 0)
-
 pub returns-then-local_too_long : goal.returns-then-local_too_long
 returns-then-local_too_long g c =
     let P = c.requires in rw (others_fit P.liveness_stage.sets P.pointer_stage.2, sym c.local_too_long.ensures ∙ c.if-local_too_long.true) refl
@@ -20,9 +17,6 @@ returns-then-local_too_long g c =
 pub allocation_too_long-requires : goal.allocation_too_long-requires
 allocation_too_long-requires g c =
     let P = c.requires in record { visit_stage = P.visit_stage; liveness_stage = P.liveness_stage; pointer_stage = (P.pointer_stage.0, omega (arith, length-replicate {A = ℕ} 65536 0)) }
-
-pub say_refused-written-requires-then-allocation_too_long : goal.say_refused-written-requires-then-allocation_too_long
-say_refused-written-requires-then-allocation_too_long g c = omega (arith, length-replicate {A = ℕ} 196608 0)
 
 pub returns-then-allocation_too_long : goal.returns-then-allocation_too_long
 returns-then-allocation_too_long g c =

@@ -1,5 +1,5 @@
 -- `put_intervals_at` meets its contract.
-use Prim.Native.Nat.{◌+◌, ◌-◌, ◌*◌, ◌≤◌}
+use Prim.Native.Nat.{◌+◌, ◌*◌, ◌≤◌}
 use Rattle.plank_core.specs.inner.Putting.{Put}
 use Rattle.report_lines.specs.inner.AnswerLines.{interval_at}
 use Rattle.plank_core.specs.Lists.{bind, upto}
@@ -7,6 +7,3 @@ use Rattle.report_lines.proofs.text.put_intervals_at.Given as goal
 
 abbrev pub invariant-loop-k : goal.invariant-loop-k
 invariant-loop-k l = (l.k ≤ l.count) × (l.m ≤ l.at + 36 * l.k) × Put (bind (upto l.k) (λ k. interval_at l.answer (l.first + 3 * k))) l.at l.initial.line l.line l.m
-
-abbrev pub decreases-loop-k : goal.decreases-loop-k
-decreases-loop-k l = l.count - l.k

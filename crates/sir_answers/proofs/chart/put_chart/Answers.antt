@@ -31,7 +31,7 @@ series_count-count-requires c =
     omega (arith, ap length c.alloc_sites.ensures, sites_few c.requires.pointer_stage)
 
 pub loop-series-init : goal.loop-series-init
-loop-series-init c = (omega arith, refl, omega arith, refl, refl)
+loop-series-init c = (refl, omega arith, refl, refl)
 
 pub overflow_add-end : goal.overflow_add-end
 overflow_add-end c =
@@ -42,7 +42,7 @@ overflow_add-end c =
     let room : c.args.bytes * suc l.series ≤ c.args.bytes * series_count w = mul-le-mul_left c.args.bytes more in
     let next = mul-suc c.args.bytes l.series in
     let eight = mul-le-mul_left c.args.bytes (series_most (length (allocs w)) (allocations_few c.requires.pointer_stage)) in
-    omega (arith, room, next, eight, l.invariant.2, c.requires.bytes_value.0, lines_most c.requires.visit_stage)
+    omega (arith, room, next, eight, l.invariant.1, c.requires.bytes_value.0, lines_most c.requires.visit_stage)
 
 pub slice_bounds-put_series-end : goal.slice_bounds-put_series-end
 slice_bounds-put_series-end c =
@@ -52,7 +52,7 @@ slice_bounds-put_series-end c =
     let more : l.series < series_count w = omega (arith, count, c.loop-series-test.true) in
     let room : c.args.bytes * suc l.series ≤ c.args.bytes * series_count w = mul-le-mul_left c.args.bytes more in
     let next = mul-suc c.args.bytes l.series in
-    omega (arith, room, next, l.invariant.1, l.invariant.2, c.requires.bytes_value.1)
+    omega (arith, room, next, l.invariant.0, l.invariant.1, c.requires.bytes_value.1)
 
 pub put_series-requires : goal.put_series-requires
 put_series-requires c =
@@ -62,21 +62,7 @@ put_series-requires c =
     let more : l.series < series_count w = omega (arith, count, c.loop-series-test.true) in
     let room : c.args.bytes * suc l.series ≤ c.args.bytes * series_count w = mul-le-mul_left c.args.bytes more in
     let next = mul-suc c.args.bytes l.series in
-    record { visit_stage = c.requires.visit_stage; liveness_stage = c.requires.liveness_stage; pointer_stage = c.requires.pointer_stage; series_bound = (omega (arith, more, series_most (length (allocs w)) (allocations_few c.requires.pointer_stage)), omega (arith, room, next, l.invariant.1, l.invariant.2, c.requires.bytes_value.1, c.requires.bytes_value.0)) }
-
-pub overflow_add-series : goal.overflow_add-series
-overflow_add-series c =
-    let w = c.args.words.now in
-    let l = c.loop-series in
-    let count : c.series_count-count.result ≡ series_count w = c.series_count-count.ensures ∙ ap series_for (ap length c.alloc_sites.ensures ∙ sites_count c.requires.pointer_stage) in
-    let more : l.series < series_count w = omega (arith, count, c.loop-series-test.true) in
-    let room : c.args.bytes * suc l.series ≤ c.args.bytes * series_count w = mul-le-mul_left c.args.bytes more in
-    let next = mul-suc c.args.bytes l.series in
-    omega (arith, more, series_most (length (allocs w)) (allocations_few c.requires.pointer_stage))
-
-pub loop-series-smaller : goal.loop-series-smaller
-loop-series-smaller c =
-    omega (arith, c.loop-series-test.true)
+    record { visit_stage = c.requires.visit_stage; liveness_stage = c.requires.liveness_stage; pointer_stage = c.requires.pointer_stage; series_bound = (omega (arith, more, series_most (length (allocs w)) (allocations_few c.requires.pointer_stage)), omega (arith, room, next, l.invariant.0, l.invariant.1, c.requires.bytes_value.1, c.requires.bytes_value.0)) }
 
 pub loop-series-preserved : goal.loop-series-preserved
 loop-series-preserved c =
@@ -88,17 +74,16 @@ loop-series-preserved c =
     let next = mul-suc c.args.bytes l.series in
     let d = c.args.out.now in
     let bytes = c.args.bytes in
-    let long : length c.put_series.new.out ≡ bytes = omega (arith, c.put_series.auto, room, next, l.invariant.1, l.invariant.2, c.requires.bytes_value.1) in
-    let put = fill_next (series_to w l.series) (text_of (sheets (series_lines w l.series))) l.at bytes d l.invariant.3 l.invariant.4 c.put_series.ensures long in (
-      omega (arith, c.loop-series-test.true),
-      same_len_mid l.at (l.at + bytes - l.at) l.out c.put_series.new.out (omega (arith, c.put_series.auto)) ∙ l.invariant.1,
-      omega (arith, l.invariant.2, next, ap (λ (n : ℕ). bytes * n) (add-one l.series)),
+    let long : length c.put_series.new.out ≡ bytes = omega (arith, c.put_series.auto, room, next, l.invariant.0, l.invariant.1, c.requires.bytes_value.1) in
+    let put = fill_next (series_to w l.series) (text_of (sheets (series_lines w l.series))) l.at bytes d l.invariant.2 l.invariant.3 c.put_series.ensures long in (
+      same_len_mid l.at (l.at + bytes - l.at) l.out c.put_series.new.out (omega (arith, c.put_series.auto)) ∙ l.invariant.0,
+      omega (arith, l.invariant.1, next, ap (λ (n : ℕ). bytes * n) (add-one l.series)),
       ap length (sym (series_next w l.series)) ∙ put.0,
       put.1 ∙ ap (λ (t : List ℕ). t ++ drop (l.at + bytes) d) (series_next w l.series),
     )
 
 pub shape_of-out : goal.shape_of-out
-shape_of-out c = c.loop-series.invariant.1
+shape_of-out c = c.loop-series.invariant.0
 
 pub returns : goal.returns
 returns c =
@@ -106,6 +91,6 @@ returns c =
     let d = c.args.out.now in
     let l = c.loop-series in
     let count : c.series_count-count.result ≡ series_count w = c.series_count-count.ensures ∙ ap series_for (ap length c.alloc_sites.ensures ∙ sites_count c.requires.pointer_stage) in
-    let all : l.series ≡ series_count w = omega (arith, count, l.invariant.0, c.loop-series-test.false) in
-    let end : l.at ≡ length d = l.invariant.2 ∙ ap (λ (n : ℕ). c.args.bytes * n) all ∙ sym c.requires.bytes_value.1 in
-    l.invariant.4 ∙ ap (λ (n : ℕ). series_to w n ++ drop l.at d) all ∙ ap (λ (t : List ℕ). series_to w (series_count w) ++ t) (ap (λ (n : ℕ). drop n d) end ∙ drop-length d) ∙ append-nil (series_to w (series_count w)) ∙ text_is w
+    let all : l.series ≡ series_count w = omega (arith, count, l.auto.series-end, c.loop-series-test.false) in
+    let end : l.at ≡ length d = l.invariant.1 ∙ ap (λ (n : ℕ). c.args.bytes * n) all ∙ sym c.requires.bytes_value.1 in
+    l.invariant.3 ∙ ap (λ (n : ℕ). series_to w n ++ drop l.at d) all ∙ ap (λ (t : List ℕ). series_to w (series_count w) ++ t) (ap (λ (n : ℕ). drop n d) end ∙ drop-length d) ∙ append-nil (series_to w (series_count w)) ∙ text_is w

@@ -1,4 +1,4 @@
--- `put_series` meets its contract. The invariant: the blocks before i stand before `at`, and the rest is as it was.
+-- `put_series` meets its contract. The invariant: the blocks before this one stand before `at`, and the rest is as it was.
 use mathlib.Core.List.{List, ◌++◌}
 use mathlib.Core.Path.{◌≡◌, refl, sym, ap, ◌∙◌, subst}
 use Prim.Native.Nat.{ℕ, ◌+◌, ◌-◌, ◌*◌, ◌/◌, ◌≤◌}
@@ -12,7 +12,7 @@ use Rattle.sir_analyses.proofs.claims.chart.Places.{sheets_hold}
 use Rattle.sir_analyses.proofs.claims.order.OrderProof.{blocks_below}
 use Rattle.sir_analyses.specs.Chart.{blank_line, block_lines, on_sheets, text_of, lines_of}
 use Rattle.sir_analyses.specs.Order.{blocks_rpo}
-use Rattle.sir_answers.proofs.chart.ChartTexts.{order_most, lines_most, lines_next, blocks_next, lines_within, sheets_text}
+use Rattle.sir_answers.proofs.chart.ChartTexts.{lines_most, lines_next, blocks_next, lines_within, sheets_text}
 use Rattle.sir_answers.proofs.chart_lines.LineTexts.{fill_next, fill_end}
 use Rattle.sir_answers.proofs.chart.put_series.Goals as goal
 
@@ -27,22 +27,15 @@ pub rpo-order-requires : goal.rpo-order-requires
 rpo-order-requires c =
     (c.requires.visit_stage.long, c.requires.visit_stage.few)
 
-pub loop-i-init : goal.loop-i-init
-loop-i-init c = (omega arith, refl, refl, refl, refl)
-
-pub offset_bounds-order-i : goal.offset_bounds-order-i
-offset_bounds-order-i c =
-    omega (arith, c.loop-i-test.true, order_most c.requires.visit_stage c.rpo-order.ensures)
-
-pub bounds-order-i : goal.bounds-order-i
-bounds-order-i c = c.loop-i-test.true
+pub loop-b-init : goal.loop-b-init
+loop-b-init c = (refl, refl, refl, refl)
 
 pub block_lines-requires : goal.block_lines-requires
 block_lines-requires c =
     let order = c.rpo-order.result.now in
-    let i = c.loop-i.i in
+    let i = c.loop-b.b-index in
     let same : order ≡ blocks_rpo c.args.words.now = c.rpo-order.ensures ∙ c.requires.visit_stage.rpo_is in
-    let member = subst (λ (bs : List ℕ). get_or order i 0 ∈ bs) same (get_or_mem order i 0 c.loop-i-test.true) in
+    let member = subst (λ (bs : List ℕ). get_or order i 0 ∈ bs) same (get_or_mem order i 0 c.loop-b-test.true) in
     let good = c.requires.visit_stage.well_formed in
     record { well_formed = good; b_bound = blocks_below c.args.words.now good (get_or order i 0) member }
 
@@ -53,63 +46,54 @@ pub overflow_add-end : goal.overflow_add-end
 overflow_add-end c =
     let w = c.args.words.now in
     let order = c.rpo-order.result.now in
-    let l = c.loop-i in
+    let l = c.loop-b in
     let same : order ≡ blocks_rpo w = c.rpo-order.ensures ∙ c.requires.visit_stage.rpo_is in
-    let room : 73 * lines_of w (take l.i order) ≤ length c.args.out.now = omega (arith, lines_within w order l.i, ap (lines_of w) same, sheets_hold (lines_of w (blocks_rpo w)), c.requires.series_bound.1) in
-    omega (arith, c.block_lines.ensures.1, l.invariant.2, room, c.requires.series_bound.1, lines_most c.requires.visit_stage)
+    let room : 73 * lines_of w (take l.b-index order) ≤ length c.args.out.now = omega (arith, lines_within w order l.b-index, ap (lines_of w) same, sheets_hold (lines_of w (blocks_rpo w)), c.requires.series_bound.1) in
+    omega (arith, c.block_lines.ensures.1, l.invariant.1, room, c.requires.series_bound.1, lines_most c.requires.visit_stage)
 
 pub slice_bounds-put_block-end : goal.slice_bounds-put_block-end
 slice_bounds-put_block-end c =
     sym c.other_locals.ensures.long
 
-pub slice_bounds-put_block-end-in-loop-i : goal.slice_bounds-put_block-end-in-loop-i
-slice_bounds-put_block-end-in-loop-i c =
+pub slice_bounds-put_block-end-in-loop-b : goal.slice_bounds-put_block-end-in-loop-b
+slice_bounds-put_block-end-in-loop-b c =
     let w = c.args.words.now in
     let order = c.rpo-order.result.now in
-    let l = c.loop-i in
-    let h = c.loop-i-test.true in
+    let l = c.loop-b in
+    let h = c.loop-b-test.true in
     let same : order ≡ blocks_rpo w = c.rpo-order.ensures ∙ c.requires.visit_stage.rpo_is in
-    let room : 73 * lines_of w (take (l.i + 1) order) ≤ length c.args.out.now = omega (arith, lines_within w order (l.i + 1), ap (lines_of w) same, sheets_hold (lines_of w (blocks_rpo w)), c.requires.series_bound.1) in
-    omega (arith, room, l.invariant.1, l.invariant.2, lines_next w order l.i h, c.block_lines.ensures.0)
+    let room : 73 * lines_of w (take (l.b-index + 1) order) ≤ length c.args.out.now = omega (arith, lines_within w order (l.b-index + 1), ap (lines_of w) same, sheets_hold (lines_of w (blocks_rpo w)), c.requires.series_bound.1) in
+    omega (arith, room, l.invariant.0, l.invariant.1, lines_next w order l.b-index h, c.block_lines.ensures.0)
 
 pub put_block-requires : goal.put_block-requires
 put_block-requires c =
     let w = c.args.words.now in
     let order = c.rpo-order.result.now in
-    let l = c.loop-i in
-    let h = c.loop-i-test.true in
+    let l = c.loop-b in
+    let h = c.loop-b-test.true in
     let same : order ≡ blocks_rpo w = c.rpo-order.ensures ∙ c.requires.visit_stage.rpo_is in
-    let room : 73 * lines_of w (take (l.i + 1) order) ≤ length c.args.out.now = omega (arith, lines_within w order (l.i + 1), ap (lines_of w) same, sheets_hold (lines_of w (blocks_rpo w)), c.requires.series_bound.1) in
-    let member = subst (λ (bs : List ℕ). get_or order l.i 0 ∈ bs) same (get_or_mem order l.i 0 h) in
-    record { liveness_stage = c.requires.liveness_stage; pointer_stage = c.requires.pointer_stage; series_bound = (c.requires.series_bound.0, c.other_locals.ensures); fact = (member, omega (arith, room, l.invariant.1, l.invariant.2, lines_next w order l.i h, c.block_lines.ensures.0)) }
+    let room : 73 * lines_of w (take (l.b-index + 1) order) ≤ length c.args.out.now = omega (arith, lines_within w order (l.b-index + 1), ap (lines_of w) same, sheets_hold (lines_of w (blocks_rpo w)), c.requires.series_bound.1) in
+    let member = subst (λ (bs : List ℕ). get_or order l.b-index 0 ∈ bs) same (get_or_mem order l.b-index 0 h) in
+    record { liveness_stage = c.requires.liveness_stage; pointer_stage = c.requires.pointer_stage; series_bound = (c.requires.series_bound.0, c.other_locals.ensures); fact = (member, omega (arith, room, l.invariant.0, l.invariant.1, lines_next w order l.b-index h, c.block_lines.ensures.0)) }
 
-pub overflow_add-i : goal.overflow_add-i
-overflow_add-i c =
-    omega (arith, c.loop-i-test.true, order_most c.requires.visit_stage c.rpo-order.ensures)
-
-pub loop-i-smaller : goal.loop-i-smaller
-loop-i-smaller c =
-    omega (arith, c.loop-i-test.true)
-
-pub loop-i-preserved : goal.loop-i-preserved
-loop-i-preserved c =
+pub loop-b-preserved : goal.loop-b-preserved
+loop-b-preserved c =
     let w = c.args.words.now in
     let order = c.rpo-order.result.now in
-    let l = c.loop-i in
-    let h = c.loop-i-test.true in
+    let l = c.loop-b in
+    let h = c.loop-b-test.true in
     let same : order ≡ blocks_rpo w = c.rpo-order.ensures ∙ c.requires.visit_stage.rpo_is in
-    let room : 73 * lines_of w (take (l.i + 1) order) ≤ length c.args.out.now = omega (arith, lines_within w order (l.i + 1), ap (lines_of w) same, sheets_hold (lines_of w (blocks_rpo w)), c.requires.series_bound.1) in
-    let b = get_or order l.i 0 in
+    let room : 73 * lines_of w (take (l.b-index + 1) order) ≤ length c.args.out.now = omega (arith, lines_within w order (l.b-index + 1), ap (lines_of w) same, sheets_hold (lines_of w (blocks_rpo w)), c.requires.series_bound.1) in
+    let b = get_or order l.b-index 0 in
     let d = c.args.out.now in
     let series = c.args.series in
     let lines = c.block_lines.ensures.0 in
-    let next = lines_next w order l.i h in
-    let long : length c.put_block.new.out ≡ 73 * c.block_lines.result = omega (arith, c.put_block.auto, room, l.invariant.1, l.invariant.2, next, lines) in
-    let put = fill_next (text_of (bind (take l.i order) (block_lines w series))) (text_of (block_lines w series b)) l.at (73 * c.block_lines.result) d l.invariant.3 l.invariant.4 c.put_block.ensures long in
-    let more = blocks_next w order l.i h series in (
-      omega (arith, h),
-      same_len_mid l.at (l.at + 73 * c.block_lines.result - l.at) l.out c.put_block.new.out (omega (arith, c.put_block.auto)) ∙ l.invariant.1,
-      omega (arith, l.invariant.2, next, lines),
+    let next = lines_next w order l.b-index h in
+    let long : length c.put_block.new.out ≡ 73 * c.block_lines.result = omega (arith, c.put_block.auto, room, l.invariant.0, l.invariant.1, next, lines) in
+    let put = fill_next (text_of (bind (take l.b-index order) (block_lines w series))) (text_of (block_lines w series b)) l.at (73 * c.block_lines.result) d l.invariant.2 l.invariant.3 c.put_block.ensures long in
+    let more = blocks_next w order l.b-index h series in (
+      same_len_mid l.at (l.at + 73 * c.block_lines.result - l.at) l.out c.put_block.new.out (omega (arith, c.put_block.auto)) ∙ l.invariant.0,
+      omega (arith, l.invariant.1, next, lines),
       ap length (sym more) ∙ put.0,
       put.1 ∙ ap (λ (t : List ℕ). t ++ drop (l.at + 73 * c.block_lines.result) d) more,
     )
@@ -118,43 +102,43 @@ pub slice_bounds-put_blanks-count : goal.slice_bounds-put_blanks-count
 slice_bounds-put_blanks-count c =
     let w = c.args.words.now in
     let order = c.rpo-order.result.now in
-    let l = c.loop-i in
+    let l = c.loop-b in
     let same : order ≡ blocks_rpo w = c.rpo-order.ensures ∙ c.requires.visit_stage.rpo_is in
-    let room : 73 * lines_of w (take l.i order) ≤ length c.args.out.now = omega (arith, lines_within w order l.i, ap (lines_of w) same, sheets_hold (lines_of w (blocks_rpo w)), c.requires.series_bound.1) in
-    omega (arith, room, l.invariant.1, l.invariant.2)
+    let room : 73 * lines_of w (take l.b-index order) ≤ length c.args.out.now = omega (arith, lines_within w order l.b-index, ap (lines_of w) same, sheets_hold (lines_of w (blocks_rpo w)), c.requires.series_bound.1) in
+    omega (arith, room, l.invariant.0, l.invariant.1)
 
 pub slice_bounds-put_blanks-start : goal.slice_bounds-put_blanks-start
 slice_bounds-put_blanks-start c =
     let w = c.args.words.now in
     let order = c.rpo-order.result.now in
-    let l = c.loop-i in
+    let l = c.loop-b in
     let same : order ≡ blocks_rpo w = c.rpo-order.ensures ∙ c.requires.visit_stage.rpo_is in
-    let room : 73 * lines_of w (take l.i order) ≤ length c.args.out.now = omega (arith, lines_within w order l.i, ap (lines_of w) same, sheets_hold (lines_of w (blocks_rpo w)), c.requires.series_bound.1) in
-    omega (arith, room, l.invariant.1, l.invariant.2)
+    let room : 73 * lines_of w (take l.b-index order) ≤ length c.args.out.now = omega (arith, lines_within w order l.b-index, ap (lines_of w) same, sheets_hold (lines_of w (blocks_rpo w)), c.requires.series_bound.1) in
+    omega (arith, room, l.invariant.0, l.invariant.1)
 
 pub put_blanks-requires : goal.put_blanks-requires
 put_blanks-requires c =
     let w = c.args.words.now in
     let order = c.rpo-order.result.now in
-    let l = c.loop-i in
-    let all : take l.i order ≡ blocks_rpo w = take_all l.i order c.loop-i-test.false ∙ c.rpo-order.ensures ∙ c.requires.visit_stage.rpo_is in
+    let l = c.loop-b in
+    let all : take l.b-index order ≡ blocks_rpo w = take_all l.b-index order c.loop-b-test.false ∙ c.rpo-order.ensures ∙ c.requires.visit_stage.rpo_is in
     let room : lines_of w (blocks_rpo w) ≤ on_sheets (lines_of w (blocks_rpo w)) = sheets_hold (lines_of w (blocks_rpo w)) in
-    omega (arith, room, l.invariant.1, l.invariant.2, ap (lines_of w) all, c.requires.series_bound.1)
+    omega (arith, room, l.invariant.0, l.invariant.1, ap (lines_of w) all, c.requires.series_bound.1)
 
 pub shape_of-out : goal.shape_of-out
 shape_of-out c =
-    let l = c.loop-i in
-    same_len_mid l.at (length l.out - l.at) l.out c.put_blanks.new.out (omega (arith, c.put_blanks.auto)) ∙ l.invariant.1
+    let l = c.loop-b in
+    same_len_mid l.at (length l.out - l.at) l.out c.put_blanks.new.out (omega (arith, c.put_blanks.auto)) ∙ l.invariant.0
 
 pub returns : goal.returns
 returns c =
     let w = c.args.words.now in
     let order = c.rpo-order.result.now in
-    let l = c.loop-i in
-    let all : take l.i order ≡ blocks_rpo w = take_all l.i order c.loop-i-test.false ∙ c.rpo-order.ensures ∙ c.requires.visit_stage.rpo_is in
+    let l = c.loop-b in
+    let all : take l.b-index order ≡ blocks_rpo w = take_all l.b-index order c.loop-b-test.false ∙ c.rpo-order.ensures ∙ c.requires.visit_stage.rpo_is in
     let room : lines_of w (blocks_rpo w) ≤ on_sheets (lines_of w (blocks_rpo w)) = sheets_hold (lines_of w (blocks_rpo w)) in
     let series = c.args.series in
     let rest = take (length l.out - l.at) (drop l.at l.out) in
-    let n : length rest / 73 ≡ on_sheets (lines_of w (blocks_rpo w)) - lines_of w (blocks_rpo w) = omega (arith, room, l.invariant.1, l.invariant.2, ap (lines_of w) all, c.requires.series_bound.1) in
-    fill_end (text_of (bind (take l.i order) (block_lines w series))) (text_of (replicate (length rest / 73) blank_line)) l.at c.args.out.now l.invariant.3 l.invariant.4 c.put_blanks.ensures
+    let n : length rest / 73 ≡ on_sheets (lines_of w (blocks_rpo w)) - lines_of w (blocks_rpo w) = omega (arith, room, l.invariant.0, l.invariant.1, ap (lines_of w) all, c.requires.series_bound.1) in
+    fill_end (text_of (bind (take l.b-index order) (block_lines w series))) (text_of (replicate (length rest / 73) blank_line)) l.at c.args.out.now l.invariant.2 l.invariant.3 c.put_blanks.ensures
     ∙ ap (λ (bs : List ℕ). text_of (bind bs (block_lines w series)) ++ text_of (replicate (length rest / 73) blank_line)) all ∙ sheets_text w series (length rest / 73) n

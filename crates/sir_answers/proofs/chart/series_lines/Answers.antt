@@ -1,4 +1,4 @@
--- `series_lines` meets its contract. The invariant: the lines of the blocks before i are counted.
+-- `series_lines` meets its contract. The invariant: the lines of the blocks before this one are counted.
 use mathlib.Core.List.{List}
 use mathlib.Core.Path.{subst, ◌≡◌, refl, ap, ◌∙◌}
 use Prim.Native.Nat.{ℕ}
@@ -16,33 +16,30 @@ use Rattle.sir_answers.proofs.chart.series_lines.Goals as goal
 pub rpo-order-requires : goal.rpo-order-requires
 rpo-order-requires c = (c.requires.long, c.requires.few)
 
-pub loop-i-init : goal.loop-i-init
-loop-i-init c = (omega arith, refl, omega arith)
-
-pub bounds-order-i : goal.bounds-order-i
-bounds-order-i c = c.loop-i-test.true
+pub loop-b-init : goal.loop-b-init
+loop-b-init c = (refl, omega arith)
 
 pub block_lines-n-requires : goal.block_lines-n-requires
 block_lines-n-requires c =
     let stage = c.requires in
     let order = c.rpo-order.result.now in
-    let i = c.loop-i.i in
-    let m = get_or_mem order i 0 c.loop-i-test.true in
+    let i = c.loop-b.b-index in
+    let m = get_or_mem order i 0 c.loop-b-test.true in
     record { well_formed = stage.well_formed; b_bound = blocks_below c.args.words.now stage.well_formed (get_or order i 0) (subst (λ (bs : List ℕ). get_or order i 0 ∈ bs) (c.rpo-order.ensures ∙ stage.rpo_is) m) }
 
 pub overflow_add-n : goal.overflow_add-n
 overflow_add-n c =
-    omega (arith, c.loop-i.invariant.2, c.loop-i-test.true, order_most c.requires c.rpo-order.ensures, c.block_lines-n.ensures.1)
+    omega (arith, c.loop-b.invariant.1, c.loop-b-test.true, order_most c.requires c.rpo-order.ensures, c.block_lines-n.ensures.1)
 
-pub loop-i-preserved : goal.loop-i-preserved
-loop-i-preserved c =
-    let l = c.loop-i in
-    let h = c.loop-i-test.true in
-    (omega (arith, h), omega (arith, l.invariant.1, c.block_lines-n.ensures.0, lines_next c.args.words.now c.rpo-order.result.now l.i h), omega (arith, l.invariant.2, c.block_lines-n.ensures.1))
+pub loop-b-preserved : goal.loop-b-preserved
+loop-b-preserved c =
+    let l = c.loop-b in
+    let h = c.loop-b-test.true in
+    (omega (arith, l.invariant.0, c.block_lines-n.ensures.0, lines_next c.args.words.now c.rpo-order.result.now l.b-index h), omega (arith, l.invariant.1, c.block_lines-n.ensures.1))
 
 pub returns : goal.returns
 returns c =
     let w = c.args.words.now in
-    let l = c.loop-i in
-    let all : take l.i c.rpo-order.result.now ≡ blocks_rpo w = take_all l.i c.rpo-order.result.now c.loop-i-test.false ∙ c.rpo-order.ensures ∙ c.requires.rpo_is in
-    (l.invariant.1 ∙ ap (lines_of w) all, omega (arith, l.invariant.2, l.invariant.0, order_most c.requires c.rpo-order.ensures))
+    let l = c.loop-b in
+    let all : take l.b-index c.rpo-order.result.now ≡ blocks_rpo w = take_all l.b-index c.rpo-order.result.now c.loop-b-test.false ∙ c.rpo-order.ensures ∙ c.requires.rpo_is in
+    (l.invariant.0 ∙ ap (lines_of w) all, omega (arith, l.invariant.1, order_most c.requires c.rpo-order.ensures))

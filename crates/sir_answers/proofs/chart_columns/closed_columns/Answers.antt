@@ -6,24 +6,21 @@ use Rattle.sir_answers.proofs.chart_columns.ColumnLaws.{closed_next, columns_clo
 use Rattle.sir_answers.proofs.chart_columns.closed_columns.Goals as goal
 
 pub loop-k-init : goal.loop-k-init
-loop-k-init c = (omega arith, c.requires.series_bound.1, λ j h. absurd (omega arith))
+loop-k-init c = (c.requires.series_bound.1, λ j h. absurd (omega arith))
 
 pub closed_column-requires : goal.closed_column-requires
 closed_column-requires c = c.requires.by_index
-
-pub bounds-columns-k : goal.bounds-columns-k
-bounds-columns-k c = omega (arith, c.loop-k.invariant.1)
 
 pub loop-k-preserved : goal.loop-k-preserved
 loop-k-preserved c =
     let a = c.args in
     let l = c.loop-k in
-    (omega arith, length-set l.columns l.k c.closed_column.result ∙ l.invariant.1, closed_next a.pointers.now l.columns a.series l.k c.closed_column.result (omega (arith, l.invariant.1)) c.closed_column.ensures l.invariant.2)
+    (length-set l.columns l.k c.closed_column.result ∙ l.invariant.0, closed_next a.pointers.now l.columns a.series l.k c.closed_column.result (omega (arith, l.invariant.0)) c.closed_column.ensures l.invariant.1)
 
 pub shape_of-columns : goal.shape_of-columns
-shape_of-columns c = c.loop-k.invariant.1 ∙ sym c.requires.series_bound.1
+shape_of-columns c = c.loop-k.invariant.0 ∙ sym c.requires.series_bound.1
 
 pub returns : goal.returns
 returns c =
     let l = c.loop-k in
-    columns_closed l.invariant.1 (λ k h. l.invariant.2 k (omega arith))
+    columns_closed l.invariant.0 (λ k h. l.invariant.1 k (omega arith))

@@ -1,4 +1,4 @@
--- `open_columns` meets its contract. The invariant: the owners of the locals before i are open.
+-- `open_columns` meets its contract. The invariant: the owners of the locals before this one are open.
 use mathlib.Core.List.{List}
 use mathlib.Core.Bool.{true, cond}
 use mathlib.Core.Path.{◌≡◌, refl, sym, ap, ◌∙◌}
@@ -12,17 +12,14 @@ use Rattle.sir_answers.specs.inner.Columns.{in_series, owns_some}
 use Rattle.sir_answers.proofs.chart_columns.ColumnLaws.{opened_next, series_bounds}
 use Rattle.sir_answers.proofs.chart_columns.open_columns.Goals as goal
 
-pub loop-i-init : goal.loop-i-init
-loop-i-init c = (omega arith, c.requires.series_bound.1, λ k h. refl)
-
-pub bounds-ids-i : goal.bounds-ids-i
-bounds-ids-i c = c.loop-i-test.true
+pub loop-v-init : goal.loop-v-init
+loop-v-init c = (c.requires.series_bound.1, λ k h. refl)
 
 pub unmarked_owner-owner-requires : goal.unmarked_owner-owner-requires
 unmarked_owner-owner-requires c =
-    let v = get_or c.args.ids.now c.loop-i.i 0 in
+    let v = get_or c.args.ids.now c.loop-v.v-index 0 in
     let stage = c.requires.by_index.1 in
-    let m = get_or_mem c.args.ids.now c.loop-i.i 0 c.loop-i-test.true in
+    let m = get_or_mem c.args.ids.now c.loop-v.v-index 0 c.loop-v-test.true in
     (stage.long, (c.requires.by_index_2 v m).0, omega (arith, stage.discovered.owner_known v, allocations_few stage))
 
 pub overflow_cast-owner : goal.overflow_cast-owner
@@ -30,39 +27,38 @@ overflow_cast-owner c = omega (arith, c.unmarked_owner-owner.ensures.1)
 
 pub overflow_sub-columns : goal.overflow_sub-columns
 overflow_sub-columns c =
-    let v = get_or c.args.ids.now c.loop-i.i 0 in
-    let m = get_or_mem c.args.ids.now c.loop-i.i 0 c.loop-i-test.true in
+    let v = get_or c.args.ids.now c.loop-v.v-index 0 in
+    let m = get_or_mem c.args.ids.now c.loop-v.v-index 0 c.loop-v-test.true in
     let own : in_series c.args.series c.unmarked_owner-owner.result ≡ true = rw c.unmarked_owner-owner.ensures.0 (c.requires.by_index_2 v m).1 in
     (series_bounds c.args.series c.unmarked_owner-owner.result own).0
 
 pub bounds-columns-owner : goal.bounds-columns-owner
 bounds-columns-owner c =
-    let v = get_or c.args.ids.now c.loop-i.i 0 in
-    let m = get_or_mem c.args.ids.now c.loop-i.i 0 c.loop-i-test.true in
+    let v = get_or c.args.ids.now c.loop-v.v-index 0 in
+    let m = get_or_mem c.args.ids.now c.loop-v.v-index 0 c.loop-v-test.true in
     let own : in_series c.args.series c.unmarked_owner-owner.result ≡ true = rw c.unmarked_owner-owner.ensures.0 (c.requires.by_index_2 v m).1 in
     let bounds = series_bounds c.args.series c.unmarked_owner-owner.result own in
-    omega (arith, bounds.0, bounds.1, c.loop-i.invariant.1)
+    omega (arith, bounds.0, bounds.1, c.loop-v.invariant.0)
 
-pub loop-i-preserved : goal.loop-i-preserved
-loop-i-preserved c =
+pub loop-v-preserved : goal.loop-v-preserved
+loop-v-preserved c =
     let a = c.args in
-    let l = c.loop-i in
+    let l = c.loop-v in
     let owner = c.unmarked_owner-owner in
     let place : ℕ = owner.result - (64 * a.series + 1) in
-    let h = c.loop-i-test.true in
-    let v = get_or a.ids.now l.i 0 in
-    let own : in_series a.series owner.result ≡ true = rw owner.ensures.0 (c.requires.by_index_2 v (get_or_mem a.ids.now l.i 0 h)).1 in
+    let h = c.loop-v-test.true in
+    let v = get_or a.ids.now l.v-index 0 in
+    let own : in_series a.series owner.result ≡ true = rw owner.ensures.0 (c.requires.by_index_2 v (get_or_mem a.ids.now l.v-index 0 h)).1 in
     let bounds = series_bounds a.series owner.result own in (
-      omega (arith, h),
-      length-set l.columns place 35 ∙ l.invariant.1,
-      opened_next a.pointers.now a.ids.now l.columns a.columns.now a.series l.i owner.result place h owner.ensures.0 (omega (arith, bounds.0)) (omega (arith, bounds.0, bounds.1, l.invariant.1)) l.invariant.2,
+      length-set l.columns place 35 ∙ l.invariant.0,
+      opened_next a.pointers.now a.ids.now l.columns a.columns.now a.series l.v-index owner.result place h owner.ensures.0 (omega (arith, bounds.0)) (omega (arith, bounds.0, bounds.1, l.invariant.0)) l.invariant.1,
     )
 
 pub shape_of-columns : goal.shape_of-columns
-shape_of-columns c = c.loop-i.invariant.1 ∙ sym c.requires.series_bound.1
+shape_of-columns c = c.loop-v.invariant.0 ∙ sym c.requires.series_bound.1
 
 pub returns : goal.returns
 returns c =
     let a = c.args in
-    let l = c.loop-i in
-    λ k h. l.invariant.2 k h ∙ ap (λ (ids : List ℕ). cond (owns_some a.pointers.now ids (64 * a.series + k)) 35 (get_or a.columns.now k 0)) (take_all l.i a.ids.now c.loop-i-test.false)
+    let l = c.loop-v in
+    λ k h. l.invariant.1 k h ∙ ap (λ (ids : List ℕ). cond (owns_some a.pointers.now ids (64 * a.series + k)) 35 (get_or a.columns.now k 0)) (take_all l.v-index a.ids.now c.loop-v-test.false)

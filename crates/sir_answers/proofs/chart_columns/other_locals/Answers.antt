@@ -1,7 +1,7 @@
 -- `other_locals` meets its contract. The invariant: the set has those of the locals before v that are not of the series.
-use mathlib.Core.Bool.{Bool, true, false, not, ◌&&◌}
+use mathlib.Core.Bool.{Bool, not, ◌&&◌}
 use mathlib.Core.Path.{◌≡◌, sym, ap, ◌∙◌}
-use Prim.Native.Nat.{ℕ, ◌+◌, ◌-◌, ◌*◌}
+use Prim.Native.Nat.{ℕ, ◌+◌, ◌*◌}
 use native.Mathlib.Omega.{arith}
 use lib.ListN.{length}
 use borrow.Author.Tests.{lt-ltb}
@@ -10,10 +10,11 @@ use Rattle.sir_analyses.proofs.allocation_answers.AllocationWords.{below_none, b
 use Rattle.sir_answers.specs.inner.Columns.{in_series}
 use Rattle.sir_answers.specs.inner.AllocationPieces.{unmarked_owner}
 use Rattle.sir_answers.proofs.chart_columns.other_locals.Goals as goal
+use Rattle.sir_answers.proofs.chart_columns.other_locals.Goals.{then-not-in_series, else-not-in_series}
 
 pub loop-v-init : goal.loop-v-init
 loop-v-init c =
-    (omega arith, ap length c.requires.series_bound.1, below_none (λ u. not (in_series c.args.series (unmarked_owner c.args.pointers.now u))) c.args.others.now c.requires.series_bound.1)
+    (ap length c.requires.series_bound.1, below_none (λ u. not (in_series c.args.series (unmarked_owner c.args.pointers.now u))) c.args.others.now c.requires.series_bound.1)
 
 pub unmarked_owner-owner-requires : goal.unmarked_owner-owner-requires
 unmarked_owner-owner-requires c =
@@ -28,27 +29,23 @@ in_series-requires c = c.requires.series_bound.0
 
 pub row_add-requires : goal.row_add-requires
 row_add-requires c =
-    (omega (arith, c.loop-v.invariant.1), omega arith)
-
-pub loop-v-preserved-then-not-in_series : goal.loop-v-preserved-then-not-in_series
-loop-v-preserved-then-not-in_series c =
-    let a = c.args in
-    let l = c.loop-v in
-    let own : ℕ → Bool = λ u. not (in_series a.series (unmarked_owner a.pointers.now u)) in
-    let out : own l.v ≡ true = ap (λ (x : ℕ). not (in_series a.series x)) (sym c.unmarked_owner-owner.ensures.0) ∙ ap not (sym c.in_series.ensures ∙ c.if-not-in_series.true) in
-    let place : 512 * 0 + (l.v + 1 - 1) ≡ l.v = omega arith in
-    (omega arith, omega (arith, c.row_add.auto, l.invariant.1), below_more own l.others l.v l.invariant.2 _ l.invariant.1 (rw place at c.row_add.ensures.1) out)
+    (omega (arith, c.loop-v.invariant.0), omega arith)
 
 pub loop-v-preserved : goal.loop-v-preserved
 loop-v-preserved c =
     let a = c.args in
     let l = c.loop-v in
     let own : ℕ → Bool = λ u. not (in_series a.series (unmarked_owner a.pointers.now u)) in
-    let kept : own l.v ≡ false = ap (λ (x : ℕ). not (in_series a.series x)) (sym c.unmarked_owner-owner.ensures.0) ∙ ap not (sym c.in_series.ensures ∙ c.if-not-in_series.false) in
-    (omega arith, l.invariant.1, below_on own l.others l.v l.invariant.2 kept)
+    let known : own l.v ≡ not (in_series a.series c.unmarked_owner-owner.result) = ap (λ (x : ℕ). not (in_series a.series x)) (sym c.unmarked_owner-owner.ensures.0) in
+    let place : 512 * 0 + l.v ≡ l.v = omega arith in
+    elim c.if-not-in_series.branch [
+      | then-not-in_series w ↦ rw w.others-is
+          (omega (arith, w.row_add.auto, l.invariant.0), below_more own l.others l.v l.invariant.1 _ l.invariant.0 (rw place at w.row_add.ensures.1) (known ∙ ap not (sym c.in_series.ensures ∙ w.if-not-in_series.true)))
+      | else-not-in_series w ↦ rw w.others-is (l.invariant.0, below_on own l.others l.v l.invariant.1 (known ∙ ap not (sym c.in_series.ensures ∙ w.if-not-in_series.false)))
+    ]
 
 pub shape_of-others : goal.shape_of-others
-shape_of-others c = c.loop-v.invariant.1 ∙ sym (ap length c.requires.series_bound.1)
+shape_of-others c = c.loop-v.invariant.0 ∙ sym (ap length c.requires.series_bound.1)
 
 pub returns : goal.returns
 returns c =
@@ -56,6 +53,6 @@ returns c =
     let l = c.loop-v in
     let all : l.v ≡ 512 = omega arith in
     record {
-      long = l.invariant.1;
-      other_is = λ u h. l.invariant.2 u h ∙ ap (λ (t : Bool). t && not (in_series a.series (unmarked_owner a.pointers.now u))) (lt-ltb u l.v (omega arith));
+      long = l.invariant.0;
+      other_is = λ u h. l.invariant.1 u h ∙ ap (λ (t : Bool). t && not (in_series a.series (unmarked_owner a.pointers.now u))) (lt-ltb u l.v (omega arith));
     }

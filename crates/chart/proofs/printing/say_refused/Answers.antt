@@ -1,9 +1,0 @@
--- `say_refused` meets its contract.
-use mathlib.Core.Path.{sym}
-use native.Mathlib.Omega.{arith}
-use lib.Seq.{length-take-le}
-use Rattle.chart.proofs.printing.say_refused.Goals as goal
-
-pub slice_bounds-say-end : goal.slice_bounds-say-end
-slice_bounds-say-end g c =
-    sym (length-take-le _ _ (omega (arith, c.refused_line-n.ensures.fits, c.refused_line-n.ensures.long)))

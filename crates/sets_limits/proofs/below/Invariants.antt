@@ -1,9 +1,0 @@
--- `below` adds numbers below 512.
-use Rattle.std.proofs.Common.{◌-◌, ◌≤◌}
-use Rattle.sets_limits.proofs.below.Given as goal
-
-abbrev pub invariant-loop-i : goal.invariant-loop-i
-invariant-loop-i l = l.i ≤ l.n
-
-abbrev pub decreases-loop-i : goal.decreases-loop-i
-decreases-loop-i l = l.n - l.i
