@@ -1,6 +1,7 @@
 -- Forms between our own functions: contracts of functions that are not exported. No exported promise speaks of them.
 pub mod Visiting
 pub mod Writing
+pub mod Outcomes
 pub mod Uses
 pub mod Tables
 pub mod Pointers

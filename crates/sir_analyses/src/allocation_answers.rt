@@ -8,19 +8,21 @@ ghost use Rattle.sir_data.specs.Rules.{first};
 ghost use Rattle.sir_data.specs.inner.WellFormed.{WellFormed};
 ghost use Rattle.sir_analyses.specs.Allocation.{allocs, marked};
 ghost use Rattle.sir_analyses.specs.Answers.{allocation_answer};
-ghost use Rattle.sir_analyses.specs.Calls.{made, answered};
+ghost use Rattle.sir_analyses.specs.Calls.{answered};
+ghost use Rattle.sir_analyses.specs.inner.Outcomes.{outcome};
 ghost use Rattle.sir_analyses.specs.inner.Discovery.{Site, FlagsOf, Unmarked};
 ghost use Rattle.sir_analyses.specs.inner.Stages.{VisitStage, AcceptedStage, LivenessStage, PointerStage, owners_in};
 
 use crate::allocation_liveness::{AllocSite, discover_allocations, site_of};
 use crate::allocation_words::put_head;
-use crate::answers::{Answer, finish};
+use crate::answers::finish;
 use crate::merged_intervals::populate_intervals_from_local_liveness;
 use crate::pointer_links::pointer_links;
 use crate::stages::{CAUSES, LINKS, alloc_sites, flags_of, is_marked, owner};
 use plank_core::index::{AllocId, LocalId};
 use plank_core::rows::row_add;
 use sir_data::records::local_count;
+use sir_data::refusals::Refusal;
 
 // Adds the locals that allocation a owns to an empty set.
 pub fn owned_locals(words: &[u32], pointers: &[u32], a: AllocId, set: &mut [u64])
@@ -37,15 +39,19 @@ pub fn owned_locals(words: &[u32], pointers: &[u32], a: AllocId, set: &mut [u64]
 }
 
 // The record of a marked allocation, with its flags: it has no intervals.
-pub fn marked_answer(words: &[u32], site: AllocSite, flags: u32, out: &mut [u8]) -> Answer
+pub fn marked_answer(
+    words: &[u32],
+    site: AllocSite,
+    flags: u32,
+    out: &mut [u8],
+) -> Result<usize, Refusal>
     requires well_formed { WellFormed words.now }
     requires by_index { (a : ℕ) × Site words.now a site.block.0 site.op.0 }
-    ensures { (a : ℕ) → Site words.now a site.block.0 site.op.0 → FlagsOf words.now a flags → marked words.now a ≡ true → made result.number result.length out.new ≡ answered (bind (allocation_answer words.now a) bytes_of) out.old }
+    ensures { (a : ℕ) → Site words.now a site.block.0 site.op.0 → FlagsOf words.now a flags → marked words.now a ≡ true → outcome result out.new ≡ answered (bind (allocation_answer words.now a) bytes_of) out.old }
 {
-    let answer = finish(9, out.len());
-    let end = answer.length as usize;
+    let end = finish(9, out.len())?;
     put_head(words, site, flags, 0, &mut out[..end]);
-    answer
+    Ok(end)
 }
 
 // The record of an unmarked allocation, from the locals of its reach: its intervals are counted, then put after its head.
@@ -56,18 +62,17 @@ fn record_answer(
     site: AllocSite,
     reach: &[u64],
     out: &mut [u8],
-) -> Answer
+) -> Result<usize, Refusal>
     requires visit_stage { VisitStage words.now visit.now }
     requires liveness_stage { LivenessStage words.now live.now }
     requires by_index { (a : ℕ) × Unmarked words.now site.block.0 site.op.0 reach.now a }
-    ensures { (a : ℕ) → Unmarked words.now site.block.0 site.op.0 reach.now a → made result.number result.length out.new ≡ answered (bind (allocation_answer words.now a) bytes_of) out.old }
+    ensures { (a : ℕ) → Unmarked words.now site.block.0 site.op.0 reach.now a → outcome result out.new ≡ answered (bind (allocation_answer words.now a) bytes_of) out.old }
 {
     let n = populate_intervals_from_local_liveness(words, visit, live, reach, 9, &mut []);
-    let answer = finish(n, out.len());
-    let end = answer.length as usize;
+    let end = finish(n, out.len())?;
     put_head(words, site, 0, ((n - 9) / 3) as u32, &mut out[..end]);
     populate_intervals_from_local_liveness(words, visit, live, reach, 9, &mut out[..end]);
-    answer
+    Ok(end)
 }
 
 // The record of allocation a, from the tables of liveness and of pointers.
@@ -78,11 +83,11 @@ pub fn allocation_answer(
     pointers: &[u32],
     a: AllocId,
     out: &mut [u8],
-) -> Answer
+) -> Result<usize, Refusal>
     requires visit_stage { VisitStage words.now visit.now }
     requires liveness_stage { LivenessStage words.now live.now }
     requires pointer_stage { PointerStage words.now pointers.now × (a.0 < length (allocs words.now)) }
-    ensures { made result.number result.length out.new ≡ answered (bind (allocation_answer words.now a.0) bytes_of) out.old }
+    ensures { outcome result out.new ≡ answered (bind (allocation_answer words.now a.0) bytes_of) out.old }
 {
     let site = site_of(alloc_sites(pointers), a);
     if is_marked(pointers, a) {

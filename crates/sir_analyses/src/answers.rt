@@ -2,8 +2,12 @@
 ghost use Rattle.std.specs.Prelude.{◌≡◌, ◌++◌, ◌∷◌, [], ◌+◌, ◌<◌, ◌≤◌, ◌^◌, length, take, drop};
 ghost use Rattle.plank_core.specs.Lists.{bind};
 ghost use Rattle.sir_data.specs.Pages.{bytes_of};
-ghost use Rattle.sir_analyses.specs.Calls.{made, answered};
-ghost use Rattle.sir_analyses.specs.inner.Writing.{Puts, Finished};
+ghost use Rattle.sir_data.specs.Refusals.{refused};
+ghost use Rattle.sir_analyses.specs.Calls.{answered};
+ghost use Rattle.sir_analyses.specs.inner.Outcomes.{given, outcome, finished};
+ghost use Rattle.sir_analyses.specs.inner.Writing.{Puts};
+
+use sir_data::refusals::Refusal;
 
 // Stores the bytes of a word.
 fn store(out: &mut [u8], at: usize, word: u32)
@@ -47,6 +51,7 @@ pub fn put_triple(out: &mut [u8], n: usize, a: u32, b: u32, c: u32) -> usize
     put_word(out, k, c)
 }
 
+// An answer as C takes it: the number of a refusal, or 0 and how many bytes the answer has.
 #[repr(C)]
 #[derive(Clone, Copy)]
 pub struct Answer {
@@ -54,34 +59,40 @@ pub struct Answer {
     pub length: u64,
 }
 
-pub fn refuse(number: u32) -> Answer
-    ensures { (result.number ≡ number) × (result.length ≡ 0) }
-{
-    Answer { number, length: 0 }
+impl From<Result<usize, Refusal>> for Answer {
+    ghost from_gives = { λ call answer. (answer.number ≡ refused call) × (answer.length ≡ given call) };
+
+    fn from(call: Result<usize, Refusal>) -> Answer {
+        match call {
+            Ok(length) => Answer {
+                number: 0,
+                length: length as u64,
+            },
+            Err(refusal) => Answer {
+                number: u32::from(refusal),
+                length: 0,
+            },
+        }
+    }
 }
 
-// What a call gives whose answer has n words: 14 where the slice has no room for them, with the length 0, up to which nothing is
-// stored.
-pub fn finish(n: usize, room: usize) -> Answer
+// How many bytes an answer of n words has, where the slice has room for them.
+pub fn finish(n: usize, room: usize) -> Result<usize, Refusal>
     requires { n < 2 ^ 60 }
-    ensures { Finished n room result.number result.length }
+    ensures { result ≡ finished n room }
 {
     if room < 4 * n {
-        return refuse(14);
+        return Err(Refusal::ShortResult);
     }
-    Answer {
-        number: 0,
-        length: (4 * n) as u64,
-    }
+    Ok(4 * n)
 }
 
 // An answer whose words are at hand.
-pub fn words_answer(words: &[u32], out: &mut [u8]) -> Answer
+pub fn words_answer(words: &[u32], out: &mut [u8]) -> Result<usize, Refusal>
     requires { length words.now < 2 ^ 60 }
-    ensures { made result.number result.length out.new ≡ answered (bind words.now bytes_of) out.old }
+    ensures { outcome result out.new ≡ answered (bind words.now bytes_of) out.old }
 {
-    let answer = finish(words.len(), out.len());
-    let end = answer.length as usize;
+    let end = finish(words.len(), out.len())?;
     put_words(&mut out[..end], 0, words);
-    answer
+    Ok(end)
 }

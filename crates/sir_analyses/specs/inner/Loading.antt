@@ -1,8 +1,5 @@
 -- What every question starts from: the refusal of the image, or its words, the visit, the order's words and its allocations.
-use Rattle.std.specs.Prelude.{◌≡◌, cond, List, ℕ, ◌≤◌, length, take}
-use Rattle.sir_data.specs.Pages.{payload}
-use Rattle.sir_analyses.specs.Allocation.{rule12}
-use Rattle.sir_analyses.specs.Calls.{refusal}
+use Rattle.std.specs.Prelude.{◌≡◌, List, ℕ, ◌≤◌, length, take}
 use Rattle.sir_analyses.specs.inner.Stages.{OrderStage, VisitStage, AcceptedStage}
 
 -- n words, k keys of the visit and a allocations stand at the front of their arrays
@@ -22,14 +19,3 @@ pub record VisitPrepared (w postorder visit sites : List ℕ) (k a : ℕ) : Type
   pub order_stage : OrderStage w (take k postorder)
   pub visit_stage : VisitStage w visit
   pub accepted_stage : AcceptedStage w (take a sites)
-
--- words that break no rule before the last are visited: 12, or how many words there are and all that is prepared from them
-pub record VisitLoaded (w postorder visit sites : List ℕ) (number n k a : ℕ) : Type 0 where
-  pub number_is : number ≡ cond (rule12 w) 12 0
-  pub words_long : number ≡ 0 → n ≡ length w
-  pub prepared : number ≡ 0 → VisitPrepared w postorder visit sites k a
-
--- an image is read: its refusal, or all that is prepared from it
-pub record Loaded (s words postorder visit sites : List ℕ) (number n k a : ℕ) : Type 0 where
-  pub number_is : number ≡ refusal s
-  pub prepared : refusal s ≡ 0 → Prepared (payload s) words postorder visit sites n k a
