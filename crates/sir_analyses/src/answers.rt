@@ -4,7 +4,7 @@ ghost use Rattle.plank_core.specs.Lists.{bind};
 ghost use Rattle.sir_data.specs.Pages.{bytes_of};
 ghost use Rattle.sir_data.specs.Refusals.{refused};
 ghost use Rattle.sir_analyses.specs.Calls.{answered};
-ghost use Rattle.sir_analyses.specs.inner.Outcomes.{given, outcome, finished};
+ghost use Rattle.sir_analyses.specs.inner.Outcomes.{given, outcome, Finished};
 ghost use Rattle.sir_analyses.specs.inner.Writing.{Puts};
 
 use sir_data::refusals::Refusal;
@@ -79,7 +79,7 @@ impl From<Result<usize, Refusal>> for Answer {
 // How many bytes an answer of n words has, where the slice has room for them.
 pub fn finish(n: usize, room: usize) -> Result<usize, Refusal>
     requires { n < 2 ^ 60 }
-    ensures { result ≡ finished n room }
+    ensures { Finished n room result }
 {
     if room < 4 * n {
         return Err(Refusal::ShortResult);

@@ -12,8 +12,15 @@ use Rattle.plank_core.specs.Lists.{bind}
 use Rattle.sir_data.specs.Pages.{payload, bytes_of}
 use Rattle.sir_data.specs.Rules.{first}
 use Rattle.sir_data.specs.laws.Rules.{Numbered, first_append, by_later, by_earlier}
-use Rattle.sir_analyses.specs.Calls.{Rules, made, refused, answered, call, image_rules, refusal, asked, known}
-use Rattle.sir_analyses.specs.inner.Writing.{Puts, Finished}
+use Rattle.std.specs.Prelude.{Result, Ok, Err}
+use Rattle.sir_data.specs.declared.refusals.Refusal.{Refusal}
+use Rattle.sir_data.specs.declared.refusals.Refusal.TheVariants.{ShortResult}
+use Rattle.sir_data.specs.Refusals.{refused}
+use Rattle.sir_data.specs.laws.Refusals.{not_0}
+use Rattle.sir_analyses.specs.Calls as calls
+use Rattle.sir_analyses.specs.Calls.{Rules, made, answered, call, image_rules, refusal, asked, known}
+use Rattle.sir_analyses.specs.inner.Outcomes.{given, outcome, Finished}
+use Rattle.sir_analyses.specs.inner.Writing.{Puts}
 use Rattle.sir_analyses.proofs.answers.Writing.{length_bytes, puts_past, puts_within}
 
 -- ---- one call
@@ -29,12 +36,12 @@ module _ (rules : Rules) (bytes out : List ℕ) where
 
 -- 14 is the last rule of the one sequence that a call is
 pub call_whole : (rules : Rules) (bytes out : List ℕ) → Numbered rules
-    → let n : ℕ = first (rules ++ (14, ltb (length out) (length bytes)) ∷ []) in call rules bytes out ≡ cond (eqb n 0) (made 0 (length bytes) (bytes ++ drop (length bytes) out)) (refused n out)
+    → let n : ℕ = first (rules ++ (14, ltb (length out) (length bytes)) ∷ []) in call rules bytes out ≡ cond (eqb n 0) (made 0 (length bytes) (bytes ++ drop (length bytes) out)) (calls.refused n out)
 call_whole rules bytes out n = rw (first_append rules ((14, ltb (length out) (length bytes)) ∷ []) n) (go (eqb (first rules) 0) refl (ltb (length out) (length bytes)) refl)
   where
     go : (t : Bool) → eqb (first rules) 0 ≡ t → (u : Bool) → ltb (length out) (length bytes) ≡ u
         → call rules bytes out
-        ≡ cond (eqb (cond (eqb (first rules) 0) (cond (ltb (length out) (length bytes)) 14 0) (first rules)) 0) (made 0 (length bytes) (bytes ++ drop (length bytes) out)) (refused (cond (eqb (first rules) 0) (cond (ltb (length out) (length bytes)) 14 0) (first rules)) out)
+        ≡ cond (eqb (cond (eqb (first rules) 0) (cond (ltb (length out) (length bytes)) 14 0) (first rules)) 0) (made 0 (length bytes) (bytes ++ drop (length bytes) out)) (calls.refused (cond (eqb (first rules) 0) (cond (ltb (length out) (length bytes)) 14 0) (first rules)) out)
     go true e true f = rw (e, f)
     go true e false f = rw (e, f)
     go false e u f = rw (e, e)
@@ -64,33 +71,53 @@ known_below count id w z = go (ltb id (count w)) refl z
 
 -- ---- an answer in words
 
-module _ (xs out : List ℕ) where
-  -- up to its length an answer is written whole, and a refused one not at all
-  pub finished : {number len r : ℕ} {part out' : List ℕ} → Finished (length xs) (length out) number len → Puts 0 xs (take len out) part r → out' ≡ part ++ drop len out → made number len out' ≡ answered (bind xs bytes_of) out
-  finished {number} {len} {r} {part} {out'} f p o = go (ltb (length out) (4 * length xs)) refl
-    where
-      e : length (bind xs bytes_of) ≡ 4 * length xs
-      e = length_bytes xs
+-- where an answer is finished its words have room in the slice
+finish_cases : {n room e : ℕ} → Finished n room (Ok e) → (e ≡ 4 * n) × (ltb room (4 * n) ≡ false)
+finish_cases {n} {room} {e} f = go (ltb room (4 * n)) refl
+  where
+    go : (t : Bool) → ltb room (4 * n) ≡ t → (e ≡ 4 * n) × (ltb room (4 * n) ≡ false)
+    go true q = absurd (not_0 ShortResult (sym (ap refused (rw q at f.is))))
+    go false q = (ap given (rw q at f.is), q)
 
-      go : (t : Bool) → ltb (length out) (4 * length xs) ≡ t → made number len out' ≡ answered (bind xs bytes_of) out
-      go true q =
-          let l : len ≡ 0 = rw q at f.len_is in
-          let n : number ≡ 14 = rw q at f.number_is in
-          let z : out' ≡ out = o ∙ ap (λ (k : List ℕ). k ++ drop len out) p.left ∙ rw l (rw (puts_past 0 0 xs [] (omega arith))) in
-          rw (e, q, n, l, z)
-      go false q =
-          let l : len ≡ 4 * length xs = rw q at f.len_is in
-          let n : number ≡ 0 = rw q at f.number_is in
-          let h : 4 * length xs ≤ length out = ltb-false (length out) (4 * length xs) q in
-          let i : length (take (4 * length xs) out) ≡ 4 * length xs = length-take-le (4 * length xs) out h in
-          let w : part ≡ bind xs bytes_of ++ drop (4 * length xs) (take (4 * length xs) out) = p.left ∙ rw l (puts_within (length (take (4 * length xs) out)) xs (take (4 * length xs) out) (omega arith) (omega arith)) in
-          let d : drop (4 * length xs) (take (4 * length xs) out) ≡ [] = drop_of_length-le (take (4 * length xs) out) {i = 4 * length xs} (omega arith) in
-          let z : out' ≡ bind xs bytes_of ++ drop (4 * length xs) out = o ∙ ap (λ (k : List ℕ). k ++ drop len out) (w ∙ ap (λ (k : List ℕ). bind xs bytes_of ++ k) d ∙ append-nil (bind xs bytes_of)) ∙ ap (λ (i : ℕ). bind xs bytes_of ++ drop i out) l in
-          rw (e, q, n, l, z)
+pub finish_is : {n room e : ℕ} → Finished n room (Ok e) → e ≡ 4 * n
+finish_is f = (finish_cases f).0
+
+pub finish_room : {n room e : ℕ} → Finished n room (Ok e) → 4 * n ≤ room
+finish_room {n} {room} f = ltb-false room (4 * n) (finish_cases f).1
+
+pub finish_fits : {n room e : ℕ} → Finished n room (Ok e) → e ≤ room
+finish_fits f = omega (arith, finish_is f, finish_room f)
+
+module _ (xs out : List ℕ) where
+  -- an answer is written whole
+  pub answered_whole : {e r : ℕ} {part out' : List ℕ} → Finished (length xs) (length out) (Ok e) → Puts 0 xs (take e out) part r → out' ≡ part ++ drop e out → outcome (Ok e) out' ≡ answered (bind xs bytes_of) out
+  answered_whole {e} {r} {part} {out'} f p o =
+      let b : length (bind xs bytes_of) ≡ 4 * length xs = length_bytes xs in
+      let l : e ≡ 4 * length xs = finish_is f in
+      let h : 4 * length xs ≤ length out = finish_room f in
+      let i : length (take (4 * length xs) out) ≡ 4 * length xs = length-take-le (4 * length xs) out h in
+      let w : part ≡ bind xs bytes_of ++ drop (4 * length xs) (take (4 * length xs) out) = p.left ∙ rw l (puts_within (length (take (4 * length xs) out)) xs (take (4 * length xs) out) (omega arith) (omega arith)) in
+      let d : drop (4 * length xs) (take (4 * length xs) out) ≡ [] = drop_of_length-le (take (4 * length xs) out) {i = 4 * length xs} (omega arith) in
+      let z : out' ≡ bind xs bytes_of ++ drop (4 * length xs) out = o ∙ ap (λ (k : List ℕ). k ++ drop e out) (w ∙ ap (λ (k : List ℕ). bind xs bytes_of ++ k) d ∙ append-nil (bind xs bytes_of)) ∙ ap (λ (i : ℕ). bind xs bytes_of ++ drop i out) l in
+      rw (b, (finish_cases f).1, l, z)
+
+  -- or not at all
+  pub answered_short : {n : ℕ} {refusal : Refusal} {r : Result ℕ Refusal} → Finished n (length out) (Err refusal) → n ≡ length xs → r ≡ Err refusal → outcome r out ≡ answered (bind xs bytes_of) out
+  answered_short {n} {refusal} {r} f m e = go (ltb (length out) (4 * n)) refl
+    where
+      b : length (bind xs bytes_of) ≡ 4 * n
+      b = length_bytes xs ∙ ap (λ (i : ℕ). 4 * i) (sym m)
+
+      go : (t : Bool) → ltb (length out) (4 * n) ≡ t → outcome r out ≡ answered (bind xs bytes_of) out
+      go true q = let z : r ≡ Err ShortResult = e ∙ rw q at f.is in rw (z, b, q)
+      go false q = absurd (not_0 refusal (ap refused (rw q at f.is)))
 
   -- counted in an empty slice, then finished, then written
-  pub count_write : {number len n r : ℕ} {part out' none : List ℕ} → Puts 0 xs [] none n → Finished n (length out) number len → Puts 0 xs (take len out) part r → out' ≡ part ++ drop len out → made number len out' ≡ answered (bind xs bytes_of) out
-  count_write {number} {len} {n} k f p o = let e : n ≡ length xs = omega (arith, k.next) in finished (subst (λ (i : ℕ). Finished i (length out) number len) e f) p o
+  pub count_write : {e n r : ℕ} {part out' none : List ℕ} → Puts 0 xs [] none n → Finished n (length out) (Ok e) → Puts 0 xs (take e out) part r → out' ≡ part ++ drop e out → outcome (Ok e) out' ≡ answered (bind xs bytes_of) out
+  count_write {e} {n} k f p o = let m : n ≡ length xs = omega (arith, k.next) in answered_whole (subst (λ (i : ℕ). Finished i (length out) (Ok e)) m f) p o
+
+  pub count_short : {n : ℕ} {none : List ℕ} {refusal : Refusal} {r : Result ℕ Refusal} → Puts 0 xs [] none n → Finished n (length out) (Err refusal) → r ≡ Err refusal → outcome r out ≡ answered (bind xs bytes_of) out
+  count_short k f e = answered_short f (omega (arith, k.next)) e
 
 -- two calls in turn on the front of a slice: the second sees what the first left
 pub front_twice : (len : ℕ) (out head : List ℕ) → len ≤ length out → length head ≡ length (take len out) → (take len (head ++ drop len out) ≡ head) × (drop len (head ++ drop len out) ≡ drop len out)
@@ -98,19 +125,3 @@ front_twice len out head h e = let l : length head ≡ len = e ∙ length-take-l
 
 pub front_fits : (len : ℕ) (out head : List ℕ) → len ≤ length out → length head ≡ length (take len out) → len ≤ length (head ++ drop len out)
 front_fits len out head h e = omega (arith, length-append head (drop len out), e ∙ length-take-le len out h)
-
--- the length of an answer is within the slice
-pub finish_fits : {n room number len : ℕ} → Finished n room number len → len ≤ room
-finish_fits {n} {room} {number} {len} f = go (ltb room (4 * n)) refl
-  where
-    go : (t : Bool) → ltb room (4 * n) ≡ t → len ≤ room
-    go true e = let z : len ≡ 0 = rw e at f.len_is in omega arith
-    go false e = let z : len ≡ 4 * n = rw e at f.len_is in omega (arith, ltb-false room (4 * n) e)
-
--- and no longer than its words
-pub finish_most : {n room number len : ℕ} → Finished n room number len → len ≤ 4 * n
-finish_most {n} {room} {number} {len} f = go (ltb room (4 * n)) refl
-  where
-    go : (t : Bool) → ltb room (4 * n) ≡ t → len ≤ 4 * n
-    go true e = let z : len ≡ 0 = rw e at f.len_is in omega arith
-    go false e = let z : len ≡ 4 * n = rw e at f.len_is in omega arith

@@ -6,6 +6,9 @@ use Prim.Native.Nat.{ℕ, ◌*◌, ◌/◌, ◌≤◌}
 use native.Mathlib.Omega.{arith}
 use lib.ListN.{length, take, drop, length-append}
 use lib.Seq.{take_at, length-take-le}
+use Rattle.std.specs.Prelude.{Result, Ok, Err, IfOk}
+use Rattle.sir_data.specs.declared.refusals.Refusal.{Refusal}
+use Rattle.sir_analyses.specs.declared.loading.Sizes.{Sizes}
 use Rattle.sir_data.specs.Pages.{payload}
 use Rattle.sir_data.specs.Rules.{first, page_rules, record_rules}
 use Rattle.sir_data.specs.inner.WellFormed.{WellFormed}
@@ -18,7 +21,7 @@ use Rattle.sir_analyses.specs.Answers.{order_answer}
 use Rattle.sir_analyses.specs.Calls.{refusal}
 use Rattle.sir_analyses.specs.inner.Visiting.{VisitedAll, blocks_in, order_in, Listed}
 use Rattle.sir_analyses.specs.inner.Discovery.{alloc_sites}
-use Rattle.sir_analyses.specs.inner.Loading.{Prepared, VisitPrepared, VisitLoaded, Loaded}
+use Rattle.sir_analyses.specs.inner.Loading.{Prepared, VisitPrepared}
 use Rattle.sir_analyses.specs.inner.Stages.{OrderStage, AcceptedStage}
 use Rattle.sir_analyses.proofs.allocation_liveness.Discovery.{sites_long, sites_most}
 use Rattle.sir_analyses.proofs.reverse_post_order.Postorder.{blocks_rpo_lem, order_answer_lem}
@@ -37,44 +40,46 @@ module _ {s old new : List ℕ} {r : ℕ} (k : Read s old new r) where
   pub refused_early : (r ≡ 0 → ⊥) → r ≡ refusal s
   refused_early n = k.number ∙ sym (decided (page_rules s ++ record_rules (payload s)) ((12, rule12 (payload s)) ∷ []) (λ z. n (k.number ∙ z)))
 
-  module _ (z : r ≡ 0) where
+  module _ (z : r ≡ 0) {n : ℕ} (long : n ≡ length (payload s)) where
     none_broken : first (page_rules s ++ record_rules (payload s)) ≡ 0
     none_broken = sym k.number ∙ z
 
     words_are : new ≡ payload s ++ drop (length (payload s)) old
     words_are = k.words (accepted s none_broken).0
 
-    pub words_fit : 126 * (length s / 512) ≤ length new
-    words_fit = omega (arith, ap length words_are, length-append (payload s) (drop (length (payload s)) old), length_payload s)
+    pub words_fit : n ≤ length new
+    words_fit = omega (arith, ap length words_are, length-append (payload s) (drop (length (payload s)) old))
 
-    front_is : take (126 * (length s / 512)) new ≡ payload s
-    front_is = ap (take (126 * (length s / 512))) words_are ∙ take_at (payload s) (drop (length (payload s)) old) (126 * (length s / 512)) (length_payload s)
+    front_is : take n new ≡ payload s
+    front_is = ap (take n) words_are ∙ take_at (payload s) (drop (length (payload s)) old) n (sym long)
 
-    pub front_good : WellFormed (take (126 * (length s / 512)) new)
+    pub front_good : WellFormed (take n new)
     front_good = subst WellFormed (sym front_is) (accepted s none_broken).1
 
-    last_rule : refusal s ≡ cond (rule12 (payload s)) 12 0
-    last_rule = first_append (page_rules s ++ record_rules (payload s)) ((12, rule12 (payload s)) ∷ []) refl ∙ rw none_broken
+    -- rule 12, the last one, decides
+    pub last_is : refusal s ≡ cond (rule12 (take n new)) 12 0
+    last_is = first_append (page_rules s ++ record_rules (payload s)) ((12, rule12 (payload s)) ∷ []) refl ∙ rw (none_broken, front_is)
 
-    pub loaded : {postorder visit sites : List ℕ} {number n i a : ℕ} → VisitLoaded (take (126 * (length s / 512)) new) postorder visit sites number n i a → Loaded s new postorder visit sites number n i a
-    loaded {postorder} {visit} {sites} {number} {n} {i} {a} v = record { number_is = same; prepared = λ z. prepared (same ∙ z) }
-      where
-        same : number ≡ refusal s
-        same = v.number_is ∙ sym (last_rule ∙ ap (λ (w : List ℕ). cond (rule12 w) 12 0) (sym front_is))
+    -- all that is prepared from the front of the words is prepared from the payload
+    pub prepared : {postorder visit sites : List ℕ} {m i a : ℕ} → m ≡ length (take n new) → VisitPrepared (take n new) postorder visit sites i a → Prepared (payload s) new postorder visit sites m i a
+    prepared {postorder} {visit} {sites} {m} {i} {a} e v =
+        let f : m ≡ n = e ∙ length-take-le n new words_fit in
+        let p : VisitPrepared (take m new) postorder visit sites i a = subst (λ (j : ℕ). VisitPrepared (take j new) postorder visit sites i a) (sym f) v in
+        record {
+          words_fit = omega (arith, words_fit);
+          words_are = ap (λ (j : ℕ). take j new) f ∙ front_is;
+          postorder_fit = p.postorder_fit;
+          sites_fit = p.sites_fit;
+          order_stage = p.order_stage;
+          visit_stage = p.visit_stage;
+          accepted_stage = p.accepted_stage;
+        }
 
-        prepared : number ≡ 0 → Prepared (payload s) new postorder visit sites n i a
-        prepared q =
-            let m : n ≡ 126 * (length s / 512) = v.words_long q ∙ length-take-le (126 * (length s / 512)) new words_fit in
-            let p : VisitPrepared (take n new) postorder visit sites i a = subst (λ (j : ℕ). VisitPrepared (take j new) postorder visit sites i a) (sym m) (v.prepared q) in
-            record {
-              words_fit = omega (arith, words_fit);
-              words_are = ap (λ (j : ℕ). take j new) m ∙ front_is;
-              postorder_fit = p.postorder_fit;
-              sites_fit = p.sites_fit;
-              order_stage = p.order_stage;
-              visit_stage = p.visit_stage;
-              accepted_stage = p.accepted_stage;
-            }
+    pub prepared_ok : (postorder visit sites : List ℕ) (r : Result Sizes Refusal)
+        → IfOk r (λ m. (m.words ≡ length (take n new)) × VisitPrepared (take n new) postorder visit sites m.finished m.allocations)
+        → IfOk r (λ m. Prepared (payload s) new postorder visit sites m.words m.finished m.allocations)
+    prepared_ok postorder visit sites (Ok sizes) h = prepared h.0 h.1
+    prepared_ok postorder visit sites (Err reason) h = h
 
 -- the blocks of a visit fit an array of 256, and are the order's sequence there
 module _ {w seen postorder : List ℕ} {n : ℕ} (good : WellFormed w) (v : VisitedAll w seen postorder n) where
@@ -96,20 +101,9 @@ order_stage {w} {postorder = postorder} {n = n} good v =
     let e : order_in (take n postorder) ≡ order_answer w = sym (order_answer_lem w v.shows) in
     record { order_is = e; order_fits = omega (arith, ap length e, order_most w good, good.sized.functions_most, good.sized.blocks_most) }
 
--- rule 12 applies
-pub visit_refused : {w postorder visit sites : List ℕ} {number n k a : ℕ} → number ≡ 12 → rule12 w ≡ true → VisitLoaded w postorder visit sites number n k a
-visit_refused {number = number} e t = record { number_is = e ∙ rw t; words_long = λ z. absurd (never z); prepared = λ z. absurd (never z) }
-  where
-    never : number ≡ 0 → ⊥
-    never z = omega arith
-
 -- the sites that were found fit, and are few
 pub found_few : (w : List ℕ) {old new : List ℕ} {r : ℕ} → length old ≡ 512 → r ≤ length new → Listed (alloc_sites w) 0 old new r → (take r new ≡ alloc_sites w) × (length (take r new) ≤ 512)
 found_few w h l k = (k.list, omega (arith, ap length k.list, k.next, k.long))
-
--- rule 12 does not apply
-pub visit_accepted : {w postorder visit sites : List ℕ} {number n k a : ℕ} → number ≡ 0 → n ≡ length w → rule12 w ≡ false → VisitPrepared w postorder visit sites k a → VisitLoaded w postorder visit sites number n k a
-visit_accepted e m t p = record { number_is = e ∙ rw t; words_long = λ z. m; prepared = λ z. p }
 
 pub accepted_stage : {w old sites : List ℕ} {a : ℕ} → WellFormed w → Listed (alloc_sites w) 0 old sites a → rule12 w ≡ false → AcceptedStage w (take a sites)
 accepted_stage {w} good found differ = record {

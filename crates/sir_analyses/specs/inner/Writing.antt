@@ -16,8 +16,3 @@ words_put limit n (x ∷ xs) out = words_put limit (n + 1) xs (word_put limit n 
 pub record Puts (n : ℕ) (xs out out' : List ℕ) (r : ℕ) : Type 0 where
   pub next : r ≡ n + length xs
   pub left : out' ≡ words_put (length out) n xs out
-
--- number and length of a call whose answer has n words, for a slice of `room` bytes
-pub record Finished (n room number len : ℕ) : Type 0 where
-  pub number_is : number ≡ cond (ltb room (4 * n)) 14 0
-  pub len_is : len ≡ cond (ltb room (4 * n)) 0 (4 * n)

@@ -9,12 +9,12 @@ use Rattle.sir_analyses.proofs.block_sets.add_condition.Goals as goal
 
 pub row_add-requires : goal.row_add-requires
 row_add-requires c =
-    let v = c.in-Local.v.0 in
-    let e : condition c.args.words.now c.args.b.0 ≡ v ∷ [] = sym c.in-Local.ensures in
+    let v = c.in-Some.v.0 in
+    let e : condition c.args.words.now c.args.b.0 ≡ v ∷ [] = sym c.in-Some.ensures in
     (omega (arith, c.requires.well_formed.sized.blocks_most), tested_small c.requires.well_formed c.args.b.0 v c.requires.b_bound.0 e)
 
-pub returns-in-Local : goal.returns-in-Local
-returns-in-Local c =
-    let v = c.in-Local.v.0 in
-    let e : condition c.args.words.now c.args.b.0 ≡ v ∷ [] = sym c.in-Local.ensures in
+pub returns-in-Some : goal.returns-in-Some
+returns-in-Some c =
+    let v = c.in-Some.v.0 in
+    let e : condition c.args.words.now c.args.b.0 ≡ v ∷ [] = sym c.in-Some.ensures in
     rw c.row_add.ensures.1 (adds_single c.args.uses.now c.args.b.0 v (condition c.args.words.now c.args.b.0) e (tested_small c.requires.well_formed c.args.b.0 v c.requires.b_bound.0 e))

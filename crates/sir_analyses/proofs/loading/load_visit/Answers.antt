@@ -1,8 +1,9 @@
 -- `load_visit` meets its contract.
 use mathlib.Core.Path.{refl, sym, ◌∙◌}
 use native.Mathlib.Omega.{arith}
+use Rattle.std.proofs.Common.{rules}
 use Rattle.sir_analyses.proofs.allocation_liveness.Discovery.{sites_over}
-use Rattle.sir_analyses.proofs.loading.Loads.{front_length, found_few, visit_refused, visit_accepted, accepted_stage}
+use Rattle.sir_analyses.proofs.loading.Loads.{front_length, found_few, accepted_stage}
 use Rattle.sir_analyses.proofs.loading.load_visit.Goals as goal
 
 pub compute_visit-finished-requires : goal.compute_visit-finished-requires
@@ -15,7 +16,7 @@ find_allocations-requires c =
 
 pub returns-in_default : goal.returns-in_default
 returns-in_default c =
-    visit_refused c.no_sizes.ensures (sites_over c.args.words.now c.requires.well_formed.0 (omega (arith, c.in_default.ensures.0, c.requires.visit_value.1)))
+    record { number = let t = sites_over c.args.words.now c.requires.well_formed.0 (omega (arith, c.in_default.ensures.0, c.requires.visit_value.1)) in rw t refl; prepared = search rules }
 
 pub slice_bounds-rule_12-end-2 : goal.slice_bounds-rule_12-end-2
 slice_bounds-rule_12-end-2 c =
@@ -27,16 +28,22 @@ rule_12-requires c =
 
 pub returns-then-rule_12 : goal.returns-then-rule_12
 returns-then-rule_12 c =
-    visit_refused c.no_sizes-then-rule_12.ensures (sym c.rule_12.ensures ∙ c.if-rule_12.true)
+    record { number = rw (sym c.rule_12.ensures ∙ c.if-rule_12.true); prepared = search rules }
 
 pub returns : goal.returns
 returns c =
     let v = c.compute_visit-finished.ensures in
     let differ = sym c.rule_12.ensures ∙ c.if-rule_12.false in
-    visit_accepted refl refl differ (record {
-      postorder_fit = v.0;
-      sites_fit = c.in-Some.ensures.0;
-      order_stage = v.1;
-      visit_stage = v.2;
-      accepted_stage = accepted_stage c.requires.well_formed.0 c.in-Some.ensures.1 differ;
-    })
+    record {
+      number = rw differ;
+      prepared = (
+        refl,
+        record {
+          postorder_fit = v.0;
+          sites_fit = c.in-Some.ensures.0;
+          order_stage = v.1;
+          visit_stage = v.2;
+          accepted_stage = accepted_stage c.requires.well_formed.0 c.in-Some.ensures.1 differ;
+        },
+      );
+    }
