@@ -7,12 +7,6 @@ use Rattle.sir_analyses.proofs.answers.Calls.{finish_is, finish_fits, answered_s
 use Rattle.sir_answers.proofs.paging.WrittenPages.{pages_put}
 use Rattle.sir_answers.proofs.paging.pages_answer.Goals as goal
 
-pub returns-in_err-end : goal.returns-in_err-end
-unfolding pages_of
-returns-in_err-end c =
-    let w = c.args.words.now in
-    answered_short (page_words w) c.args.out.now c.in_err-end.ensures (omega (arith, page_words_length w, c.requires.0)) (search rules)
-
 pub slice_bounds-write_pages-end : goal.slice_bounds-write_pages-end
 slice_bounds-write_pages-end c = finish_fits c.in_ok-end.ensures
 
@@ -23,6 +17,12 @@ pub write_pages-requires : goal.write_pages-requires
 write_pages-requires c =
     let f = c.in_ok-end.ensures in
     (omega (arith, finish_is f, length-take-le c.in_ok-end.end c.args.out.now (finish_fits f)), c.requires.1)
+
+pub returns-in_err-end : goal.returns-in_err-end
+unfolding pages_of
+returns-in_err-end c =
+    let w = c.args.words.now in
+    answered_short (page_words w) c.args.out.now c.in_err-end.ensures (omega (arith, page_words_length w, c.requires.0)) (search rules)
 
 pub returns : goal.returns
 unfolding pages_of
