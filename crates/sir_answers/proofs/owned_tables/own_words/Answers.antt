@@ -1,5 +1,5 @@
 -- `own_words` meets its contract. The invariant: the owners of the locals below v are stored.
-use mathlib.Core.Path.{◌≡◌}
+use mathlib.Core.Path.{◌≡◌, ◌∙◌}
 use Prim.Native.Nat.{◌<◌}
 use native.Mathlib.Omega.{arith}
 use lib.ListN.{length}
@@ -23,7 +23,10 @@ unmarked_owner-requires c =
 
 pub overflow_cast-owners : goal.overflow_cast-owners
 overflow_cast-owners c =
-    omega (arith, c.unmarked_owner.ensures.1)
+    omega (arith, c.owner_row.ensures, c.unmarked_owner.ensures.1)
+
+pub owner_row-requires : goal.owner_row-requires
+owner_row-requires c = c.unmarked_owner.ensures.1
 
 pub overflow_cast-owners-in-loop-v : goal.overflow_cast-owners-in-loop-v
 overflow_cast-owners-in-loop-v c =
@@ -41,9 +44,9 @@ pub loop-v-preserved : goal.loop-v-preserved
 loop-v-preserved c =
     let own = unmarked_owner c.args.pointers.now in
     let L = c.loop-v in
-    let r = c.unmarked_owner in
+    let r = c.owner_row in
     let h : L.v < length L.owners = omega (arith, c.loop-v-test.true, c.local_count-count.ensures, c.requires.pointer_stage.well_formed.sized.locals_most, L.auto.owners, c.requires.owners_len) in
-    words_more own c.args.owners.now L.owners L.v r.result h r.ensures.0 L.invariant
+    words_more own c.args.owners.now L.owners L.v r.result h (r.ensures ∙ c.unmarked_owner.ensures.0) L.invariant
 
 pub shape_of-owners : goal.shape_of-owners
 shape_of-owners c =
