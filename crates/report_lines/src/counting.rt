@@ -40,8 +40,7 @@ pub fn allocation_too_long(
 {
     let count = alloc_sites(pointers).len();
     for a in 0..count {
-        let r = allocation_answer(words, visit, live, pointers, AllocId(a as u32), out);
-        if r.number == 14 {
+        if allocation_answer(words, visit, live, pointers, AllocId(a as u32), out).is_err() {
             return true;
         }
     }
