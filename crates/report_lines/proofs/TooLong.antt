@@ -111,16 +111,6 @@ module _ (w : List ℕ) where
   unfolding allocation_too_long
   allocation_short {a} e l = any_not (long_allocation w) 0 (length (allocs w)) a e (omega arith) (omega arith)
 
--- the first n of an array
-pub front : {n : ℕ} (xs out : List ℕ) {out' : List ℕ} → n ≡ length xs → out' ≡ xs ++ drop n out → take n out' ≡ xs
-front {n} xs out l e = ap (take n) e ∙ take_at xs (drop n out) n (sym l)
-
-pub take_most : (n k : ℕ) (xs : List ℕ) → n ≤ length xs → n ≤ k → length (take n xs) ≤ k
-take_most n k xs l h = omega (arith, length-take-le n xs l)
-
-pub take_least : (n k : ℕ) (xs : List ℕ) → n ≤ length xs → k ≤ n → k ≤ length (take n xs)
-take_least n k xs l h = omega (arith, length-take-le n xs l)
-
 -- ---- order, rounds and sets are never too long, so that intervals and allocations decide
 
 module _ {A : Type 0} where
@@ -188,7 +178,3 @@ sites_count {w} S e = e ∙ ap length S.sites_are ∙ sites_long w
 pub sites_most : {w p : List ℕ} → PointerStage w p → length (sites_in p) ≤ 512
 unfolding part
 sites_most {w} {p} S = omega (arith, length-take (get_or p 0 0) (drop 2 p), S.few)
-
-pub rpo_most : {w visit : List ℕ} → VisitStage w visit → length (rpo_in visit) ≤ 256
-unfolding part
-rpo_most {w} {visit} v = omega (arith, length-take (get_or visit 0 0) (drop 1 visit), v.few)
