@@ -1,5 +1,5 @@
 -- The fields of intervals and allocations fit a word, and an interval's end is not 0.
-use mathlib.Core.Path.{◌≡◌, refl}
+use mathlib.Core.Path.{refl}
 use mathlib.Core.Bool.{Bool, true, false, ◌&&◌, ◌||◌, cond}
 use mathlib.Core.List.Memᴰ
 use mathlib.Core.List.{List, [], ◌∷◌, ◌++◌, map, foldr}
@@ -7,7 +7,6 @@ use Prim.Native.Nat.{ℕ, suc, ◌+◌, ◌*◌, ◌<◌}
 use native.Mathlib.Omega.{arith}
 use lib.ListN.{length, get_or}
 use lib.Dec.{eqb, leb}
-use borrow.Author.Tests.{eqb-false}
 use Rattle.plank_core.specs.Lists.{range, bind, keep, mem, ◌∈◌}
 use Rattle.plank_core.specs.laws.Lists.{mem_range, keep_out, map_each, bind_out, mem_place, get_or_mem}
 use Rattle.sir_data.specs.Records.{blocks_at, block_word, op_word, operands_at, operand, ops, ins, outs, code}
@@ -44,13 +43,11 @@ record ScanOk (c : Scan) : Type 0 where
   closed_good : Goods c.closed
 
 close_ok : (b from : ℕ) (c : Scan) → b < 4294967296 → from < 4294967296 → ScanOk c → ScanOk (close b from c)
-close_ok b from c p q k = record { open_small = omega arith; closed_good = goods_append c.closed (closing b from c.open') k.closed_good (go (eqb c.open' 0) refl) }
+close_ok b from c p q k = record { open_small = omega arith; closed_good = goods_append c.closed (closing b from c.open') k.closed_good (go (eqb c.open' 0)) }
   where
-    go : (t : Bool) → eqb c.open' 0 ≡ t → Goods (cond t [] (record { block = b; from = from; to = c.open' } ∷ []))
-    go true e = tt
-    go false e =
-        let n : ¬ (c.open' ≡ 0) = eqb-false c.open' 0 e in
-        (record { block_small = p; start_small = q; end_small = k.open_small }, tt)
+    go : (t : Bool) → Goods (cond t [] (record { block = b; from = from; to = c.open' } ∷ []))
+    go true = tt
+    go false = (record { block_small = p; start_small = q; end_small = k.open_small }, tt)
 
 scan_ok : (w : List ℕ) (b v o : ℕ) (c : Scan) → b < 4294967296 → suc o < 4294967296 → ScanOk c → ScanOk (scan_op w b v o c)
 scan_ok w b v o c p q k = second _ (first (mem v (outs w o))) (mem v (ins w o) && eqb (cond (mem v (outs w o)) (close b (suc o) c) c).open' 0)

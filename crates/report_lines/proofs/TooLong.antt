@@ -7,7 +7,7 @@ use Prim.Native.Nat.{ℕ, ◌+◌, ◌*◌, ◌≤◌, ◌<◌}
 use native.Mathlib.Omega.{arith}
 use native.Mathlib.Decide.{dec_lt}
 use lib.ListN.{length, get_or, take, drop, length-map, length-take, get_or-eq_default}
-use lib.Seq.{take_at, length-take-le, get_or-take, get_or-drop}
+use lib.Seq.{take_at, get_or-take, get_or-drop}
 use lib.Dec.{eqb, ltb}
 use borrow.Author.Tests.{lt-ltb, le-ltb, ltb-false, ne_eqb}
 use Rattle.plank_core.specs.Lists.{bind, any, range, upto, ◌∈◌}
@@ -28,7 +28,7 @@ use Rattle.sir_data.specs.Refusals.{number, refused as code}
 use Rattle.sir_data.specs.laws.Refusals.{not_0}
 use Rattle.sir_analyses.specs.inner.Discovery.{alloc_site, alloc_sites}
 use Rattle.sir_analyses.specs.Order.{blocks_rpo, is_visited}
-use Rattle.sir_analyses.specs.inner.Stages.{part, rpo_in, sites_in, VisitStage, PointerStage}
+use Rattle.sir_analyses.specs.inner.Stages.{part, sites_in, VisitStage, PointerStage}
 use Rattle.sir_analyses.specs.inner.Tables.{LiveRows}
 use Rattle.sir_analyses.specs.inner.Writing.{Puts}
 use Rattle.sir_analyses.specs.laws.Writing.{length_bytes, puts_within}

@@ -1,5 +1,5 @@
 -- `End` shows its text.
-use Rattle.std.proofs.Common.{rules, arith, refl, ◌<◌, ◌-◌, ◌^◌, ◌≡◌}
+use Rattle.std.proofs.Common.{rules, ◌<◌, ◌-◌, ◌^◌, ◌≡◌}
 use borrow.Author.Tests.{ne_eqb}
 use Rattle.report_lines.proofs.Decimals.{decimal_is}
 use Rattle.report_lines.proofs.text.EndDisplay.fmt.Goals as goal

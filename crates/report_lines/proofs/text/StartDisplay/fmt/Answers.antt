@@ -1,6 +1,5 @@
 -- `Start` shows its text.
-use Rattle.std.proofs.Common.{rules, arith, refl, ◌<◌, ◌-◌, ◌^◌}
-use Rattle.std.proofs.Output.{has_written_of_eq}
+use Rattle.std.proofs.Common.{rules, ◌<◌, ◌-◌, ◌^◌}
 use borrow.Author.Tests.{ne_eqb}
 use Rattle.report_lines.proofs.Decimals.{decimal_is}
 use Rattle.report_lines.proofs.text.StartDisplay.fmt.Goals as goal
