@@ -42,6 +42,14 @@ module _ (xs : List ℕ) {r : ℕ} {out out' : List ℕ} (p : Puts 0 xs out out'
   pub not_long : r ≤ 16384 → too_long xs ≡ false
   not_long h = le-ltb 65536 (4 * length xs) (omega (arith, p.next))
 
+-- the test of a count, as of the answer
+pub long_is : (xs : List ℕ) (r : ℕ) (t : Bool) → r ≡ length xs → t ≡ ltb 16384 r → t ≡ too_long xs
+long_is xs r t n e = e ∙ go (dec_lt 16384 r)
+  where
+    go : Dec (16384 < r) → ltb 16384 r ≡ too_long xs
+    go (yes h) = lt-ltb 16384 r h ∙ sym (lt-ltb 65536 (4 * length xs) (omega arith))
+    go (no h) = le-ltb 16384 r (omega arith) ∙ sym (le-ltb 65536 (4 * length xs) (omega arith))
+
 pub short : (xs : List ℕ) → too_long xs ≡ false → 4 * length xs ≤ 65536
 short xs e = ltb-false 65536 (4 * length xs) e
 

@@ -15,14 +15,8 @@ pub fn local_too_long(words: &[u32], visit: &[u32], live: &[u64]) -> bool
     requires liveness_stage { LivenessStage words.now live.now }
     ensures { result ≡ local_too_long words.now }
 {
-    let count = local_count(words);
-    for v in 0..count {
-        let n = compute_intervals(words, visit, live, LocalId(v), &mut []);
-        if 16384 < n {
-            return true;
-        }
-    }
-    false
+    (0..local_count(words))
+        .any(|v| 16384 < compute_intervals(words, visit, live, LocalId(v), &mut []))
 }
 
 // Whether some allocation needs more than 65,536 bytes, the length of the slice.
