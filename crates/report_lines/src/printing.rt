@@ -1,13 +1,14 @@
 // Printing a report: all answers are counted before the first line, then each line is written once.
-ghost use Rattle.std.specs.Prelude.{◌≡◌, true, false, cond, List, [], ℕ, ◌≤◌, ◌<◌, length, MatchOption};
+ghost use Rattle.std.specs.Prelude.{◌≡◌, true, false, cond, List, [], ℕ, ◌≤◌, ◌<◌, length, MatchOption, ◌≢◌};
 ghost use Rattle.plank_core.specs.Lists.{bind};
-ghost use Rattle.sir_data.specs.Pages.{bytes_of};
+ghost use Rattle.sir_data.specs.Pages.{payload, bytes_of};
 ghost use Rattle.sir_data.specs.Records.{blocks, locals};
 ghost use Rattle.sir_data.specs.Refusals.{number, refused};
 ghost use Rattle.sir_analyses.specs.Order.{is_visited};
 ghost use Rattle.sir_analyses.specs.Liveness.{rounds};
 ghost use Rattle.sir_analyses.specs.Allocation.{allocs};
 ghost use Rattle.sir_analyses.specs.Answers.{order_answer, intervals_answer, allocation_answer};
+ghost use Rattle.sir_analyses.specs.Calls.{refusal};
 ghost use Rattle.sir_analyses.specs.inner.Stages.{VisitStage, AcceptedStage, LivenessStage, PointerStage};
 ghost use Rattle.report_lines.specs.Lines.{order_line, order_text, rounds_line, rounds_text, block_line, block_text, local_text, allocation_text};
 ghost use Rattle.plank_core.specs.inner.DenseIndexSet.{members};
@@ -240,21 +241,35 @@ fn report_words(rt: &impl Print, words: &[u32], visit: &[u32], sites: &[u32]) ->
     report_tables(rt, words, visit, &live, &pointers, done)
 }
 
-// Prints the report of an image.
-pub fn report(rt: &impl Print, image: &[u8]) -> Printed
-    ensures { refused result.accepted ≡ reported image.now }
+// Gives the words of an image, their visit and their allocations to `print`; of a refused one prints `refused` and the number.
+pub fn print_loaded<R: Print, F: FnOnce(&[u32], &[u32], &[u32]) -> Printed>(
+    rt: &R,
+    image: &[u8],
+    print: F,
+) -> Printed
+    requires { (words visit sites : _) → VisitStage words.now visit.now → AcceptedStage words.now sites.now → length (order_answer words.now) ≤ 384 → F.pre print words visit sites }
+    ensures unloaded { refusal image.now ≢ 0 → refused result.accepted ≡ refusal image.now }
+    ensures loaded { refusal image.now ≡ 0 → (words visit sites : _) × (words.now ≡ payload image.now) × F.post print words visit sites result }
 {
     let mut words = [0u32; WORDS];
     let mut postorder = [0u32; POSTORDER];
     let mut visit = [0u32; VISIT];
     let mut sites = [0u32; 512];
     match load(image, &mut words, &mut postorder, &mut visit, &mut sites) {
-        Ok(sizes) => report_words(
-            rt,
+        Ok(sizes) => print(
             &words[..sizes.words],
             &visit,
             &sites[..sizes.allocations],
         ),
         Err(refusal) => print_refused(rt, refusal),
     }
+}
+
+// Prints the report of an image.
+pub fn report(rt: &impl Print, image: &[u8]) -> Printed
+    ensures { refused result.accepted ≡ reported image.now }
+{
+    print_loaded(rt, image, |words, visit, sites| {
+        report_words(rt, words, visit, sites)
+    })
 }
