@@ -3,16 +3,17 @@ ghost use Rattle.std.specs.Prelude.{◌≡◌, ◌++◌, ◌∷◌, [], ℕ, ◌
 ghost use Rattle.plank_core.specs.Lists.{bind, one_if};
 ghost use Rattle.plank_core.specs.inner.DenseIndexSet.{contains};
 ghost use Rattle.sir_data.specs.Records.{functions, blocks, operations, callees};
+ghost use Rattle.sir_data.specs.inner.Cases.{function_ids};
 ghost use Rattle.sir_data.specs.inner.WellFormed.{WellFormed};
 ghost use Rattle.sir_analyses.specs.Order.{visit_function, visit_block};
 ghost use Rattle.sir_analyses.specs.inner.Stages.{OrderStage, VisitStage};
-ghost use Rattle.sir_analyses.specs.inner.Visiting.{called, Held, VisitStep, VisitedAll, blocks_of, blocks_in, entry_of, order_in, function_of, Listed, EachListed};
+ghost use Rattle.sir_analyses.specs.inner.Visiting.{Held, VisitStep, VisitedAll, blocks_of, blocks_in, entry_of, order_in, function_of, Listed, EachListed};
 
 use crate::stages::{RPO, VISIT, VISITED};
 use plank_core::index::{BlockId, FunctionId, OpIdx};
 use plank_core::rows::{row_add, row_contains};
 use sir_data::records::{
-    block_count, block_operations, entry_block, init_function, main_plus_one, op_word, successor,
+    block_count, block_operations, entry_block, init_function, main_function, op_word, successor,
     successor_count,
 };
 
@@ -25,7 +26,7 @@ const SEEN_BLOCKS: usize = 1;
 fn callee(words: &[u32], o: OpIdx) -> Option<FunctionId>
     requires well_formed { WellFormed words.now }
     requires o_bound { o.0 < operations words.now }
-    ensures { called result ≡ callees words.now o.0 }
+    ensures { function_ids result ≡ callees words.now o.0 }
 {
     if sir_data::codes::is_call(op_word(words, o, 0)) {
         Some(FunctionId(op_word(words, o, 5)))
@@ -105,11 +106,10 @@ pub fn visit(words: &[u32], seen: &mut [u64], postorder: &mut [u32]) -> usize
     ensures { VisitedAll words.now seen.new postorder.new result }
 {
     let n = visit_function(words, init_function(words), seen, postorder, 0);
-    let main = main_plus_one(words);
-    if main == 0 {
-        return n;
+    match main_function(words) {
+        Some(main) => visit_function(words, main, seen, postorder, n),
+        None => n,
     }
-    visit_function(words, FunctionId(main - 1), seen, postorder, n)
 }
 
 // The blocks of function f, last finished first, after the first `at` of `out`.

@@ -1,7 +1,7 @@
 // The records of an image, read from its payload words.
 ghost use Rattle.std.specs.Prelude.{◌≡◌, ◌<◌, ◌≤◌, ◌||◌, length, ◌==◌, slice_index};
-ghost use Rattle.sir_data.specs.Records.{functions, blocks, operations, operand_words, case_targets, locals, init_function, main_plus_one, blocks_at, operations_at, operands_at, targets_at, entry_block, block_word, op_word, target, run, inputs, outputs, control, successors, condition, returned, ins, outs};
-ghost use Rattle.sir_data.specs.inner.Cases.{tested_locals, Decodes};
+ghost use Rattle.sir_data.specs.Records.{functions, blocks, operations, operand_words, case_targets, locals, init_function, main_plus_one, blocks_at, operations_at, operands_at, targets_at, entry_block, block_word, op_word, target, run, inputs, outputs, optional, control, successors, condition, returned, ins, outs};
+ghost use Rattle.sir_data.specs.inner.Cases.{tested_locals, function_ids, Decodes};
 ghost use Rattle.sir_data.specs.inner.WellFormed.{Sized, InRange};
 
 use crate::control::{Control, UnknownControl};
@@ -64,12 +64,12 @@ pub fn init_function(words: &[u32]) -> FunctionId
     FunctionId(words[7])
 }
 
-// One more than the main function, or 0 where there is none.
-pub fn main_plus_one(words: &[u32]) -> u32
+// The main function, if there is one: its word is one more, or 0.
+pub fn main_function(words: &[u32]) -> Option<FunctionId>
     requires { 9 ≤ length words.now }
-    ensures { result ≡ main_plus_one words.now }
+    ensures { function_ids result ≡ optional (main_plus_one words.now) }
 {
-    words[8]
+    words[8].checked_sub(1).map(FunctionId)
 }
 
 // Where the blocks start among the words: past the head and the entry blocks.

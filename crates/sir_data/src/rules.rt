@@ -7,11 +7,11 @@ ghost use Rattle.sir_data.specs.Refusals.{refused};
 ghost use Rattle.sir_data.specs.inner.WellFormed.{Sized, InRange};
 
 use crate::block_rules::{each_block_fields_ok, each_block_ids_ok, rule_10, rule_11};
-use crate::bounds::{all_below, optional_below};
+use crate::bounds::all_below;
 use crate::operation_rules::{each_op_fields_ok, each_op_ids_ok, rule_9};
 use crate::pages::pages_for;
 use crate::records::{
-    block_count, function_count, local_count, main_plus_one, operand_count, operands_at,
+    block_count, function_count, local_count, main_function, operand_count, operands_at,
     operation_count, target_count, targets_at,
 };
 use crate::refusals::Refusal;
@@ -111,7 +111,7 @@ fn functions_ok(words: &[u32]) -> bool
     if words[7] >= n {
         return false;
     }
-    if !optional_below(main_plus_one(words), n) {
+    if !main_function(words).is_none_or(|main| main.0 < n) {
         return false;
     }
     all_below(words, 9, n, block_count(words))

@@ -253,10 +253,6 @@ module _ {w : List ℕ} (ok : WellFormed w) {seen postorder : List ℕ} {n : ℕ
 
 -- ---- what a block calls, operation by operation
 
-one_of : (c : ℕ) → (c ≡ 0 → ⊥) → optional c ≡ (c - 1) ∷ []
-one_of zero z = absurd (z refl)
-one_of (suc c) z = ap (λ (x : ℕ). x ∷ []) (omega arith)
-
 module _ (w : List ℕ) (o last : ℕ) where
   pub calls_end : last ≤ o → bind (range o last) (callees w) ≡ []
   calls_end h = rw (range_none o last h)
@@ -300,8 +296,5 @@ module _ {w seen postorder seen₁ postorder₁ : List ℕ} {n : ℕ} (e : seen 
   pub visited_one : main_plus_one w ≡ 0 → VisitedAll w seen₁ postorder₁ n
   visited_one z = record { shows = rw z (a.same start (shows_start e)); held = a.held }
 
-  pub visited_two : {seen₂ postorder₂ : List ℕ} {r : ℕ} → (main_plus_one w ≡ 0 → ⊥) → VisitStep w (visit_function (fuel w) w (main_plus_one w - 1)) seen₁ postorder₁ n seen₂ postorder₂ r → VisitedAll w seen₂ postorder₂ r
-  visited_two {seen₂} {postorder₂} {r} z b = record {
-    shows = subst (λ (fs : List ℕ). Shows seen₂ postorder₂ r (foldl (λ v f. visit_function (fuel w) w f v) start (init_function w ∷ fs))) (sym (one_of (main_plus_one w) z)) (b.same _ (a.same start (shows_start e)));
-    held = b.held;
-  }
+  pub visited_two : {seen₂ postorder₂ : List ℕ} {m r : ℕ} → main_plus_one w ≡ suc m → VisitStep w (visit_function (fuel w) w m) seen₁ postorder₁ n seen₂ postorder₂ r → VisitedAll w seen₂ postorder₂ r
+  visited_two z b = record { shows = rw z (b.same _ (a.same start (shows_start e))); held = b.held }

@@ -10,11 +10,6 @@ use Rattle.plank_core.specs.inner.DenseIndexSet.{contains}
 use Rattle.sir_data.specs.Records.{functions, blocks}
 use Rattle.sir_analyses.specs.Order.{Visit, visited}
 
--- the function that an operation calls, if it calls one, as a list
-abbrev pub called : Option FunctionId → List ℕ
-called None = []
-called (Some f) = f.0 ∷ []
-
 -- the key of block b, finished on behalf of function f
 abbrev pub block_key : ℕ → ℕ → ℕ
 block_key f b = 256 * (f + 1) + b

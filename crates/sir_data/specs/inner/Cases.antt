@@ -1,6 +1,7 @@
 -- What the options and enums of `records` and `control` stand for.
 use Rattle.std.specs.Prelude.{◌≡◌, ℕ, ◌<◌, List, [], ◌∷◌, Option, Some, None, Result, MatchResult}
 use Rattle.plank_core.specs.declared.index.LocalId.{LocalId}
+use Rattle.plank_core.specs.declared.index.FunctionId.{FunctionId}
 use Rattle.sir_data.specs.declared.control.Control.{Control}
 use Rattle.sir_data.specs.declared.control.Control.TheVariants.{LastOpTerminates, InternalReturn, ContinuesTo, Branches, Switch}
 use Rattle.sir_data.specs.declared.control.UnknownControl.{UnknownControl}
@@ -9,6 +10,11 @@ use Rattle.sir_data.specs.declared.control.UnknownControl.{UnknownControl}
 abbrev pub tested_locals : Option LocalId → List ℕ
 tested_locals (Some v) = v.0 ∷ []
 tested_locals None = []
+
+-- one function or none
+abbrev pub function_ids : Option FunctionId → List ℕ
+function_ids (Some f) = f.0 ∷ []
+function_ids None = []
 
 -- the control kind of a block's record
 abbrev pub kind_of : Control → ℕ

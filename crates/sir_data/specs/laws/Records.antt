@@ -1,6 +1,6 @@
 -- What the readers of records share: runs as parts of the words, and successors by place.
 use Rattle.std.specs.Prelude.{◌≡◌, ℕ, zero, suc, ◌+◌, ◌-◌, ◌<◌, ◌≤◌, Bool, true, false, List, [], ◌∷◌, ◌++◌, map, length, take, drop, ◌==◌, slice_index, refl}
-use Rattle.std.proofs.Common.{ap, ◌∙◌, arith, add-suc, length-append, drop-cons, get_or-append-add, eqb-true, ne_eqb}
+use Rattle.std.proofs.Common.{sym, ap, ◌∙◌, arith, add-suc, length-append, drop-cons, get_or-append-add, eqb-true, ne_eqb}
 use Rattle.std.proofs.Math.ListN.{get_or-append}
 use Rattle.plank_core.specs.Lists.{count}
 use Rattle.plank_core.specs.laws.Loops.{length_map_count, get_or_map_count}
@@ -20,6 +20,15 @@ pub run_part : (w : List ℕ) (s e : ℕ) → Sized w → s ≤ e → e ≤ oper
 run_part w s e z h k = count_part w (operands_at w) s (e - s) (omega arith)
 
 -- ---- one more, perhaps
+
+-- the optional id that a list of none or one stands for
+pub optional_none : (k : ℕ) → [] ≡ optional k → k ≡ 0
+optional_none zero e = refl
+optional_none (suc n) e = absurd (omega (arith, ap length e))
+
+pub optional_one : (k f : ℕ) → f ∷ [] ≡ optional k → k ≡ suc f
+optional_one zero f e = absurd (omega (arith, ap length e))
+optional_one (suc n) f e = ap suc (sym (ap (λ (l : List ℕ). slice_index l 0) e))
 
 pub optional_some : (k : ℕ) → ¬ (k ≡ 0) → length (optional k) ≡ 1
 optional_some zero h = absurd (h refl)
