@@ -16,9 +16,7 @@ ghost use Rattle.report_lines.specs.inner.AnswerLines.{local_line, allocation_li
 ghost use Rattle.report_lines.specs.Counting.{too_long, local_too_long, allocation_too_long, some_too_long, reported};
 
 use crate::counting::{allocation_too_long, local_too_long};
-use crate::lines::{
-    AllocationLine, BlockLine, LocalLine, OrderLine, RefusedLine, RoundsLine,
-};
+use crate::lines::{AllocationLine, BlockLine, LocalLine, OrderLine, RefusedLine, RoundsLine};
 use plank_core::index::{AllocId, BlockId, LocalId};
 use plank_core::rows::row_of;
 use sir_analyses::allocation_answers::{allocation_answer, compute_pointers};
@@ -256,11 +254,7 @@ pub fn print_loaded<R: Print, F: FnOnce(&[u32], &[u32], &[u32]) -> Printed>(
     let mut visit = [0u32; VISIT];
     let mut sites = [0u32; 512];
     match load(image, &mut words, &mut postorder, &mut visit, &mut sites) {
-        Ok(sizes) => print(
-            &words[..sizes.words],
-            &visit,
-            &sites[..sizes.allocations],
-        ),
+        Ok(sizes) => print(&words[..sizes.words], &visit, &sites[..sizes.allocations]),
         Err(refusal) => print_refused(rt, refusal),
     }
 }

@@ -11,11 +11,7 @@ use sir_data::pages::word_at;
 use std::fmt;
 
 // Each of some ids after a name.
-pub fn write_named<W: fmt::Write>(
-    f: &mut fmt::Formatter<W>,
-    name: &str,
-    ids: &[u32],
-) -> fmt::Result
+pub fn write_named<W: fmt::Write>(f: &mut fmt::Formatter<W>, name: &str, ids: &[u32]) -> fmt::Result
     ensures { DisplaysOnOk W.write_str_gives f.old result (Some (bind ids.now (named name.now))) f.new }
 {
     for id in ids {

@@ -16,8 +16,9 @@ returns-then-local_too_long g c =
     let P = c.requires in
     c.print_refused.ensures ∙ rw (others_fit P.liveness_stage.sets P.pointer_stage.2)
     (elim c.then-local_too_long.branch [
-      then-local_too_long-via-then-local_too_long w ↦ rw (sym c.local_too_long.ensures ∙ w.if-local_too_long.true) refl
-    | then-local_too_long-via-else-local_too_long+then-allocation_too_long w ↦ rw (sym c.local_too_long.ensures ∙ w.if-local_too_long.false, sym w.allocation_too_long.ensures ∙ w.if-allocation_too_long.true) refl ])
+      | then-local_too_long-via-then-local_too_long w ↦ rw (sym c.local_too_long.ensures ∙ w.if-local_too_long.true) refl
+      | then-local_too_long-via-else-local_too_long+then-allocation_too_long w ↦ rw (sym c.local_too_long.ensures ∙ w.if-local_too_long.false, sym w.allocation_too_long.ensures ∙ w.if-allocation_too_long.true) refl
+    ])
 
 pub returns : goal.returns
 returns g c =
