@@ -7,7 +7,8 @@ ghost use Rattle.sir_data.specs.Records.{blocks};
 ghost use Rattle.sir_analyses.specs.All.{all};
 ghost use Rattle.sir_analyses.specs.Allocation.{allocs, merged};
 ghost use Rattle.sir_analyses.specs.Answers.{interval_words, allocation_answer};
-ghost use Rattle.sir_analyses.specs.Calls.{made, answered};
+ghost use Rattle.sir_analyses.specs.Calls.{answered};
+ghost use Rattle.sir_analyses.specs.inner.Outcomes.{outcome};
 ghost use Rattle.sir_analyses.specs.inner.Stages.{VisitStage, LivenessStage, PointerStage};
 ghost use Rattle.sir_answers.specs.inner.Scatter.{number_at, backward, Below, Fits, Scatters, Counts};
 ghost use Rattle.sir_answers.specs.inner.IntervalPieces.{closed_pieces};
@@ -21,11 +22,11 @@ use plank_core::index::{AllocId, BlockId, OpIdx};
 use plank_core::rows::{row_of, row_union_with};
 use sir_analyses::allocation_liveness::site_of;
 use sir_analyses::allocation_words::{AllocHead, alloc_head};
-use sir_analyses::answers::Answer;
 use sir_analyses::local_intervals::BLOCK_END;
 use sir_analyses::merged_intervals::{live_after, live_before};
 use sir_analyses::stages::{alloc_sites, flags_of, is_visited, reads, writes};
 use sir_data::records::{block_count, block_operations};
+use sir_data::refusals::Refusal;
 
 // What a start closes for each of some allocations, where an end is open, in front of what each has. One function for this and
 // `close_ends` would take `append` or `prepend` with a direction to state what each asks, and be longer than the two.
@@ -238,12 +239,12 @@ fn fill_allocations(
     pointers: &[u32],
     cursors: &mut [usize],
     out: &mut [u8],
-) -> Answer
+) -> Result<usize, Refusal>
     requires visit_stage { VisitStage words.now visit.now }
     requires liveness_stage { LivenessStage words.now live.now }
     requires pointer_stage { PointerStage words.now pointers.now }
     requires cursors_len { (length cursors.old ≡ length (allocs words.now)) × ((a : ℕ) → a < length cursors.old → number_at cursors.old a ≡ 2 ^ 59) }
-    ensures { made result.number result.length out.new ≡ answered (bind (all (λ w. length (allocs w)) allocation_answer words.now) bytes_of) out.old }
+    ensures { outcome result out.new ≡ answered (bind (all (λ w. length (allocs w)) allocation_answer words.now) bytes_of) out.old }
 {
     count_allocations(words, visit, live, pointers, cursors);
     segments_answer(
@@ -260,11 +261,11 @@ pub fn all_allocations_answer(
     live: &[u64],
     pointers: &[u32],
     out: &mut [u8],
-) -> Answer
+) -> Result<usize, Refusal>
     requires visit_stage { VisitStage words.now visit.now }
     requires liveness_stage { LivenessStage words.now live.now }
     requires pointer_stage { PointerStage words.now pointers.now }
-    ensures { made result.number result.length out.new ≡ answered (bind (all (λ w. length (allocs w)) allocation_answer words.now) bytes_of) out.old }
+    ensures { outcome result out.new ≡ answered (bind (all (λ w. length (allocs w)) allocation_answer words.now) bytes_of) out.old }
 {
     let mut cursors = [576460752303423488usize; 512];
     let n = alloc_sites(pointers).len();

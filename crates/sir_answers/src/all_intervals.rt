@@ -8,7 +8,8 @@ ghost use Rattle.sir_data.specs.Records.{blocks, locals, ops};
 ghost use Rattle.sir_analyses.specs.Liveness.{end_open};
 ghost use Rattle.sir_analyses.specs.All.{all};
 ghost use Rattle.sir_analyses.specs.Answers.{intervals_answer};
-ghost use Rattle.sir_analyses.specs.Calls.{made, answered};
+ghost use Rattle.sir_analyses.specs.Calls.{answered};
+ghost use Rattle.sir_analyses.specs.inner.Outcomes.{outcome};
 ghost use Rattle.sir_analyses.specs.inner.Stages.{VisitStage, LivenessStage, ends_in, exits_in};
 ghost use Rattle.sir_answers.specs.inner.Scatter.{number_at, forward, Below, Fits, Scatters, Counts};
 ghost use Rattle.sir_answers.specs.inner.IntervalPieces.{closed_pieces, OpenEnds, operations_pieces, start_pieces, block_pieces, local_pieces};
@@ -18,11 +19,11 @@ use crate::segments::segments_answer;
 use plank_core::dense_index_set::list;
 use plank_core::index::BlockId;
 use plank_core::rows::row_of;
-use sir_analyses::answers::Answer;
 use sir_analyses::local_intervals::BLOCK_END;
 use sir_analyses::local_liveness::compute_liveness_at_block_entry;
 use sir_analyses::stages::{ends, exits, reads, rpo, writes};
 use sir_data::records::{block_operations, local_count};
+use sir_data::refusals::Refusal;
 
 // The members of a row of a table, ascending, to the front of `ids`: how many.
 pub fn list_row(table: &[u64], row: usize, ids: &mut [u32]) -> usize
@@ -200,11 +201,11 @@ fn fill_intervals(
     live: &[u64],
     cursors: &mut [usize],
     out: &mut [u8],
-) -> Answer
+) -> Result<usize, Refusal>
     requires visit_stage { VisitStage words.now visit.now }
     requires liveness_stage { LivenessStage words.now live.now }
     requires cursors_len { (length cursors.old ≡ locals words.now) × ((v : ℕ) → number_at cursors.old v ≡ 0) }
-    ensures { made result.number result.length out.new ≡ answered (bind (all locals intervals_answer words.now) bytes_of) out.old }
+    ensures { outcome result out.new ≡ answered (bind (all locals intervals_answer words.now) bytes_of) out.old }
 {
     count_intervals(words, visit, live, cursors);
     segments_answer(
@@ -215,10 +216,15 @@ fn fill_intervals(
 }
 
 // The intervals of all locals.
-pub fn all_intervals_answer(words: &[u32], visit: &[u32], live: &[u64], out: &mut [u8]) -> Answer
+pub fn all_intervals_answer(
+    words: &[u32],
+    visit: &[u32],
+    live: &[u64],
+    out: &mut [u8],
+) -> Result<usize, Refusal>
     requires visit_stage { VisitStage words.now visit.now }
     requires liveness_stage { LivenessStage words.now live.now }
-    ensures { made result.number result.length out.new ≡ answered (bind (all locals intervals_answer words.now) bytes_of) out.old }
+    ensures { outcome result out.new ≡ answered (bind (all locals intervals_answer words.now) bytes_of) out.old }
 {
     let mut cursors = [0usize; 512];
     let n = local_count(words) as usize;

@@ -6,7 +6,8 @@ ghost use Rattle.sir_data.specs.Records.{blocks};
 ghost use Rattle.sir_data.specs.inner.WellFormed.{WellFormed};
 ghost use Rattle.sir_analyses.specs.All.{all};
 ghost use Rattle.sir_analyses.specs.Answers.{predecessors_answer};
-ghost use Rattle.sir_analyses.specs.Calls.{made, answered};
+ghost use Rattle.sir_analyses.specs.Calls.{answered};
+ghost use Rattle.sir_analyses.specs.inner.Outcomes.{outcome};
 ghost use Rattle.sir_answers.specs.inner.Pieces.{edge_pieces, predecessor_pieces};
 ghost use Rattle.sir_answers.specs.inner.Scatter.{forward, Fits, Scatters, Counts};
 ghost use Rattle.sir_analyses.specs.inner.Stages.{VisitStage};
@@ -14,9 +15,9 @@ ghost use Rattle.sir_analyses.specs.inner.Stages.{VisitStage};
 use crate::scatter::{append, put_lengths};
 use crate::segments::segments_answer;
 use plank_core::index::BlockId;
-use sir_analyses::answers::Answer;
 use sir_analyses::stages::is_visited;
 use sir_data::records::block_count;
+use sir_data::refusals::Refusal;
 use sir_data::view::{successor, successor_count};
 
 // Block p, for each of its successors.
@@ -69,10 +70,15 @@ fn write_predecessors(words: &[u32], visit: &[u32], cursors: &mut [usize], out: 
 }
 
 // Counts, then writes, with cursors that stand at 0.
-fn fill_predecessors(words: &[u32], visit: &[u32], cursors: &mut [usize], out: &mut [u8]) -> Answer
+fn fill_predecessors(
+    words: &[u32],
+    visit: &[u32],
+    cursors: &mut [usize],
+    out: &mut [u8],
+) -> Result<usize, Refusal>
     requires visit_stage { VisitStage words.now visit.now }
     requires cursors_len { (length cursors.old ≡ blocks words.now) × ((v : ℕ) → get_or cursors.old v 0 ≡ 0) }
-    ensures { made result.number result.length out.new ≡ answered (bind (all blocks predecessors_answer words.now) bytes_of) out.old }
+    ensures { outcome result out.new ≡ answered (bind (all blocks predecessors_answer words.now) bytes_of) out.old }
 {
     count_predecessors(words, visit, cursors);
     segments_answer(
@@ -83,9 +89,13 @@ fn fill_predecessors(words: &[u32], visit: &[u32], cursors: &mut [usize], out: &
 }
 
 // The predecessors of all blocks.
-pub fn all_predecessors_answer(words: &[u32], visit: &[u32], out: &mut [u8]) -> Answer
+pub fn all_predecessors_answer(
+    words: &[u32],
+    visit: &[u32],
+    out: &mut [u8],
+) -> Result<usize, Refusal>
     requires { VisitStage words.now visit.now }
-    ensures { made result.number result.length out.new ≡ answered (bind (all blocks predecessors_answer words.now) bytes_of) out.old }
+    ensures { outcome result out.new ≡ answered (bind (all blocks predecessors_answer words.now) bytes_of) out.old }
 {
     let mut cursors = [0usize; 256];
     let n = block_count(words) as usize;

@@ -6,7 +6,8 @@ ghost use Rattle.sir_data.specs.Pages.{bytes_of};
 ghost use Rattle.sir_data.specs.Records.{blocks, locals};
 ghost use Rattle.sir_analyses.specs.All.{all};
 ghost use Rattle.sir_analyses.specs.Answers.{entry_answer, exit_answer, owner_answer};
-ghost use Rattle.sir_analyses.specs.Calls.{made, answered};
+ghost use Rattle.sir_analyses.specs.Calls.{answered};
+ghost use Rattle.sir_analyses.specs.inner.Outcomes.{outcome};
 ghost use Rattle.sir_analyses.specs.inner.Stages.{VisitStage, LivenessStage, PointerStage};
 ghost use Rattle.sir_analyses.specs.inner.Writing.{Puts};
 
@@ -14,10 +15,11 @@ use crate::counted::counted_answer;
 use plank_core::dense_index_set::{len, list};
 use plank_core::index::{BlockId, LocalId};
 use plank_core::rows::row_of;
-use sir_analyses::answers::{Answer, put_word, put_words};
+use sir_analyses::answers::{put_word, put_words};
 use sir_analyses::local_liveness::compute_liveness_at_block_entry;
 use sir_analyses::stages::{exits, is_visited, owner_of};
 use sir_data::records::{block_count, local_count};
+use sir_data::refusals::Refusal;
 
 // The members of a set after their number; where they are only counted, none is listed.
 fn put_set(set: &[u64], n: usize, out: &mut [u8]) -> usize
@@ -97,26 +99,31 @@ fn put_owners(words: &[u32], pointers: &[u32], out: &mut [u8]) -> usize
 }
 
 // The entry sets of all blocks.
-pub fn all_entry_sets_answer(words: &[u32], visit: &[u32], live: &[u64], out: &mut [u8]) -> Answer
+pub fn all_entry_sets_answer(
+    words: &[u32],
+    visit: &[u32],
+    live: &[u64],
+    out: &mut [u8],
+) -> Result<usize, Refusal>
     requires visit_stage { VisitStage words.now visit.now }
     requires liveness_stage { LivenessStage words.now live.now }
-    ensures { made result.number result.length out.new ≡ answered (bind (all blocks entry_answer words.now) bytes_of) out.old }
+    ensures { outcome result out.new ≡ answered (bind (all blocks entry_answer words.now) bytes_of) out.old }
 {
     counted_answer(|part| put_entry_sets(words, visit, live, part), out)
 }
 
 // The exit sets of all blocks.
-pub fn all_exit_sets_answer(words: &[u32], live: &[u64], out: &mut [u8]) -> Answer
+pub fn all_exit_sets_answer(words: &[u32], live: &[u64], out: &mut [u8]) -> Result<usize, Refusal>
     requires { LivenessStage words.now live.now }
-    ensures { made result.number result.length out.new ≡ answered (bind (all blocks exit_answer words.now) bytes_of) out.old }
+    ensures { outcome result out.new ≡ answered (bind (all blocks exit_answer words.now) bytes_of) out.old }
 {
     counted_answer(|part| put_exit_sets(words, live, part), out)
 }
 
 // The owners of all locals.
-pub fn all_owners_answer(words: &[u32], pointers: &[u32], out: &mut [u8]) -> Answer
+pub fn all_owners_answer(words: &[u32], pointers: &[u32], out: &mut [u8]) -> Result<usize, Refusal>
     requires { PointerStage words.now pointers.now }
-    ensures { made result.number result.length out.new ≡ answered (bind (all locals owner_answer words.now) bytes_of) out.old }
+    ensures { outcome result out.new ≡ answered (bind (all locals owner_answer words.now) bytes_of) out.old }
 {
     counted_answer(|part| put_owners(words, pointers, part), out)
 }

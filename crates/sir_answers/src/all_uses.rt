@@ -8,7 +8,8 @@ ghost use Rattle.sir_data.specs.Records.{blocks, locals};
 ghost use Rattle.sir_data.specs.inner.WellFormed.{WellFormed};
 ghost use Rattle.sir_analyses.specs.All.{all};
 ghost use Rattle.sir_analyses.specs.Answers.{uses_answer};
-ghost use Rattle.sir_analyses.specs.Calls.{made, answered};
+ghost use Rattle.sir_analyses.specs.Calls.{answered};
+ghost use Rattle.sir_analyses.specs.inner.Outcomes.{outcome};
 ghost use Rattle.sir_analyses.specs.Order.{blocks_rpo};
 ghost use Rattle.sir_answers.specs.inner.Pieces.{input_use_pieces, condition_pieces, output_pieces, end_pieces, block_use_pieces, one_pieces, OperationTimes, input_pieces};
 ghost use Rattle.sir_analyses.specs.inner.Stages.{VisitStage};
@@ -17,9 +18,9 @@ ghost use Rattle.sir_answers.specs.inner.Scatter.{forward, Fits, Scatters, Count
 use crate::scatter::{advance, advance_each, append, append_each, put_lengths};
 use crate::segments::segments_answer;
 use plank_core::index::{BlockId, OpIdx};
-use sir_analyses::answers::Answer;
 use sir_analyses::stages::rpo;
 use sir_data::records::{local_count, op_inputs, operation_count};
+use sir_data::refusals::Refusal;
 use sir_data::view::{condition, operations, outputs};
 
 // A block's operations in turn, for each input.
@@ -174,10 +175,15 @@ fn write_uses(words: &[u32], visit: &[u32], cursors: &mut [usize], out: &mut [u8
 }
 
 // Counts, then writes, with cursors that stand at 0.
-fn fill_uses(words: &[u32], visit: &[u32], cursors: &mut [usize], out: &mut [u8]) -> Answer
+fn fill_uses(
+    words: &[u32],
+    visit: &[u32],
+    cursors: &mut [usize],
+    out: &mut [u8],
+) -> Result<usize, Refusal>
     requires visit_stage { VisitStage words.now visit.now }
     requires cursors_len { (length cursors.old ≡ locals words.now) × ((v : ℕ) → get_or cursors.old v 0 ≡ 0) }
-    ensures { made result.number result.length out.new ≡ answered (bind (all locals uses_answer words.now) bytes_of) out.old }
+    ensures { outcome result out.new ≡ answered (bind (all locals uses_answer words.now) bytes_of) out.old }
 {
     count_uses(words, visit, cursors);
     segments_answer(
@@ -188,9 +194,9 @@ fn fill_uses(words: &[u32], visit: &[u32], cursors: &mut [usize], out: &mut [u8]
 }
 
 // The uses of all locals.
-pub fn all_uses_answer(words: &[u32], visit: &[u32], out: &mut [u8]) -> Answer
+pub fn all_uses_answer(words: &[u32], visit: &[u32], out: &mut [u8]) -> Result<usize, Refusal>
     requires { VisitStage words.now visit.now }
-    ensures { made result.number result.length out.new ≡ answered (bind (all locals uses_answer words.now) bytes_of) out.old }
+    ensures { outcome result out.new ≡ answered (bind (all locals uses_answer words.now) bytes_of) out.old }
 {
     let mut cursors = [0usize; 512];
     let n = local_count(words) as usize;

@@ -5,7 +5,8 @@ ghost use Rattle.plank_core.specs.Lists.{◌∈◌};
 ghost use Rattle.sir_data.specs.Records.{blocks, ops};
 ghost use Rattle.sir_data.specs.inner.WellFormed.{WellFormed};
 ghost use Rattle.sir_analyses.specs.Order.{blocks_rpo};
-ghost use Rattle.sir_analyses.specs.Calls.{made, answered};
+ghost use Rattle.sir_analyses.specs.Calls.{answered};
+ghost use Rattle.sir_analyses.specs.inner.Outcomes.{outcome};
 ghost use Rattle.sir_analyses.specs.Chart.{block_lines, series_lines, on_sheets, sheets, series_for, series_count, text_of, chart_text, lines_of};
 ghost use Rattle.sir_analyses.specs.inner.Stages.{VisitStage, AcceptedStage, LivenessStage, PointerStage};
 ghost use Rattle.sir_answers.specs.inner.Columns.{OtherLocals};
@@ -16,11 +17,11 @@ use crate::open_allocations::live_around;
 use plank_core::dense_index_set::DenseIndexSet;
 use plank_core::index::{BlockId, OpIdx};
 use sir_analyses::allocation_answers::compute_pointers;
-use sir_analyses::answers::{Answer, refuse};
 use sir_analyses::local_liveness::compute_liveness;
 use sir_analyses::merged_intervals::{live_after, live_before};
 use sir_analyses::stages::{LIVE, POINTERS, alloc_sites, rpo};
 use sir_data::records::block_operations;
+use sir_data::refusals::Refusal;
 
 // The lines of block b: a heading, and one for each of its operations.
 pub fn block_lines(words: &[u32], b: BlockId) -> usize
@@ -166,23 +167,25 @@ fn put_chart(
 
 // The chart of an accepted image's words. How long it is is known from the blocks and the number of allocations, so a slice that is too short
 // is told before anything is analysed.
-pub fn chart_answer(words: &[u32], visit: &[u32], sites: &[u32], out: &mut [u8]) -> Answer
+pub fn chart_answer(
+    words: &[u32],
+    visit: &[u32],
+    sites: &[u32],
+    out: &mut [u8],
+) -> Result<usize, Refusal>
     requires visit_stage { VisitStage words.now visit.now }
     requires accepted_stage { AcceptedStage words.now sites.now }
-    ensures { made result.number result.length out.new ≡ answered (chart_text words.now) out.old }
+    ensures { outcome result out.new ≡ answered (chart_text words.now) out.old }
 {
     let bytes = LINE * on_sheets(series_lines(words, visit));
     let n = bytes * series_count(sites.len());
     if out.len() < n {
-        return refuse(14);
+        return Err(Refusal::ShortResult);
     }
     let mut live = [0u64; LIVE];
     compute_liveness(words, visit, &mut live);
     let mut pointers = [0u32; POINTERS];
     compute_pointers(words, visit, sites, &mut pointers);
     put_chart(words, visit, &live, &pointers, bytes, &mut out[..n]);
-    Answer {
-        number: 0,
-        length: n as u64,
-    }
+    Ok(n)
 }

@@ -7,7 +7,8 @@ ghost use Rattle.sir_data.specs.Pages.{bytes_of};
 ghost use Rattle.sir_data.specs.Records.{blocks, ops};
 ghost use Rattle.sir_analyses.specs.Order.{is_visited};
 ghost use Rattle.sir_analyses.specs.Allocation.{allocs, marked, merged};
-ghost use Rattle.sir_analyses.specs.Calls.{made, answered};
+ghost use Rattle.sir_analyses.specs.Calls.{answered};
+ghost use Rattle.sir_analyses.specs.inner.Outcomes.{outcome};
 ghost use Rattle.sir_analyses.specs.Open.{place_of, is_common, crossing};
 ghost use Rattle.sir_analyses.specs.inner.Stages.{VisitStage, LivenessStage, PointerStage};
 ghost use Rattle.sir_answers.specs.inner.LiveAround.{ReachOf, first_passing};
@@ -16,11 +17,12 @@ use crate::open_allocations::live_around;
 use plank_core::dense_index_set::intersects;
 use plank_core::index::{AllocId, BlockId, OpIdx};
 use sir_analyses::allocation_answers::owned_locals;
-use sir_analyses::answers::{Answer, words_answer};
+use sir_analyses::answers::words_answer;
 use sir_analyses::local_liveness::compute_liveness;
 use sir_analyses::merged_intervals::{live_after, live_before};
 use sir_analyses::stages::{LIVE, is_marked, is_visited};
 use sir_data::records::{block_count, block_operations};
+use sir_data::refusals::Refusal;
 
 // Whether each of two sets has a member in a third.
 fn both_meet<'a>(one: &'a [u64], other: &'a [u64], set: &'a [u64]) -> bool
@@ -112,11 +114,11 @@ pub fn crossing_answer(
     one: AllocId,
     other: AllocId,
     out: &mut [u8],
-) -> Answer
+) -> Result<usize, Refusal>
     requires visit_stage { VisitStage words.now visit.now }
     requires pointer_stage { PointerStage words.now pointers.now }
     requires one_in_bounds { (one.0 < length (allocs words.now)) × (other.0 < length (allocs words.now)) }
-    ensures { made result.number result.length out.new ≡ answered (bind (crossing words.now one.0 other.0) bytes_of) out.old }
+    ensures { outcome result out.new ≡ answered (bind (crossing words.now one.0 other.0) bytes_of) out.old }
 {
     if is_marked(pointers, one) || is_marked(pointers, other) {
         return words_answer(&[1, 0, 0], out);

@@ -5,7 +5,8 @@ ghost use Rattle.plank_core.specs.inner.DenseIndexSet.{contains};
 ghost use Rattle.sir_data.specs.Pages.{bytes_of};
 ghost use Rattle.sir_data.specs.Records.{blocks, ops};
 ghost use Rattle.sir_analyses.specs.Order.{is_visited};
-ghost use Rattle.sir_analyses.specs.Calls.{made, answered};
+ghost use Rattle.sir_analyses.specs.Calls.{answered};
+ghost use Rattle.sir_analyses.specs.inner.Outcomes.{outcome};
 ghost use Rattle.sir_analyses.specs.Open.{open_at};
 ghost use Rattle.sir_analyses.specs.inner.Stages.{VisitStage, LivenessStage, PointerStage, reads_in};
 ghost use Rattle.sir_analyses.specs.inner.Tables.{Adds};
@@ -16,11 +17,12 @@ use crate::owned_tables::unmarked_owner;
 use plank_core::dense_index_set::list;
 use plank_core::index::{BlockId, LocalId, OpIdx};
 use plank_core::rows::{row_add, row_of, row_union_with};
-use sir_analyses::answers::{Answer, words_answer};
+use sir_analyses::answers::words_answer;
 use sir_analyses::local_liveness::compute_liveness;
 use sir_analyses::merged_intervals::{live_after, live_before};
 use sir_analyses::stages::{LIVE, is_visited, reads};
 use sir_data::records::block_operations;
+use sir_data::refusals::Refusal;
 
 // The locals that are live before operation o or after it, from those live after it.
 pub fn live_around(live: &[u64], o: OpIdx, set: &mut [u64])
@@ -80,11 +82,11 @@ fn open_in_visited(
     b: BlockId,
     o: OpIdx,
     out: &mut [u8],
-) -> Answer
+) -> Result<usize, Refusal>
     requires liveness_stage { LivenessStage words.now live.now }
     requires pointer_stage { PointerStage words.now pointers.now }
     requires b_bound { (b.0 < blocks words.now) × (o.0 ∈ ops words.now b.0) × (is_visited words.now b.0 ≡ true) }
-    ensures { made result.number result.length out.new ≡ answered (bind (open_at words.now b.0 o.0) bytes_of) out.old }
+    ensures { outcome result out.new ≡ answered (bind (open_at words.now b.0 o.0) bytes_of) out.old }
 {
     let mut set = [0u64; 8];
     scan_to(words, live, b, o, &mut set);
@@ -101,11 +103,11 @@ pub fn open_answer(
     b: BlockId,
     o: OpIdx,
     out: &mut [u8],
-) -> Answer
+) -> Result<usize, Refusal>
     requires visit_stage { VisitStage words.now visit.now }
     requires pointer_stage { PointerStage words.now pointers.now }
     requires b_bound { (b.0 < blocks words.now) × (o.0 ∈ ops words.now b.0) }
-    ensures { made result.number result.length out.new ≡ answered (bind (open_at words.now b.0 o.0) bytes_of) out.old }
+    ensures { outcome result out.new ≡ answered (bind (open_at words.now b.0 o.0) bytes_of) out.old }
 {
     if !is_visited(visit, b) {
         return words_answer(&[], out);

@@ -3,7 +3,8 @@ ghost use Rattle.std.specs.Prelude.{◌≡◌, ◌≤◌, length};
 ghost use Rattle.plank_core.specs.Lists.{bind};
 ghost use Rattle.sir_data.specs.Pages.{bytes_of};
 ghost use Rattle.sir_analyses.specs.Answers.{predecessors_answer, uses_answer};
-ghost use Rattle.sir_analyses.specs.Calls.{made, answered};
+ghost use Rattle.sir_analyses.specs.Calls.{answered};
+ghost use Rattle.sir_analyses.specs.inner.Outcomes.{outcome};
 ghost use Rattle.sir_answers.specs.inner.Questions.{answer_bytes};
 ghost use Rattle.sir_analyses.specs.inner.Stages.{OrderStage, VisitStage};
 ghost use Rattle.sir_analyses.specs.inner.Visiting.{order_in};
@@ -14,15 +15,16 @@ use crate::all_uses::all_uses_answer;
 use crate::counted::counted_answer;
 use crate::questions::OrderQuestion;
 use plank_core::index::{BlockId, LocalId};
-use sir_analyses::answers::{Answer, words_answer};
+use sir_analyses::answers::words_answer;
 use sir_analyses::def_use::{input_counts, put_uses};
 use sir_analyses::predecessors::put_predecessors;
 use sir_analyses::reverse_post_order::order_words;
+use sir_data::refusals::Refusal;
 
 // The order, from the postorder of the visit.
-fn visit_answer(postorder: &[u32], out: &mut [u8]) -> Answer
+fn visit_answer(postorder: &[u32], out: &mut [u8]) -> Result<usize, Refusal>
     requires { length (order_in postorder.now) ≤ 384 }
-    ensures { made result.number result.length out.new ≡ answered (bind (order_in postorder.now) bytes_of) out.old }
+    ensures { outcome result out.new ≡ answered (bind (order_in postorder.now) bytes_of) out.old }
 {
     let mut order = [0u32; 384];
     let n = order_words(postorder, &mut order);
@@ -30,17 +32,22 @@ fn visit_answer(postorder: &[u32], out: &mut [u8]) -> Answer
 }
 
 // The predecessors of a block.
-fn predecessors_answer(words: &[u32], visit: &[u32], b: BlockId, out: &mut [u8]) -> Answer
+fn predecessors_answer(
+    words: &[u32],
+    visit: &[u32],
+    b: BlockId,
+    out: &mut [u8],
+) -> Result<usize, Refusal>
     requires { VisitStage words.now visit.now }
-    ensures { made result.number result.length out.new ≡ answered (bind (predecessors_answer words.now b.0) bytes_of) out.old }
+    ensures { outcome result out.new ≡ answered (bind (predecessors_answer words.now b.0) bytes_of) out.old }
 {
     counted_answer(|part| put_predecessors(words, visit, b, part), out)
 }
 
 // The uses of a local.
-fn uses_answer(words: &[u32], visit: &[u32], v: LocalId, out: &mut [u8]) -> Answer
+fn uses_answer(words: &[u32], visit: &[u32], v: LocalId, out: &mut [u8]) -> Result<usize, Refusal>
     requires { VisitStage words.now visit.now }
-    ensures { made result.number result.length out.new ≡ answered (bind (uses_answer words.now v.0) bytes_of) out.old }
+    ensures { outcome result out.new ≡ answered (bind (uses_answer words.now v.0) bytes_of) out.old }
 {
     let mut counts = [0u32; 1024];
     input_counts(words, v, &mut counts);
@@ -54,10 +61,10 @@ pub fn order_answer(
     visit: &[u32],
     question: OrderQuestion,
     out: &mut [u8],
-) -> Answer
+) -> Result<usize, Refusal>
     requires order_stage { OrderStage words.now postorder.now }
     requires visit_stage { VisitStage words.now visit.now }
-    ensures { made result.number result.length out.new ≡ answered (answer_bytes (Question.OfOrder question) words.now) out.old }
+    ensures { outcome result out.new ≡ answered (answer_bytes (Question.OfOrder question) words.now) out.old }
 {
     match question {
         OrderQuestion::Order => visit_answer(postorder, out),

@@ -3,10 +3,12 @@ ghost use Rattle.std.specs.Prelude.{◌≡◌, ◌++◌, ◌+◌, ◌*◌, ◌/�
 ghost use Rattle.plank_core.specs.Lists.{bind, upto};
 ghost use Rattle.sir_data.specs.Pages.{pages_for, bytes_of};
 ghost use Rattle.sir_data.specs.Paging.{page_of, pages_of};
-ghost use Rattle.sir_analyses.specs.Calls.{made, answered};
+ghost use Rattle.sir_analyses.specs.Calls.{answered};
+ghost use Rattle.sir_analyses.specs.inner.Outcomes.{outcome};
 
-use sir_analyses::answers::{Answer, finish, put_word, put_words};
+use sir_analyses::answers::{finish, put_word, put_words};
 use sir_data::pages::page_check;
+use sir_data::refusals::Refusal;
 
 // Page `page` of some words, to the front of `out`: its number, 126 words, and the check of what stands there by then.
 fn write_page(words: &[u32], page: usize, out: &mut [u8])
@@ -33,12 +35,11 @@ fn write_pages(words: &[u32], out: &mut [u8])
 }
 
 // The pages of words that stand with their padding.
-pub fn pages_answer(words: &[u32], out: &mut [u8]) -> Answer
+pub fn pages_answer(words: &[u32], out: &mut [u8]) -> Result<usize, Refusal>
     requires { (length words.now ≡ 126 * pages_for (length words.now)) × (length words.now ≤ 14742) }
-    ensures { made result.number result.length out.new ≡ answered (pages_of words.now) out.old }
+    ensures { outcome result out.new ≡ answered (pages_of words.now) out.old }
 {
-    let answer = finish(128 * (words.len() / 126), out.len());
-    let end = answer.length as usize;
+    let end = finish(128 * (words.len() / 126), out.len())?;
     write_pages(words, &mut out[..end]);
-    answer
+    Ok(end)
 }

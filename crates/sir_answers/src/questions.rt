@@ -1,6 +1,7 @@
 // The questions that can be put to an image, by what they need: the order alone, liveness, or the pointers of allocations; and the chart,
 // which needs all of these once its slice is long enough.
 ghost use Rattle.std.specs.Prelude.{◌≡◌, not, cond, [], ◌∷◌, ◌≤◌, ltb, length};
+ghost use Rattle.sir_data.specs.Refusals.{refused};
 ghost use Rattle.sir_data.specs.Rules.{first};
 ghost use Rattle.sir_data.specs.inner.WellFormed.{WellFormed};
 ghost use Rattle.sir_analyses.specs.Open.{open_rules};
@@ -9,6 +10,7 @@ ghost use Rattle.sir_answers.specs.inner.Questions.{own_rules};
 
 use plank_core::index::{AllocId, BlockId, LocalId, OpIdx};
 use sir_data::records::{block_count, block_operations, local_count, operation_count};
+use sir_data::refusals::Refusal;
 
 #[derive(Clone, Copy)]
 pub enum OrderQuestion {
@@ -48,80 +50,71 @@ pub enum Question {
     Chart,
 }
 
-// 13 for an id that is not below its count, else 0.
-fn id_refusal(id: u32, count: u32) -> u32
-    ensures { result ≡ cond (not (ltb id count)) 13 0 }
+// Refuses an id that is not below its count.
+fn id_refusal(id: u32, count: u32) -> Result<(), Refusal>
+    ensures { refused result ≡ cond (not (ltb id count)) 13 0 }
 {
     if id < count {
-        return 0;
+        return Ok(());
     }
-    13
+    Err(Refusal::UnknownId)
 }
 
-// 13 for a block or an operation that is not below its count, 15 for an operation that the block does not hold, else 0.
-fn open_refusal(words: &[u32], b: BlockId, o: OpIdx) -> u32
+// Refuses a block or an operation that is not below its count, then an operation that the block does not hold.
+fn open_refusal(words: &[u32], b: BlockId, o: OpIdx) -> Result<(), Refusal>
     requires { WellFormed words.now }
-    ensures { result ≡ first (open_rules b.0 o.0 words.now) }
+    ensures { refused result ≡ first (open_rules b.0 o.0 words.now) }
 {
-    if block_count(words) <= b.0 {
-        return 13;
-    }
-    if operation_count(words) <= o.0 {
-        return 13;
-    }
+    id_refusal(b.0, block_count(words))?;
+    id_refusal(o.0, operation_count(words))?;
     let span = block_operations(words, b);
-    if o.0 < span.start {
-        return 15;
+    if o.0 < span.start || span.end <= o.0 {
+        return Err(Refusal::NotInBlock);
     }
-    if span.end <= o.0 {
-        return 15;
-    }
-    0
+    Ok(())
 }
 
-// 13 for one of two allocations that is not below their count, else 0.
-fn crossing_refusal(one: AllocId, other: AllocId, count: u32) -> u32
-    ensures { result ≡ first ((13, not (ltb one.0 count)) ∷ (13, not (ltb other.0 count)) ∷ []) }
+// Refuses one of two allocations that is not below their count.
+fn crossing_refusal(one: AllocId, other: AllocId, count: u32) -> Result<(), Refusal>
+    ensures { refused result ≡ first ((13, not (ltb one.0 count)) ∷ (13, not (ltb other.0 count)) ∷ []) }
 {
-    if count <= one.0 {
-        return 13;
-    }
+    id_refusal(one.0, count)?;
     id_refusal(other.0, count)
 }
 
-// The first of a question's own rules that applies, or 0.
-pub fn own_refusal(words: &[u32], sites: &[u32], question: Question) -> u32
+// The first of a question's own rules that applies, if one does.
+pub fn own_refusal(words: &[u32], sites: &[u32], question: Question) -> Result<(), Refusal>
     requires well_formed { WellFormed words.now }
     requires sites_value { (sites.now ≡ alloc_sites words.now) × (length sites.now ≤ 512) }
-    ensures { result ≡ first (own_rules question words.now) }
+    ensures { refused result ≡ first (own_rules question words.now) }
 {
     match question {
         Question::OfOrder(q) => match q {
-            OrderQuestion::Order => 0,
+            OrderQuestion::Order => Ok(()),
             OrderQuestion::Predecessors(b) => id_refusal(b.0, block_count(words)),
             OrderQuestion::Uses(v) => id_refusal(v.0, local_count(words)),
-            OrderQuestion::AllPredecessors => 0,
-            OrderQuestion::AllUses => 0,
+            OrderQuestion::AllPredecessors => Ok(()),
+            OrderQuestion::AllUses => Ok(()),
         },
         Question::OfLiveness(q) => match q {
             LiveQuestion::EntrySet(b) => id_refusal(b.0, block_count(words)),
             LiveQuestion::ExitSet(b) => id_refusal(b.0, block_count(words)),
             LiveQuestion::Intervals(v) => id_refusal(v.0, local_count(words)),
-            LiveQuestion::Rounds => 0,
-            LiveQuestion::AllEntrySets => 0,
-            LiveQuestion::AllExitSets => 0,
-            LiveQuestion::AllIntervals => 0,
+            LiveQuestion::Rounds => Ok(()),
+            LiveQuestion::AllEntrySets => Ok(()),
+            LiveQuestion::AllExitSets => Ok(()),
+            LiveQuestion::AllIntervals => Ok(()),
         },
         Question::OfPointers(q) => match q {
             PointerQuestion::Allocation(a) => id_refusal(a.0, sites.len() as u32),
             PointerQuestion::Owner(v) => id_refusal(v.0, local_count(words)),
-            PointerQuestion::AllAllocations => 0,
-            PointerQuestion::AllOwners => 0,
+            PointerQuestion::AllAllocations => Ok(()),
+            PointerQuestion::AllOwners => Ok(()),
             PointerQuestion::Open(b, o) => open_refusal(words, b, o),
             PointerQuestion::Crossing(one, other) => {
                 crossing_refusal(one, other, sites.len() as u32)
             }
         },
-        Question::Chart => 0,
+        Question::Chart => Ok(()),
     }
 }

@@ -2,12 +2,13 @@
 ghost use Rattle.std.specs.Prelude.{◌≡◌, ◌+◌, ◌<◌, not, ◌||◌, map, length, ◌==◌, nat_lt};
 ghost use Rattle.plank_core.specs.Lists.{all, upto};
 ghost use Rattle.sir_data.specs.Records.{operations, operand_words, functions, op_word, code, ins, outs, extra};
-ghost use Rattle.sir_data.specs.Codes.{arity, arity_ok, is_call, is_static_alloc};
+ghost use Rattle.sir_data.specs.inner.CodeRows.{row};
+ghost use Rattle.sir_data.specs.Codes.{arity_ok, is_call, is_static_alloc};
 ghost use Rattle.sir_data.specs.Rules.{range_ok, op_fields_ok, op_ids_ok, rule9};
 ghost use Rattle.sir_data.specs.inner.WellFormed.{Sized, InRange};
 
 use crate::bounds::range_ok;
-use crate::codes::{INPUTS, OUTPUTS, is_call, is_static_alloc, operand_counts_right};
+use crate::codes::{OPERATIONS, Operation, is_call, is_static_alloc, operand_counts_right};
 use crate::records::{
     function_count, op_inputs, op_outputs, op_word, operand_count, operation_count,
 };
@@ -105,23 +106,17 @@ pub fn each_op_ids_ok(words: &[u32]) -> bool
     (0..operation_count(words)).all(|o| op_ids_ok(words, OpIdx(o)))
 }
 
-// Are the operation's operand counts right for its code, by the two tables of counts?
-fn op_counts_ok<'a>(words: &'a [u32], o: OpIdx, takes: &'a [u8], gives: &'a [u8]) -> bool
+// Are the operation's operand counts right for its code, by the table of codes?
+fn op_counts_ok(words: &[u32], o: OpIdx, table: &[Operation]) -> bool
     requires sized { Sized words.now }
     requires in_range { InRange words.now }
     requires o_bound { o.0 < operations words.now }
-    requires takes_value { (takes.now ≡ map (λ k. (arity k).0) (upto 93)) × (gives.now ≡ map (λ k. (arity k).1) (upto 93)) }
+    requires table_value { table.now ≡ map row (upto 93) }
     ensures { result ≡ arity_ok (code words.now o.0) (length (ins words.now o.0)) (length (outs words.now o.0)) }
 {
     let inputs = op_inputs(words, o);
     let outputs = op_outputs(words, o);
-    operand_counts_right(
-        takes,
-        gives,
-        op_word(words, o, 0),
-        inputs.len(),
-        outputs.len(),
-    )
+    operand_counts_right(table, op_word(words, o, 0), inputs.len(), outputs.len())
 }
 
 // Rule 9: some operation's operand counts are wrong for its code.
@@ -130,7 +125,6 @@ pub fn rule_9(words: &[u32]) -> bool
     requires in_range { InRange words.now }
     ensures { result ≡ rule9 words.now }
 {
-    let takes = INPUTS;
-    let gives = OUTPUTS;
-    !(0..operation_count(words)).all(|o| op_counts_ok(words, OpIdx(o), &takes, &gives))
+    let table = OPERATIONS;
+    !(0..operation_count(words)).all(|o| op_counts_ok(words, OpIdx(o), &table))
 }

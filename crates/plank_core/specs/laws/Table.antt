@@ -12,6 +12,6 @@ module _ {A : Type 0} where
 
 -- what `read` gives of entry k is right for k, if it is so all over the table
 pub table_rule :
-    {A : Type 0} (entry : ℕ → ℕ) (read right : ℕ → A) (n : ℕ) → map (λ k. read (entry k)) (upto n) ≡ map right (upto n)
-    → (k : ℕ) → k < n → read (get_or (map entry (upto n)) k 0) ≡ right k
-table_rule entry read right n test k h = ap read (get_or_map_upto entry n k 0 h) ∙ agree (λ k. read (entry k)) right n test k h
+    {A B : Type 0} (entry : ℕ → B) (read : B → A) (right : ℕ → A) (n : ℕ) → map (λ k. read (entry k)) (upto n) ≡ map right (upto n)
+    → (k : ℕ) (d : B) → k < n → read (get_or (map entry (upto n)) k d) ≡ right k
+table_rule entry read right n test k d h = ap read (get_or_map_upto entry n k d h) ∙ agree (λ k. read (entry k)) right n test k h

@@ -49,8 +49,8 @@ chart_length {w} stage =
     r.long ∙ ap (λ (n : ℕ). 73 * (n * series_count w)) h ∙ sym (mul_assoc 73 (on_sheets (lines_of w (blocks_rpo w))) (series_count w))
 
 -- a slice that is too short, and one that holds it
-pub chart_refused : (bytes out : List ℕ) {number len : ℕ} → length out < length bytes → number ≡ 14 → len ≡ 0 → made number len out ≡ answered bytes out
-chart_refused bytes out h e f = rw (e, f, lt-ltb (length out) (length bytes) h) refl
+pub chart_refused : (bytes out : List ℕ) → length out < length bytes → made 14 0 out ≡ answered bytes out
+chart_refused bytes out h = rw (lt-ltb (length out) (length bytes) h) refl
 
 pub chart_answered : (bytes out : List ℕ) {n : ℕ} {part : List ℕ} → n ≡ length bytes → n ≤ length out → part ≡ bytes → made 0 n (part ++ drop n out) ≡ answered bytes out
 chart_answered bytes out e h p = rw (e, p, le-ltb (length out) (length bytes) (omega arith)) refl

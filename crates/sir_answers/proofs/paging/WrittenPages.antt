@@ -1,13 +1,10 @@
 -- Pages written into a slice: one, and all of an answer.
-use mathlib.Core.Path.{◌≡◌, refl, sym, ap, ◌∙◌}
-use mathlib.Core.Bool.{Bool, true, false}
+use mathlib.Core.Path.{◌≡◌, sym, ap, ◌∙◌}
 use mathlib.Core.List.{List, [], ◌∷◌, ◌++◌}
 use Prim.Native.Nat.{ℕ, ◌+◌, ◌-◌, ◌*◌, ◌/◌, ◌^◌, ◌≤◌, ◌<◌}
 use native.Mathlib.Omega.{arith}
 use lib.ListN.{length, get_or, take, drop, get_or-append}
 use lib.Seq.{length-take-le}
-use lib.Dec.{ltb}
-use borrow.Author.Tests.{ltb-false}
 use Rattle.plank_core.specs.Lists.{upto, bind}
 use Rattle.plank_core.specs.laws.Loops.{length_count, fill_more}
 use Rattle.plank_core.specs.laws.Folds.{bind_long}
@@ -17,8 +14,11 @@ use Rattle.sir_data.specs.Paging.{unchecked, page_of, page_words}
 use Rattle.sir_data.specs.laws.Bytes.{Words, length_bytes, word_bytes}
 use Rattle.sir_data.specs.laws.Paging.{check_same, unchecked_length, unchecked_small, page_length, page_words_length, pages_next}
 use Rattle.sir_data.specs.laws.Records.{count_part}
-use Rattle.sir_analyses.specs.inner.Writing.{words_put, Puts, Finished}
-use Rattle.sir_analyses.proofs.answers.Writing.{puts_then, puts_as, puts_past, puts_within}
+use Rattle.std.specs.Prelude.{Ok}
+use Rattle.sir_analyses.specs.inner.Outcomes.{Finished}
+use Rattle.sir_analyses.specs.inner.Writing.{Puts}
+use Rattle.sir_analyses.proofs.answers.Calls.{finish_is, finish_fits}
+use Rattle.sir_analyses.proofs.answers.Writing.{puts_then, puts_as, puts_within}
 
 -- word i of words that were written to the front
 word_front : (xs rest : List ℕ) (i : ℕ) → i < length xs → get_or xs i 0 < 2 ^ 32 → word_at (bind xs bytes_of ++ rest) i ≡ get_or xs i 0
@@ -80,21 +80,13 @@ module _ (w : List ℕ) where
       fill_more (pages_to p) (bind (page_of w p) bytes_of) start 512 d (pages_to_length p ∙ sym s) e h
       ∙ ap (λ (xs : List ℕ). xs ++ drop (start + 512) d) (sym (pages_next w p))
 
--- ---- all pages of an answer: as many as the slice is long, or none
+-- ---- all pages of an answer
 
-pub pages_put : (w out : List ℕ) {number len : ℕ} {part : List ℕ} → Finished (length (page_words w)) (length out) number len
-    → part ≡ pages_to w (length (take len out) / 512) ++ drop (512 * (length (take len out) / 512)) (take len out)
-    → Puts 0 (page_words w) (take len out) part (length (page_words w))
-pages_put w out {number} {len} {part} f e = record { next = omega arith; left = go (ltb (length out) (4 * length (page_words w))) refl }
-  where
-    go : (t : Bool) → ltb (length out) (4 * length (page_words w)) ≡ t → part ≡ words_put (length (take len out)) 0 (page_words w) (take len out)
-    go true q =
-        let z : len ≡ 0 = rw q at f.len_is in
-        e ∙ rw z (sym (puts_past 0 0 (page_words w) [] (omega arith)))
-    go false q =
-        let z : len ≡ 4 * length (page_words w) = rw q at f.len_is in
-        let h : 4 * length (page_words w) ≤ length out = ltb-false (length out) (4 * length (page_words w)) q in
-        let l : length (take len out) ≡ len = length-take-le len out (omega arith) in
-        let k : length (take len out) / 512 ≡ pages_for (length w) = omega (arith, page_words_length w) in
-        let m : 512 * pages_for (length w) ≡ 4 * length (page_words w) = omega (arith, page_words_length w) in
-        e ∙ rw (k, m) (sym (puts_within (length (take len out)) (page_words w) (take len out) (omega arith) (omega arith)))
+pub pages_put : (w out : List ℕ) {end : ℕ} {part : List ℕ} → Finished (length (page_words w)) (length out) (Ok end)
+    → part ≡ pages_to w (length (take end out) / 512) ++ drop (512 * (length (take end out) / 512)) (take end out)
+    → Puts 0 (page_words w) (take end out) part (length (page_words w))
+pages_put w out {end} {part} f e =
+    let l : length (take end out) ≡ end = length-take-le end out (finish_fits f) in
+    let k : length (take end out) / 512 ≡ pages_for (length w) = omega (arith, finish_is f, page_words_length w) in
+    let m : 512 * pages_for (length w) ≡ 4 * length (page_words w) = omega (arith, page_words_length w) in
+    record { next = omega arith; left = e ∙ rw (k, m) (sym (puts_within (length (take end out)) (page_words w) (take end out) (omega (arith, finish_is f)) (omega (arith, finish_is f)))) }

@@ -6,13 +6,31 @@ use Prim.Native.Nat.{ℕ, ◌≤◌, ◌<◌}
 use native.Mathlib.Omega.{arith}
 use lib.ListN.{length}
 use lib.Dec.{ltb}
-use borrow.Author.Tests.{lt-ltb, le-ltb, ltb-true}
+use borrow.Author.Tests.{lt-ltb, le-ltb, ltb-true, ltb-false}
 use Rattle.plank_core.specs.Lists.{mem, ◌∈◌}
 use Rattle.plank_core.specs.laws.Lists.{in_mem, mem_in, mem_not}
 use Rattle.sir_data.specs.Records.{blocks, operations, ops}
+use Rattle.sir_data.specs.declared.refusals.Refusal.{Refusal}
+use Rattle.sir_data.specs.Refusals.{number}
 use Rattle.sir_data.specs.Rules.{first}
+use Rattle.sir_data.specs.laws.Refusals.{not_0}
 use Rattle.sir_analyses.specs.Allocation.{allocs}
 use Rattle.sir_analyses.specs.Open.{open_rules, crossing_rules}
+
+-- what `id_refusal` tells of an id
+pub known : {id n : ℕ} → ◌≡◌ {A = ℕ} 0 (cond (not (ltb id n)) 13 0) → id < n
+known {id} {n} z = go (ltb id n) refl z
+  where
+    go : (t : Bool) → ltb id n ≡ t → ◌≡◌ {A = ℕ} 0 (cond (not t) 13 0) → id < n
+    go true e h = ltb-true id n e
+    go false e h = absurd (omega arith)
+
+pub unknown : (why : Refusal) {id n : ℕ} → number why ≡ cond (not (ltb id n)) 13 0 → (number why ≡ 13) × (n ≤ id)
+unknown why {id} {n} z = go (ltb id n) refl z
+  where
+    go : (t : Bool) → ltb id n ≡ t → number why ≡ cond (not t) 13 0 → (number why ≡ 13) × (n ≤ id)
+    go true e h = absurd (not_0 why h)
+    go false e h = (h, ltb-false id n e)
 
 module _ (b o : ℕ) (w : List ℕ) where
   -- 13: there is no such block

@@ -1,17 +1,17 @@
 -- A question put for all ids in one call: counted, then finished, then written.
 use mathlib.Core.Path.{◌≡◌, refl, sym, ap, ◌∙◌}
-use mathlib.Core.Bool.{Bool, true, false}
 use mathlib.Core.List.{List, ◌++◌}
 use Prim.Native.Nat.{ℕ, zero, suc, ◌+◌, ◌-◌, ◌*◌, ◌^◌, ◌≤◌, ◌<◌}
 use native.Mathlib.Omega.{arith}
 use lib.ListN.{length, get_or, take, drop, replicate, length-replicate, get_or-replicate}
 use lib.Seq.{length-take-le, get_or-take}
-use lib.Dec.{ltb}
-use borrow.Author.Tests.{ltb-false}
+use borrow.Author.Tests.{le-ltb}
 use Rattle.plank_core.specs.Lists.{bind}
 use Rattle.sir_data.specs.Pages.{bytes_of}
-use Rattle.sir_analyses.specs.Calls.{made, answered}
-use Rattle.sir_analyses.specs.inner.Writing.{Finished}
+use Rattle.std.specs.Prelude.{Ok}
+use Rattle.sir_analyses.specs.Calls.{answered}
+use Rattle.sir_analyses.specs.inner.Outcomes.{outcome, Finished}
+use Rattle.sir_analyses.proofs.answers.Calls.{finish_is, finish_room, finish_fits}
 use Rattle.sir_answers.specs.inner.Scatter.{Pieces, pieces_of, Direction, forward, backward, in_order, moved, Inside, Segments, segments, Scatters, Fits, Below, base, number_at, origin, Placed, all_of, Counts}
 use Rattle.sir_answers.specs.laws.Scatter.{cursor_after, length_in_order, base_within, all_long, scattered}
 use Rattle.sir_analyses.proofs.answers.Writing.{length_bytes}
@@ -115,37 +115,13 @@ passed_all wide t same small s kept p = record {
   count_is = λ v h. omega (arith, p v (omega arith), scatters_cursor v (omega arith) s, t v (omega arith), same v h, small.words v h);
 }
 
--- ---- 14, or the answer
+-- ---- the answer, where there is room for it
 
-module _ (words out : List ℕ) {number len : ℕ} (f : Finished (length words) (length out) number len) where
-  finish_cases : (P : Type 0) → (ltb (length out) (4 * length words) ≡ true → number ≡ 14 → len ≡ 0 → P) → (ltb (length out) (4 * length words) ≡ false → number ≡ 0 → len ≡ 4 * length words → P) → P
-  finish_cases P a b = go (ltb (length out) (4 * length words)) refl f
-    where
-      go : (t : Bool) → ltb (length out) (4 * length words) ≡ t → Finished (length words) (length out) number len → P
-      go true e g = a e (rw e at g.number_is) (rw e at g.len_is)
-      go false e g = b e (rw e at g.number_is) (rw e at g.len_is)
+module _ (words out : List ℕ) {end : ℕ} (f : Finished (length words) (length out) (Ok end)) where
+  -- what is lent for it has its length
+  pub lent_words : length (take end out) ≡ 4 * length words
+  lent_words = length-take-le end out (finish_fits f) ∙ finish_is f
 
-  -- a refused call
-  pub not_answered : ¬ (number ≡ 0) → made number len out ≡ answered (bind words bytes_of) out
-  not_answered h = finish_cases (made number len out ≡ answered (bind words bytes_of) out) (λ e n l. rw (length_bytes words, e, n, l)) (λ e n l. absurd (h n))
-
-  module _ (z : number ≡ 0) where
-    -- there is room for the whole answer
-    room : (len ≡ 4 * length words) × (len ≤ length out)
-    room = finish_cases ((len ≡ 4 * length words) × (len ≤ length out)) (λ e n l. absurd (omega arith)) (λ e n l. (l, omega (arith, ltb-false (length out) (4 * length words) e)))
-
-    pub answer_room : len ≤ length out
-    answer_room = room.1
-
-    -- what is lent for it has its length
-    pub lent_long : len ≡ length (take len out)
-    lent_long = sym (length-take-le len out answer_room)
-
-    pub lent_words : length (take len out) ≡ 4 * length words
-    lent_words = sym lent_long ∙ room.0
-
-    -- it is written whole, and the bytes past it stay
-    pub whole_answered : {written : List ℕ} → written ≡ bind words bytes_of → made number len (written ++ drop len out) ≡ answered (bind words bytes_of) out
-    whole_answered w =
-        ap (λ (l : List ℕ). made number len (l ++ drop len out)) w
-        ∙ finish_cases (made number len (bind words bytes_of ++ drop len out) ≡ answered (bind words bytes_of) out) (λ e n l. absurd (omega arith)) (λ e n l. rw (length_bytes words, e, n, l))
+  -- it is written whole, and the bytes past it stay
+  pub whole_answered : {written : List ℕ} → written ≡ bind words bytes_of → outcome (Ok end) (written ++ drop end out) ≡ answered (bind words bytes_of) out
+  whole_answered w = rw (w, finish_is f, length_bytes words, le-ltb (length out) (4 * length words) (finish_room f))

@@ -18,10 +18,15 @@ use Rattle.sir_data.specs.laws.Bytes.{length_words}
 use Rattle.sir_data.specs.laws.Paging.{padded_length, padded_pages}
 use Rattle.sir_data.specs.laws.LentRecords as L
 use Rattle.sir_analyses.specs.Allocation.{rule12}
-use Rattle.sir_analyses.specs.Calls.{Rules, made, call}
+use Rattle.std.specs.Prelude.{Result, Err}
+use Rattle.sir_data.specs.declared.refusals.Refusal.{Refusal}
+use Rattle.sir_data.specs.Refusals.{number}
+use Rattle.sir_data.specs.laws.Refusals.{not_0}
+use Rattle.sir_analyses.specs.Calls.{Rules, call}
+use Rattle.sir_analyses.specs.inner.Outcomes.{outcome}
 use Rattle.sir_analyses.specs.inner.Loading.{Prepared}
 use Rattle.sir_analyses.specs.WriteBack.{lent_rules, lent_refusal, written}
-use Rattle.sir_analyses.proofs.answers.Calls.{call_refused}
+use Rattle.sir_answers.proofs.questions.Asked.{call_err}
 
 -- ---- records
 
@@ -60,10 +65,8 @@ module _ {r new : List ℕ} {number : ℕ} (k : Lent r new number) where
   abbrev last : Rules
   last = (12, rule12 (padded (words_of r))) ∷ []
 
-  pub lent_refused : {l : ℕ} (out : List ℕ) {n : ℕ} → ¬ (number ≡ 0) → n ≡ number → l ≡ 0 → made n l out ≡ written r out
-  lent_refused out n a b =
-      let e : lent_refusal r ≡ first asked_first = by_earlier asked_first last refl (λ z. n (k.number_is ∙ z)) in
-      call_refused (lent_rules r) (pages_of (words_of r)) out (λ z. n (k.number_is ∙ sym e ∙ z)) (a ∙ k.number_is ∙ sym e) b
+  pub lent_broken : ¬ (number ≡ 0) → number ≡ lent_refusal r
+  lent_broken n = k.number_is ∙ sym (by_earlier asked_first last refl (λ z. n (k.number_is ∙ z)))
 
   module _ (z : number ≡ 0) where
     none_broken : first asked_first ≡ 0
@@ -94,3 +97,6 @@ module _ {r new : List ℕ} {number : ℕ} (k : Lent r new number) where
         let e : lent_refusal r ≡ first last = by_later asked_first last refl none_broken in
         ap (λ (w : List ℕ). call ((12, rule12 w) ∷ []) (pages_of w) out) (k.words z)
         ∙ ap (λ (bytes : List ℕ). call last bytes out) (padded_pages (words_of r)) ∙ rw e
+
+pub lent_refused : {r new : List ℕ} {why : Refusal} {given : Result ℕ Refusal} → Lent r new (number why) → given ≡ Err why → (out : List ℕ) → outcome given out ≡ written r out
+lent_refused {r} {why = why} k e out = call_err e (lent_rules r) (pages_of (words_of r)) out (lent_broken k (not_0 why))

@@ -1,12 +1,7 @@
--- The entries of the tables of `codes`, as functions of the code.
-use Rattle.std.specs.Prelude.{◌≡◌, ℕ, ◌*◌, ◌^◌, ◌≤◌, map}
+-- Laws of what operation codes say.
+use Rattle.std.specs.Prelude.{◌≡◌, ℕ, ◌≤◌}
 use Rattle.std.proofs.Common.{arith, ne_eqb}
-use Rattle.plank_core.specs.Lists.{upto, sum, one_if}
 use Rattle.sir_data.specs.Codes.{escaping}
-
--- bit k of the mask for position k
-abbrev pub mask : ℕ → ℕ
-mask c = sum (map (λ k. one_if (escaping c k) * 2 ^ k) (upto 8))
 
 -- bit 7 stands for every position from 7 up: past it a code's positions are all alike
 pub escaping_far : (c k : ℕ) → 7 ≤ k → escaping c k ≡ escaping c 7

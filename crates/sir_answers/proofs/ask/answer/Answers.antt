@@ -1,18 +1,18 @@
 -- `answer` meets its contract.
-use mathlib.Core.Path.{sym, ◌∙◌}
+use Rattle.std.proofs.Common.{sym, ◌∙◌, rules}
 use Rattle.sir_answers.specs.inner.Questions.{own_rules, answer_bytes}
-use Rattle.sir_analyses.proofs.answers.Calls.{call_refused, call_answered}
-use Rattle.sir_answers.proofs.questions.Asked.{own_as, answered_as}
+use Rattle.sir_analyses.proofs.answers.Calls.{call_answered}
+use Rattle.sir_answers.proofs.questions.Asked.{call_err, own_as, answered_as}
 use Rattle.sir_answers.proofs.ask.answer.Goals as goal
 
-pub own_refusal-number-requires : goal.own_refusal-number-requires
-own_refusal-number-requires c =
+pub own_refusal-requires : goal.own_refusal-requires
+own_refusal-requires c =
     let r = c.requires.2 in record { well_formed = r.well_formed; sites_value = (r.sites_are, r.sites_few) }
 
-pub returns-then-number-ne0 : goal.returns-then-number-ne0
-returns-then-number-ne0 c =
+pub returns-in_err-own_refusal : goal.returns-in_err-own_refusal
+returns-in_err-own_refusal c =
     let a = c.args in
-    call_refused (own_rules a.question a.words.now) (answer_bytes a.question a.words.now) a.out.now (λ z. c.if-number-ne0.true (c.own_refusal-number.ensures ∙ z)) (c.refuse.ensures.0 ∙ c.own_refusal-number.ensures) c.refuse.ensures.1
+    call_err (search rules) (own_rules a.question a.words.now) (answer_bytes a.question a.words.now) a.out.now c.in_err-own_refusal.ensures
 
 pub order_answer-requires : goal.order_answer-requires
 order_answer-requires c =
@@ -20,28 +20,28 @@ order_answer-requires c =
 
 pub live_answer-requires : goal.live_answer-requires
 live_answer-requires c =
-    record { visit_stage = c.requires.1; words_value = own_as (λ q. q) c.args.words.now c.in-OfLiveness.is (sym c.own_refusal-number.ensures ∙ c.if-number-ne0.false) }
+    record { visit_stage = c.requires.1; words_value = own_as (λ q. q) c.args.words.now c.in-OfLiveness.is (sym c.in_ok-own_refusal.ensures) }
 
 pub pointer_answer-requires : goal.pointer_answer-requires
 pointer_answer-requires c =
-    record { visit_stage = c.requires.1; accepted_stage = (c.requires.2, own_as (λ q. q) c.args.words.now c.in-OfPointers.is (sym c.own_refusal-number.ensures ∙ c.if-number-ne0.false)) }
+    record { visit_stage = c.requires.1; accepted_stage = (c.requires.2, own_as (λ q. q) c.args.words.now c.in-OfPointers.is (sym c.in_ok-own_refusal.ensures)) }
 
 pub returns-in-OfOrder : goal.returns-in-OfOrder
 returns-in-OfOrder c =
     let a = c.args in
-    c.order_answer.ensures ∙ answered_as (λ q. q) a.words.now c.in-OfOrder.is a.out.now ∙ call_answered (own_rules a.question a.words.now) (answer_bytes a.question a.words.now) a.out.now (sym c.own_refusal-number.ensures ∙ c.if-number-ne0.false)
+    c.order_answer.ensures ∙ answered_as (λ q. q) a.words.now c.in-OfOrder.is a.out.now ∙ call_answered (own_rules a.question a.words.now) (answer_bytes a.question a.words.now) a.out.now (sym c.in_ok-own_refusal.ensures)
 
 pub returns-in-OfLiveness : goal.returns-in-OfLiveness
 returns-in-OfLiveness c =
     let a = c.args in
-    c.live_answer.ensures ∙ answered_as (λ q. q) a.words.now c.in-OfLiveness.is a.out.now ∙ call_answered (own_rules a.question a.words.now) (answer_bytes a.question a.words.now) a.out.now (sym c.own_refusal-number.ensures ∙ c.if-number-ne0.false)
+    c.live_answer.ensures ∙ answered_as (λ q. q) a.words.now c.in-OfLiveness.is a.out.now ∙ call_answered (own_rules a.question a.words.now) (answer_bytes a.question a.words.now) a.out.now (sym c.in_ok-own_refusal.ensures)
 
 pub returns-in-OfPointers : goal.returns-in-OfPointers
 returns-in-OfPointers c =
     let a = c.args in
-    c.pointer_answer.ensures ∙ answered_as (λ q. q) a.words.now c.in-OfPointers.is a.out.now ∙ call_answered (own_rules a.question a.words.now) (answer_bytes a.question a.words.now) a.out.now (sym c.own_refusal-number.ensures ∙ c.if-number-ne0.false)
+    c.pointer_answer.ensures ∙ answered_as (λ q. q) a.words.now c.in-OfPointers.is a.out.now ∙ call_answered (own_rules a.question a.words.now) (answer_bytes a.question a.words.now) a.out.now (sym c.in_ok-own_refusal.ensures)
 
 pub returns-in-Chart : goal.returns-in-Chart
 returns-in-Chart c =
     let a = c.args in
-    c.chart_answer.ensures ∙ answered_as (λ q. q) a.words.now c.in-Chart.is a.out.now ∙ call_answered (own_rules a.question a.words.now) (answer_bytes a.question a.words.now) a.out.now (sym c.own_refusal-number.ensures ∙ c.if-number-ne0.false)
+    c.chart_answer.ensures ∙ answered_as (λ q. q) a.words.now c.in-Chart.is a.out.now ∙ call_answered (own_rules a.question a.words.now) (answer_bytes a.question a.words.now) a.out.now (sym c.in_ok-own_refusal.ensures)

@@ -22,7 +22,7 @@ returns-then-out-n c =
     let bytes : 73 * c.on_sheets-bytes.result ≡ 73 * on_sheets (lines_of w (blocks_rpo w)) = ap (λ (n : ℕ). 73 * n) (c.on_sheets-bytes.ensures ∙ ap on_sheets c.series_lines.ensures.0) in
     let count : c.series_count.result ≡ series_count w = c.series_count.ensures ∙ series_is c.requires.accepted_stage in
     let n : 73 * c.on_sheets-bytes.result * c.series_count.result ≡ length (chart_text w) = ap₂ (λ (x y : ℕ). x * y) bytes count ∙ sym (chart_length c.requires.accepted_stage) in
-    chart_refused (chart_text w) c.args.out.now (omega (arith, n, c.if-out-n.true)) c.refuse.ensures.0 c.refuse.ensures.1
+    chart_refused (chart_text w) c.args.out.now (omega (arith, n, c.if-out-n.true))
 
 pub slice_bounds-put_chart-end-4 : goal.slice_bounds-put_chart-end-4
 slice_bounds-put_chart-end-4 c =

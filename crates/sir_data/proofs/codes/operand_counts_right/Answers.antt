@@ -1,16 +1,14 @@
--- `operand_counts_right`: the lent tables, which are those of `arity`, and the two calls apart.
+-- `operand_counts_right`: the lent table, which is that of `row`, and the two calls apart.
 use Rattle.std.proofs.Common.{◌≡◌, ℕ, ◌≤◌, List, map, length, get_or, ap, ◌∙◌, arith, eq-eqb, ne_eqb}
 use Rattle.plank_core.specs.Lists.{upto}
 use Rattle.plank_core.specs.laws.Loops.{get_or_map_upto, length_map_upto}
-use Rattle.sir_data.specs.Codes.{arity}
+use Rattle.sir_data.specs.declared.codes.Operation.{Operation}
+use Rattle.sir_data.specs.inner.CodeRows.{row}
 use Rattle.sir_data.proofs.codes.operand_counts_right.Goals as goal
 
--- a table of 93 entries: how long it is, and what stands at a code
-table_length : {table : List ℕ} (entry : ℕ → ℕ) → table ≡ map entry (upto 93) → length table ≡ 93
-table_length entry e = ap length e ∙ length_map_upto entry 93
-
-table_at : {table : List ℕ} (entry : ℕ → ℕ) → table ≡ map entry (upto 93) → (code : ℕ) → code ≤ 92 → get_or table code 0 ≡ entry code
-table_at entry e code h = ap (λ (t : List ℕ). get_or t code 0) e ∙ get_or_map_upto entry 93 code 0 (omega arith)
+-- what stands at a code in the table
+row_at : {table : List Operation} → table ≡ map row (upto 93) → (code : ℕ) (d : Operation) → code ≤ 92 → get_or table code d ≡ row code
+row_at e code d h = ap (λ (t : List Operation). get_or t code d) e ∙ get_or_map_upto row 93 code d (omega arith)
 
 pub returns-then-code-eq25 : goal.returns-then-code-eq25
 returns-then-code-eq25 c = rw (eq-eqb _ 25 c.if-code-eq25.true)
@@ -18,23 +16,18 @@ returns-then-code-eq25 c = rw (eq-eqb _ 25 c.if-code-eq25.true)
 pub returns-then-code-eq26 : goal.returns-then-code-eq26
 returns-then-code-eq26 c = rw (ne_eqb _ 25 c.if-code-eq25.false, eq-eqb _ 26 c.if-code-eq26.true)
 
-pub bounds-takes-c : goal.bounds-takes-c
-bounds-takes-c c =
-    omega (arith, c.requires.code_bound, table_length (λ k. (arity k).0) c.requires.takes_value.0)
+pub bounds-table-code : goal.bounds-table-code
+bounds-table-code c = omega (arith, c.requires.code_bound, ap length c.requires.table_value, length_map_upto row 93)
 
-pub bounds-gives-c : goal.bounds-gives-c
-bounds-gives-c c =
-    omega (arith, c.requires.code_bound, table_length (λ k. (arity k).1) c.requires.takes_value.1)
+pub returns-then-inputs : goal.returns-then-inputs
+returns-then-inputs c =
+    let r = row_at c.requires.table_value c.args.code _ c.requires.code_bound in
+    let ins = c.inputs.ensures ∙ ap (λ o. o.0) r in
+    let outs = c.outputs.ensures ∙ ap (λ o. o.1) r in
+    rw (ne_eqb _ 25 c.if-code-eq25.false, ne_eqb _ 26 c.if-code-eq26.false, outs, eq-eqb _ _ (c.if-inputs.true ∙ ins))
 
-pub returns-then-inputs-from : goal.returns-then-inputs-from
-returns-then-inputs-from c =
-    let code = c.args.code in
-    let ins = c.from.ensures ∙ table_at (λ k. (arity k).0) c.requires.takes_value.0 code c.requires.code_bound in
-    let outs = c.from-then-inputs-from.ensures ∙ table_at (λ k. (arity k).1) c.requires.takes_value.1 code c.requires.code_bound in
-    rw (ne_eqb _ 25 c.if-code-eq25.false, ne_eqb _ 26 c.if-code-eq26.false, outs, eq-eqb _ _ (c.if-inputs-from.true ∙ ins))
-
-pub returns-else-inputs-from : goal.returns-else-inputs-from
-returns-else-inputs-from c =
-    let code = c.args.code in
-    let ins = c.from.ensures ∙ table_at (λ k. (arity k).0) c.requires.takes_value.0 code c.requires.code_bound in
-    rw (ne_eqb _ 25 c.if-code-eq25.false, ne_eqb _ 26 c.if-code-eq26.false, ins, ne_eqb _ _ (rw ins at c.if-inputs-from.false))
+pub returns-else-inputs : goal.returns-else-inputs
+returns-else-inputs c =
+    let r = row_at c.requires.table_value c.args.code _ c.requires.code_bound in
+    let ins = c.inputs.ensures ∙ ap (λ o. o.0) r in
+    rw (ne_eqb _ 25 c.if-code-eq25.false, ne_eqb _ 26 c.if-code-eq26.false, ins, ne_eqb _ _ (rw ins at c.if-inputs.false))
