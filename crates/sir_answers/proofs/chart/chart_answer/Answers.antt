@@ -24,17 +24,13 @@ returns-then-out-n c =
     let n : 73 * c.on_sheets-bytes.result * c.series_count.result ≡ length (chart_text w) = ap₂ (λ (x y : ℕ). x * y) bytes count ∙ sym (chart_length c.requires.accepted_stage) in
     chart_refused (chart_text w) c.args.out.now (omega (arith, n, c.if-out-n.true))
 
-pub slice_bounds-put_chart-end-4 : goal.slice_bounds-put_chart-end-4
-slice_bounds-put_chart-end-4 c =
-    sym (length-take-le _ c.args.out.now c.if-out-n.false)
-
-pub put_chart-requires : goal.put_chart-requires
-put_chart-requires c =
+pub put_chart-requires-clause-bytes_value : goal.put_chart-requires-clause-bytes_value
+put_chart-requires-clause-bytes_value c =
     let w = c.args.words.now in
     let bytes : 73 * c.on_sheets-bytes.result ≡ 73 * on_sheets (lines_of w (blocks_rpo w)) = ap (λ (n : ℕ). 73 * n) (c.on_sheets-bytes.ensures ∙ ap on_sheets c.series_lines.ensures.0) in
     let count : c.series_count.result ≡ series_count w = c.series_count.ensures ∙ series_is c.requires.accepted_stage in
     let n : 73 * c.on_sheets-bytes.result * c.series_count.result ≡ length (chart_text w) = ap₂ (λ (x y : ℕ). x * y) bytes count ∙ sym (chart_length c.requires.accepted_stage) in
-    record { visit_stage = c.requires.visit_stage; liveness_stage = c.compute_liveness.ensures.1; pointer_stage = c.compute_pointers.ensures; bytes_value = (bytes, length-take-le _ c.args.out.now c.if-out-n.false ∙ ap (λ (k : ℕ). 73 * c.on_sheets-bytes.result * k) count) }
+    (bytes, length-take-le _ c.args.out.now c.if-out-n.false ∙ ap (λ (k : ℕ). 73 * c.on_sheets-bytes.result * k) count)
 
 pub returns : goal.returns
 returns c =
