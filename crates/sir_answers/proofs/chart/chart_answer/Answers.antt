@@ -1,20 +1,13 @@
 -- `chart_answer` meets its contract.
 use mathlib.Core.Path.{◌≡◌, sym, ap, ap₂, ◌∙◌}
-use Prim.Native.Nat.{ℕ, ◌*◌, ◌≤◌}
-use native.Mathlib.Nat.{mul-le-mul_left}
+use Prim.Native.Nat.{ℕ, ◌*◌}
 use native.Mathlib.Omega.{arith}
 use lib.Seq.{length-take-le}
 use lib.ListN.{length}
-use Rattle.sir_analyses.proofs.claims.chart.ChartProof.{series_most}
 use Rattle.sir_analyses.specs.Chart.{on_sheets, series_count, chart_text, lines_of}
 use Rattle.sir_analyses.specs.Order.{blocks_rpo}
 use Rattle.sir_answers.proofs.chart.ChartTexts.{series_is, chart_length, chart_refused, chart_answered}
 use Rattle.sir_answers.proofs.chart.chart_answer.Goals as goal
-
-pub overflow_mul-n : goal.overflow_mul-n
-overflow_mul-n c =
-    let few : c.series_count.result ≤ 8 = rw c.series_count.ensures (series_most (length c.args.sites.now) c.requires.accepted_stage.sites_few) in
-    omega (arith, mul-le-mul_left (73 * c.on_sheets-bytes.result) few, c.on_sheets-bytes.ensures, c.series_lines.ensures.1)
 
 pub returns-then-out-n : goal.returns-then-out-n
 returns-then-out-n c =
