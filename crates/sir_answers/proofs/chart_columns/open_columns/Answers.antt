@@ -1,7 +1,7 @@
 -- `open_columns` meets its contract. The invariant: the owners of the locals before this one are open.
 use mathlib.Core.List.{List}
 use mathlib.Core.Bool.{cond}
-use mathlib.Core.Path.{refl, sym, ap, ◌∙◌}
+use mathlib.Core.Path.{refl, ap, ◌∙◌}
 use Prim.Native.Nat.{ℕ, ◌+◌, ◌-◌, ◌*◌}
 use native.Mathlib.Omega.{arith}
 use lib.Seq.{take_all}
@@ -56,9 +56,6 @@ loop-v-preserved c =
           let bounds = series_bounds a.series 0 (rw w.in_default.ensures.0 own) in
           absurd (omega (arith, bounds.0))
     ]
-
-pub shape_of-columns : goal.shape_of-columns
-shape_of-columns c = c.loop-v.invariant.0 ∙ sym c.requires.series_bound.1
 
 pub returns : goal.returns
 returns c =

@@ -21,13 +21,6 @@ unmarked_owner-owner-requires c =
     let stage = c.requires.by_index.1 in
     (stage.long, omega arith, omega (arith, stage.discovered.owner_known c.loop-v.v, allocations_few stage))
 
-pub in_series-requires : goal.in_series-requires
-in_series-requires c = c.requires.series_bound.0
-
-pub row_add-requires : goal.row_add-requires
-row_add-requires c =
-    (omega (arith, c.loop-v.invariant.0), omega arith)
-
 pub loop-v-preserved : goal.loop-v-preserved
 loop-v-preserved c =
     let a = c.args in
@@ -40,9 +33,6 @@ loop-v-preserved c =
           (omega (arith, w.row_add.auto, l.invariant.0), below_more own l.others l.v l.invariant.1 _ l.invariant.0 (rw place at w.row_add.ensures.1) (known ∙ ap not (sym c.in_series.ensures ∙ w.if-not-in_series.true)))
       | else-not-in_series w ↦ rw w.others-is (l.invariant.0, below_on own l.others l.v l.invariant.1 (known ∙ ap not (sym c.in_series.ensures ∙ w.if-not-in_series.false)))
     ]
-
-pub shape_of-others : goal.shape_of-others
-shape_of-others c = c.loop-v.invariant.0 ∙ sym (ap length c.requires.series_bound.1)
 
 pub returns : goal.returns
 returns c =

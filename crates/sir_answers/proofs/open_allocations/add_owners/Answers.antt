@@ -22,10 +22,6 @@ unmarked_owner-requires c =
     let stage = c.requires.by_index.1 in
     (stage.long, c.requires.by_index_2 (get_or a.ids.now i 0) (get_or_mem a.ids.now i 0 c.loop-v-test.true), omega (arith, stage.discovered.owner_known (get_or a.ids.now i 0), allocations_few stage))
 
-pub row_add-requires : goal.row_add-requires
-row_add-requires c =
-    (omega (arith, c.loop-v.auto.owners, c.requires.owners_len), omega (arith, c.in-Some.ensures.1))
-
 pub loop-v-preserved : goal.loop-v-preserved
 loop-v-preserved c =
     let a = c.args in
@@ -36,9 +32,6 @@ loop-v-preserved c =
       | in-Some w ↦ rw w.owners-is (split_more own one_row a.ids.now a.owners.now l.owners l.v-index w.in-Some.a.0 h (sym w.in-Some.ensures.0) (omega (arith, w.in-Some.ensures.1)) w.row_add.ensures.1 l.invariant)
       | in_default w ↦ rw w.owners-is (split_skip own one_row a.ids.now a.owners.now l.owners l.v-index h (sym w.in_default.ensures.0) l.invariant)
     ]
-
-pub shape_of-owners : goal.shape_of-owners
-shape_of-owners c = c.loop-v.auto.owners
 
 pub returns : goal.returns
 returns c =

@@ -14,33 +14,6 @@ pub loop-v-init : goal.loop-v-init
 loop-v-init c =
     split_none (owner_in c.args.owned.now) (side c.args.owned.now c.args.set.now) c.args.ids.now c.args.split.now c.args.split.now
 
-pub overflow_cast-row : goal.overflow_cast-row
-overflow_cast-row c =
-    let L = c.loop-v in
-    let a = c.args in
-    let v = get_or a.ids.now L.v-index 0 in
-    let h = c.loop-v-test.true in
-    let small : v < 512 = c.requires.by_index v (get_or_mem a.ids.now L.v-index 0 h) in
-    omega (arith, small)
-
-pub overflow_add-row : goal.overflow_add-row
-overflow_add-row c =
-    let L = c.loop-v in
-    let a = c.args in
-    let v = get_or a.ids.now L.v-index 0 in
-    let h = c.loop-v-test.true in
-    let small : v < 512 = c.requires.by_index v (get_or_mem a.ids.now L.v-index 0 h) in
-    omega (arith, small)
-
-pub offset_bounds-owned-v : goal.offset_bounds-owned-v
-offset_bounds-owned-v c =
-    let L = c.loop-v in
-    let a = c.args in
-    let v = get_or a.ids.now L.v-index 0 in
-    let h = c.loop-v-test.true in
-    let small : v < 512 = c.requires.by_index v (get_or_mem a.ids.now L.v-index 0 h) in
-    omega (arith, small)
-
 pub bounds-owned-v : goal.bounds-owned-v
 bounds-owned-v c =
     let L = c.loop-v in
@@ -98,10 +71,6 @@ loop-v-preserved c =
           rw w.split-is (split_more own to a.ids.now a.split.now L.split L.v-index w.in-Some.a h owns (omega (arith, most, owns)) (rw w.side_of.ensures at w.row_add.ensures.1) L.invariant)
       | in_default w ↦ rw w.split-is (split_skip own to a.ids.now a.split.now L.split L.v-index h (omega (arith, read, w.in_default.ensures)) L.invariant)
     ]
-
-pub shape_of-split : goal.shape_of-split
-shape_of-split c =
-    c.loop-v.auto.split
 
 pub returns : goal.returns
 returns c =
