@@ -98,8 +98,11 @@ fn chart_words(rt: &impl Print, words: &[u32], visit: &[u32], sites: &[u32]) -> 
 pub fn chart(rt: &impl Print, image: &[u8]) -> Printed
     ensures { refused result.accepted ≡ refusal image.now }
 {
-    print_loaded(rt, image, |words, visit, sites| Printed {
-        accepted: Ok(()),
-        written: chart_words(rt, words, visit, sites),
+    print_loaded(rt, image, |words, visit, sites| {
+        let written = chart_words(rt, words, visit, sites);
+        Printed {
+            accepted: Ok(()),
+            written,
+        }
     })
 }

@@ -55,19 +55,19 @@ put_block-requires g c =
     let long = length-take-le (73 * c.block_lines-end.result) c.loop-b.out (omega (arith, c.block_lines-end.ensures.1, c.loop-b.auto.out, c.requires.pointer_stage.2)) in
     record { liveness_stage = c.requires.liveness_stage; pointer_stage = c.requires.pointer_stage.0; series_bound = (c.requires.pointer_stage.1, c.other_locals.ensures); fact = (member, omega (arith, long, c.block_lines-end.ensures.0)) }
 
-pub slice_bounds-say-end : goal.slice_bounds-say-end
-slice_bounds-say-end g c =
+pub slice_bounds-write_all-end : goal.slice_bounds-write_all-end
+slice_bounds-write_all-end g c =
     let l = c.loop-b in
     let n = 73 * c.block_lines-end.result in
     omega (arith, length_front l.out c.put_block.new.out n (omega (arith, c.put_block.auto)), c.block_lines-end.ensures.1, l.auto.out, c.requires.pointer_stage.2)
 
-pub slice_bounds-say-end-in-loop-b : goal.slice_bounds-say-end-in-loop-b
-slice_bounds-say-end-in-loop-b g c =
+pub slice_bounds-write_all-end-in-loop-b : goal.slice_bounds-write_all-end-in-loop-b
+slice_bounds-write_all-end-in-loop-b g c =
     let l = c.loop-b in
     let n = 73 * c.block_lines-end.result in
     sym (length-take-le n _ (omega (arith, length_front l.out c.put_block.new.out n (omega (arith, c.put_block.auto)), c.block_lines-end.ensures.1, l.auto.out, c.requires.pointer_stage.2)))
 
-pub shape_of-out-in_err-say : goal.shape_of-out-in_err-say
-shape_of-out-in_err-say g c =
+pub shape_of-out-in_err-write_all : goal.shape_of-out-in_err-write_all
+shape_of-out-in_err-write_all g c =
     let l = c.loop-b in
     length_front l.out c.put_block.new.out (73 * c.block_lines-end.result) (omega (arith, c.put_block.auto)) ∙ l.auto.out

@@ -1,7 +1,7 @@
 -- `report` meets its contract.
-use Rattle.std.proofs.Common.{rules, ◌≡◌, ◌≢◌, Bool, true, false, ℕ, refl, cond, ap, ◌∙◌}
+use Rattle.std.proofs.Common.{rules, arith, ◌≡◌, ◌≢◌, ℕ, zero, suc, refl, cond, ap, ◌∙◌}
 use lib.Dec.{eqb}
-use Rattle.std.proofs.lemmas.Bool.{eqb-true, eqb-false}
+use borrow.Author.Tests.{ne_eqb}
 use Rattle.sir_data.specs.Pages.{payload}
 use Rattle.sir_data.specs.Refusals.{refused}
 use Rattle.sir_analyses.specs.Calls.{refusal}
@@ -10,11 +10,8 @@ use Rattle.report_lines.proofs.printing.report.Goals as goal
 
 -- what is refused with n, or gives p
 either : (n p r : ℕ) → (n ≢ 0 → r ≡ n) → (n ≡ 0 → r ≡ p) → r ≡ cond (eqb n 0) p n
-either n p r unloaded loaded = go (eqb n 0) refl
-  where
-    go : (t : Bool) → eqb n 0 ≡ t → r ≡ cond t p n
-    go true e = loaded (eqb-true n 0 e)
-    go false e = unloaded (eqb-false n 0 e)
+either zero p r unloaded loaded = loaded refl
+either (suc n) p r unloaded loaded = let some : suc n ≢ 0 = λ e. omega (arith, e) in rw (ne_eqb (suc n) 0 some) (unloaded some)
 
 pub returns : goal.returns
 unfolding reported
