@@ -3,7 +3,7 @@ ghost use Rattle.std.specs.Prelude.{◌≡◌, true, not, ◌&&◌, cond, List, 
 ghost use Rattle.plank_core.specs.Lists.{◌∈◌};
 ghost use Rattle.plank_core.specs.inner.DenseIndexSet.{contains};
 ghost use Rattle.sir_analyses.specs.inner.Stages.{PointerStage};
-ghost use Rattle.sir_answers.specs.inner.AllocationPieces.{unmarked_owner};
+ghost use Rattle.sir_answers.specs.inner.AllocationPieces.{owner_number, unmarked_owner};
 ghost use Rattle.sir_answers.specs.inner.Columns.{in_series, OtherLocals, owns_some, marked_in, Columns};
 
 use crate::owned_tables::unmarked_owner;
@@ -15,13 +15,16 @@ use sir_analyses::stages::{alloc_sites, is_marked};
 // How many allocations a series has.
 pub const SERIES: usize = 64;
 
-// Whether this is an allocation of a series, plus 1.
-fn in_series(series: usize, owner: usize) -> bool
+// Whether this is an allocation of a series.
+fn in_series(series: usize, owner: Option<AllocId>) -> bool
     requires { series < 8 }
-    ensures { result ≡ in_series series owner }
+    ensures { result ≡ in_series series (owner_number owner) }
 {
     let first = SERIES * series;
-    first < owner && owner <= first + SERIES
+    match owner {
+        None => false,
+        Some(a) => first <= a.0 as usize && (a.0 as usize) < first + SERIES,
+    }
 }
 
 // The locals that no unmarked allocation of a series owns, to an empty set.
@@ -31,7 +34,7 @@ pub fn other_locals(pointers: &[u32], series: usize, others: &mut [u64])
     ensures { OtherLocals pointers.now series others.new }
 {
     for v in 0..512 {
-        let owner = unmarked_owner(pointers, LocalId(v)) as usize;
+        let owner = unmarked_owner(pointers, LocalId(v));
         if !in_series(series, owner) {
             row_add(others, 0, v);
         }
@@ -81,10 +84,11 @@ fn open_columns(pointers: &[u32], series: usize, ids: &[u32], columns: &mut [u8]
     requires series_bound { (series < 8) × (length columns.old ≡ 64) }
     ensures { (k : ℕ) → k < 64 → get_or columns.new k 0 ≡ cond (owns_some pointers.now ids.now (64 * series + k)) 35 (get_or columns.old k 0) }
 {
-    let first = SERIES * series + 1;
+    let first = SERIES * series;
     for v in ids {
-        let owner = unmarked_owner(pointers, LocalId(*v)) as usize;
-        columns[owner - first] = b'#';
+        if let Some(a) = unmarked_owner(pointers, LocalId(*v)) {
+            columns[a.0 as usize - first] = b'#';
+        }
     }
 }
 

@@ -55,9 +55,8 @@ fn add_owners(pointers: &[u32], ids: &[u32], owners: &mut [u64])
     ensures { Adds owners.old (λ r a. mem (a + 1) (map (unmarked_owner pointers.now) ids.now) && eqb r 0) owners.new }
 {
     for v in ids {
-        let owner = unmarked_owner(pointers, LocalId(*v));
-        if owner != 0 {
-            row_add(owners, 0, owner - 1);
+        if let Some(a) = unmarked_owner(pointers, LocalId(*v)) {
+            row_add(owners, 0, a.0);
         }
     }
 }

@@ -7,12 +7,12 @@ ghost use Rattle.sir_data.specs.Records.{locals};
 ghost use Rattle.sir_analyses.specs.inner.Stages.{PointerStage, owners_in};
 ghost use Rattle.sir_answers.specs.inner.Scatter.{number_at};
 ghost use Rattle.sir_analyses.specs.inner.Tables.{Adds};
-ghost use Rattle.sir_answers.specs.inner.AllocationPieces.{own_rows_in, unmarked_owner, OwnedTables, OwnedListed, owns_one, side};
+ghost use Rattle.sir_answers.specs.inner.AllocationPieces.{own_rows_in, owner_number, unmarked_owner, OwnedTables, OwnedListed, owns_one, side};
 
 use plank_core::dense_index_set::{intersects, list};
 use plank_core::index::{AllocId, LocalId};
 use plank_core::rows::{row_add, row_contains, row_difference_with, row_of, row_union_with};
-use sir_analyses::stages::{is_marked, owner_of};
+use sir_analyses::stages::{is_marked, owner};
 use sir_data::records::local_count;
 
 // Where the parts stand.
@@ -24,20 +24,27 @@ pub const OWN_WORDS: usize = 4104;
 
 pub const OWNED: usize = 4616;
 
-// The owner of local v: its allocation + 1; 0 where it has none, or where that allocation is marked. No Option, since this is the row of
-// the local in `own_rows`, and what `own_words` stores.
-pub fn unmarked_owner(pointers: &[u32], v: LocalId) -> u32
+// The allocation that owns local v, unless it is marked.
+pub fn unmarked_owner(pointers: &[u32], v: LocalId) -> Option<AllocId>
     requires { (length pointers.now ≡ 2051) × (v.0 < 512) × (get_or (owners_in pointers.now) v.0 0 ≤ 512) }
-    ensures { (result ≡ unmarked_owner pointers.now v.0) × (result ≤ 512) }
+    ensures { (owner_number result ≡ unmarked_owner pointers.now v.0) × (owner_number result ≤ 512) }
 {
-    let owner = owner_of(pointers, v);
-    if owner == 0 {
-        return 0;
+    let a = owner(pointers, v)?;
+    if is_marked(pointers, a) {
+        return None;
     }
-    if is_marked(pointers, AllocId(owner - 1)) {
-        return 0;
+    Some(a)
+}
+
+// The row of the locals that this allocation owns, or of those that have no owner.
+fn owner_row(owner: Option<AllocId>) -> u32
+    requires { owner_number owner ≤ 512 }
+    ensures { result ≡ owner_number owner }
+{
+    match owner {
+        None => 0,
+        Some(a) => a.0 + 1,
     }
-    owner
 }
 
 // Adds each local to the row of its owner: row 0 is for those that have none, row a + 1 for those of allocation a.
@@ -48,12 +55,12 @@ fn own_rows(words: &[u32], pointers: &[u32], rows: &mut [u64])
 {
     let count = local_count(words);
     for v in 0..count {
-        let owner = unmarked_owner(pointers, LocalId(v));
-        row_add(rows, owner as usize, v);
+        let row = owner_row(unmarked_owner(pointers, LocalId(v)));
+        row_add(rows, row as usize, v);
     }
 }
 
-// Stores the owner of each local, as `unmarked_owner` gives it.
+// Stores the row of each local.
 fn own_words(words: &[u32], pointers: &[u32], owners: &mut [u64])
     requires pointer_stage { PointerStage words.now pointers.now }
     requires owners_len { length owners.old ≡ 512 }
@@ -61,7 +68,7 @@ fn own_words(words: &[u32], pointers: &[u32], owners: &mut [u64])
 {
     let count = local_count(words);
     for v in 0..count {
-        owners[v as usize] = unmarked_owner(pointers, LocalId(v)) as u64;
+        owners[v as usize] = owner_row(unmarked_owner(pointers, LocalId(v))) as u64;
     }
 }
 
@@ -110,9 +117,8 @@ pub fn split_owners<'a>(ids: &[u32], owned: &'a [u64], set: &'a [u64], split: &m
     ensures { Adds split.old (λ r a. owns_one owned.now ids.now a && eqb r (side owned.now set.now a)) split.new }
 {
     for v in ids {
-        let owner = owned[OWN_WORDS + *v as usize] as usize;
-        if owner != 0 {
-            let a = owner - 1;
+        let row = owned[OWN_WORDS + *v as usize] as usize;
+        if let Some(a) = row.checked_sub(1) {
             row_add(split, side_of(owned, set, LocalId(*v), a), a as u32);
         }
     }

@@ -8,34 +8,21 @@ use native.Mathlib.Numerals.{add-one}
 use lib.ListN.{length, get_or, take, drop, replicate, length-append, take-append-drop}
 use lib.Seq.{take-suc}
 use borrow.Author.Tests.{lt-ltb, le-ltb}
-use Rattle.plank_core.specs.Lists.{bind, upto, ◌∈◌}
-use Rattle.plank_core.specs.laws.Loops.{length_count, bind_append, bind_snoc, upto_more}
-use Rattle.plank_core.specs.laws.Folds.{bind_most}
-use Rattle.sir_data.specs.Records.{block_word, ops}
-use Rattle.sir_data.specs.inner.WellFormed.{WellFormed}
+use Rattle.plank_core.specs.Lists.{bind, upto}
+use Rattle.plank_core.specs.laws.Loops.{bind_append, bind_snoc, upto_more}
+use Rattle.sir_data.specs.Records.{ops}
 use Rattle.sir_analyses.specs.Order.{blocks_rpo}
 use Rattle.sir_analyses.specs.Calls.{made, answered}
 use Rattle.sir_analyses.specs.Chart.{blank_line, block_lines, series_lines, on_sheets, sheets, series_for, series_count, text_of, chart_text, lines_of}
 use Rattle.sir_analyses.specs.inner.Stages.{VisitStage, AcceptedStage, rpo_in}
 use Rattle.sir_analyses.proofs.stages.Parts.{part_most}
 use Rattle.sir_analyses.proofs.allocation_liveness.Discovery.{sites_long}
-use Rattle.sir_analyses.proofs.claims.order.OrderProof.{blocks_below}
 use Rattle.sir_analyses.proofs.claims.chart.Places.{series_long}
 use Rattle.sir_analyses.proofs.claims.chart.ChartProof.{chart_rule}
 
 -- the order has at most 256 blocks
 pub order_most : {w visit order : List ℕ} → VisitStage w visit → order ≡ rpo_in visit → length order ≤ 256
 order_most {w} {visit} stage e = omega (arith, ap length e, part_most 1 (get_or visit 0 0) visit, stage.few)
-
--- so the blocks have few lines, and the lines have few bytes
-pub lines_most : {w visit : List ℕ} → VisitStage w visit → lines_of w (blocks_rpo w) ≤ 262400
-lines_most {w} {visit} stage = omega (arith, bind_most (λ b. b ∷ ops w b) 1025 (blocks_rpo w) few, order_most stage (sym stage.rpo_is))
-  where
-    good : WellFormed w
-    good = stage.well_formed
-
-    few : (b : ℕ) → b ∈ blocks_rpo w → length (b ∷ ops w b) ≤ 1025
-    few b m = omega (arith, length_count (block_word w b 4) (block_word w b 5 - block_word w b 4), good.in_range.ops_range b (blocks_below w good b m), good.sized.operations_most)
 
 -- ---- how long the chart is
 

@@ -12,10 +12,6 @@ use Rattle.sir_analyses.proofs.claims.chart.Numbers.{number_five}
 use Rattle.sir_analyses.proofs.claims.chart.Lines.{index_long}
 use Rattle.sir_answers.specs.inner.Columns.{line_with}
 
--- one space more
-pub spaces_more : (n : ℕ) → spaces n ++ (32 ∷ []) ≡ spaces (n + 1)
-spaces_more n = replicate-append-replicate n 1 32
-
 -- a line with its line feed, piece by piece
 pub line_fed : (w : List ℕ) (o : ℕ) (cs : List ℕ) → index o ++ (124 ∷ (cs ++ (124 ∷ call_column w o ∷ 10 ∷ []))) ≡ line_with w o cs ++ (10 ∷ [])
 line_fed w o cs =

@@ -3,13 +3,15 @@ use mathlib.Core.Path.{◌≡◌, refl, sym, ap, ap₂, ◌∙◌}
 use mathlib.Core.Logic.{◌⊎◌, inl, inr, ⊎_elim}
 use mathlib.Core.Bool.{Bool, true, false, not, ◌&&◌, ◌||◌, cond, and-true, and-false, or-false, and_comm}
 use mathlib.Core.List.{List, map}
-use Prim.Native.Nat.{ℕ, ◌+◌, ◌-◌, ◌*◌, ◌≤◌, ◌<◌}
+use Prim.Native.Nat.{ℕ, zero, suc, ◌+◌, ◌-◌, ◌*◌, ◌≤◌, ◌<◌}
 use native.Mathlib.Numerals.{add-one}
 use native.Mathlib.Omega.{arith}
 use lib.ListN.{length, get_or, take, drop, replicate, set}
 use lib.Seq.{take_all, get_or-take, get_or-drop}
 use lib.Dec.{eqb, ltb}
 use borrow.Author.Tests.{eq-eqb, ne_eqb, eqb-true, eqb-false, lt-ltb, le-ltb, ltb-true, ltb-false}
+use Rattle.std.specs.Prelude.{Option}
+use Rattle.plank_core.specs.declared.index.AllocId.{AllocId}
 use Rattle.plank_core.specs.Lists.{mem}
 use Rattle.plank_core.specs.laws.Lists.{split, any_some, zero_at}
 use Rattle.plank_core.specs.laws.Distinct.{eqb_swap}
@@ -21,9 +23,9 @@ use Rattle.sir_data.specs.inner.WellFormed.{WellFormed}
 use Rattle.sir_analyses.specs.Liveness.{Set, has}
 use Rattle.sir_analyses.specs.Allocation.{allocs, alloc_at, reach, marked}
 use Rattle.sir_analyses.specs.inner.Tables.{Adds}
-use Rattle.sir_analyses.specs.inner.Stages.{part, owners_in, flags_in, PointerStage}
+use Rattle.sir_analyses.specs.inner.Stages.{part, owners_in, owner_named, flags_in, PointerStage}
 use Rattle.sir_answers.specs.inner.Scatter.{number_at}
-use Rattle.sir_answers.specs.inner.AllocationPieces.{own_reach, unowned_in, own_rows_in, owner_in, unmarked_owner, OwnedTables, OwnedListed, lives_in, side}
+use Rattle.sir_answers.specs.inner.AllocationPieces.{own_reach, unowned_in, own_rows_in, owner_in, owner_number, unmarked_owner, OwnedTables, OwnedListed, lives_in, side}
 use Rattle.sir_analyses.proofs.SetLaws.{none_in}
 use Rattle.sir_analyses.proofs.claims.liveness.GenKill.{beyond}
 use Rattle.sir_analyses.proofs.claims.marks.Marks.{reach_length}
@@ -34,6 +36,15 @@ use Rattle.sir_analyses.proofs.local_liveness.LivenessTables.{cleared_part}
 use Rattle.sir_analyses.proofs.allocation_liveness.PointerTables.{allocations_few}
 use Rattle.sir_answers.proofs.all_allocations.AllocationPieces.{own_unmarked, own_marked, own_unknown}
 use Rattle.sir_answers.proofs.all_intervals.OpenEnds.{at_set, mem_members}
+
+-- ---- the number of an owner that a number names
+
+number_named : (n : ℕ) → owner_number (owner_named n) ≡ n
+number_named zero = refl
+number_named (suc n) = omega arith
+
+pub named : {n : ℕ} {owner : Option AllocId} → owner ≡ owner_named n → n ≡ owner_number owner
+named {n} e = sym (number_named n) ∙ ap owner_number (sym e)
 
 -- ---- the owner of a local, where it is not marked
 
@@ -257,23 +268,23 @@ module _ (own row : ℕ → ℕ) (ids t₀ t : List ℕ) where
   pub split_none : Adds t₀ (split_to 0) t₀
   split_none = adds_none (λ r a h. refl)
 
-  pub split_more : {t' : List ℕ} (i o : ℕ) → i < length ids → o ≡ own (get_or ids i 0) → ¬ (o ≡ 0) → o ≤ 512 → t' ≡ added t (512 * row (o - 1) + (o - 1)) → Adds t₀ (split_to i) t → Adds t₀ (split_to (i + 1)) t'
-  split_more i o h e n l p k = rw p (adds_as (λ r a q. go r a (eqb a (o - 1)) refl) (adds_then k (adds_one t (row (o - 1)) (o - 1) (omega (arith, n)))))
+  pub split_more : {t' : List ℕ} (i a : ℕ) → i < length ids → own (get_or ids i 0) ≡ a + 1 → a < 512 → t' ≡ added t (512 * row a + a) → Adds t₀ (split_to i) t → Adds t₀ (split_to (i + 1)) t'
+  split_more i a h e l p k = rw p (adds_as (λ r b q. go r b (eqb b a) refl) (adds_then k (adds_one t (row a) a l)))
     where
-      go : (r a : ℕ) (x : Bool) → eqb a (o - 1) ≡ x → ((mem (a + 1) (map own (take i ids)) && eqb r (row a)) || (eqb r (row (o - 1)) && eqb a (o - 1))) ≡ (mem (a + 1) (map own (take (i + 1) ids)) && eqb r (row a))
-      go r a true q =
-          let z : a ≡ o - 1 = eqb-true a (o - 1) q in
-          let y : a + 1 ≡ own (get_or ids i 0) = omega (arith, n) in
-          rw (← mapped_next own ids i h (a + 1), eq-eqb (a + 1) (own (get_or ids i 0)) y, q, ← z) (by (mem (a + 1) (map own (take i ids))) (eqb r (row a)))
+      go : (r b : ℕ) (x : Bool) → eqb b a ≡ x → ((mem (b + 1) (map own (take i ids)) && eqb r (row b)) || (eqb r (row a) && eqb b a)) ≡ (mem (b + 1) (map own (take (i + 1) ids)) && eqb r (row b))
+      go r b true q =
+          let z : b ≡ a = eqb-true b a q in
+          let y : b + 1 ≡ own (get_or ids i 0) = omega (arith, e) in
+          rw (← mapped_next own ids i h (b + 1), eq-eqb (b + 1) (own (get_or ids i 0)) y, q, ← z) (by (mem (b + 1) (map own (take i ids))) (eqb r (row b)))
         where
           by : (x y : Bool) → ((x && y) || (y && true)) ≡ ((x || true) && y)
           by true true = refl
           by true false = refl
           by false true = refl
           by false false = refl
-      go r a false q =
-          let z : ¬ (a ≡ o - 1) = eqb-false a (o - 1) q in
-          rw (← mapped_next own ids i h (a + 1), ne_eqb (a + 1) (own (get_or ids i 0)) (λ y. z (omega arith)), q, and-false, or-false, or-false)
+      go r b false q =
+          let z : ¬ (b ≡ a) = eqb-false b a q in
+          rw (← mapped_next own ids i h (b + 1), ne_eqb (b + 1) (own (get_or ids i 0)) (λ y. z (omega (arith, e))), q, and-false, or-false, or-false)
 
   pub split_skip : (i : ℕ) → i < length ids → own (get_or ids i 0) ≡ 0 → Adds t₀ (split_to i) t → Adds t₀ (split_to (i + 1)) t
   split_skip i h e k =

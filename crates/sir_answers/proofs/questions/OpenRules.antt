@@ -4,7 +4,6 @@ use mathlib.Core.Bool.{Bool, true, false, not, cond}
 use mathlib.Core.List.{List}
 use Prim.Native.Nat.{ℕ, ◌≤◌, ◌<◌}
 use native.Mathlib.Omega.{arith}
-use lib.ListN.{length}
 use lib.Dec.{ltb}
 use borrow.Author.Tests.{lt-ltb, le-ltb, ltb-true, ltb-false}
 use Rattle.plank_core.specs.Lists.{mem, ◌∈◌}
@@ -14,8 +13,7 @@ use Rattle.sir_data.specs.declared.refusals.Refusal.{Refusal}
 use Rattle.sir_data.specs.Refusals.{number}
 use Rattle.sir_data.specs.Rules.{first}
 use Rattle.sir_data.specs.laws.Refusals.{not_0}
-use Rattle.sir_analyses.specs.Allocation.{allocs}
-use Rattle.sir_analyses.specs.Open.{open_rules, crossing_rules}
+use Rattle.sir_analyses.specs.Open.{open_rules}
 
 -- what `id_refusal` tells of an id
 pub known : {id n : ℕ} → ◌≡◌ {A = ℕ} 0 (cond (not (ltb id n)) 13 0) → id < n
@@ -59,11 +57,3 @@ module _ (b o : ℕ) (w : List ℕ) where
       go true e true false f z = absurd (omega arith)
       go true e false u f z = absurd (omega arith)
       go false e t u f z = absurd (omega arith)
-
-pub crossing_known : (a c : ℕ) (w : List ℕ) → first (crossing_rules a c w) ≡ 0 → (a < length (allocs w)) × (c < length (allocs w))
-crossing_known a c w z = go (ltb a (length (allocs w))) refl (ltb c (length (allocs w))) refl z
-  where
-    go : (s : Bool) → ltb a (length (allocs w)) ≡ s → (t : Bool) → ltb c (length (allocs w)) ≡ t → ◌≡◌ {A = ℕ} (cond (not s) 13 (cond (not t) 13 0)) 0 → (a < length (allocs w)) × (c < length (allocs w))
-    go true e true f z = (ltb-true a (length (allocs w)) e, ltb-true c (length (allocs w)) f)
-    go true e false f z = absurd (omega arith)
-    go false e t f z = absurd (omega arith)

@@ -1,17 +1,16 @@
 -- Putting pieces into the segments of their ids, some after others.
 use mathlib.Core.Path.{◌≡◌, refl, sym, ap, ap₂, ◌∙◌}
 use mathlib.Core.Bool.{Bool, true, false, cond}
-use mathlib.Core.List.{List, [], ◌∷◌, ◌++◌, append-nil}
+use mathlib.Core.List.{List, [], ◌∷◌, ◌++◌}
 use mathlib.Core.Logic.{inl}
-use Prim.Native.Nat.{ℕ, ◌+◌, ◌*◌, ◌^◌, ◌≤◌, ◌<◌}
+use Prim.Native.Nat.{ℕ, ◌+◌, ◌*◌, ◌≤◌, ◌<◌}
 use native.Mathlib.Omega.{arith}
 use lib.ListN.{length, get_or, set, length-replicate}
 use lib.Seq.{get_or-set_same, get_or-set_other}
 use Rattle.plank_core.specs.laws.Lists.{below_next}
-use borrow.Author.Tests.{eq-eqb}
 use Rattle.plank_core.specs.laws.Folds.{foldl_append}
 use Rattle.sir_analyses.specs.inner.Writing.{words_put}
-use Rattle.sir_answers.specs.inner.Scatter.{Pieces, pieces_of, Direction, forward, moved, place, Inside, Segments, segments, piece_put, scatter, Scatters, Fits, number_at, base, origin, toward, Stands, Placed}
+use Rattle.sir_answers.specs.inner.Scatter.{Pieces, Direction, forward, moved, place, Segments, segments, piece_put, scatter, Scatters, Fits, number_at, base, origin, toward, Stands, Placed}
 use Rattle.sir_answers.specs.inner.Pieces.{blanks}
 use Rattle.sir_analyses.specs.laws.Writing.{puts_past}
 use Rattle.sir_answers.specs.laws.Scatter.{scatter_cursors, scatter_out, room_first, room_rest, stands_put, stands_other, base_most, base_within, base_next}
@@ -59,11 +58,6 @@ module _ {d : Direction} {full : Pieces} {cursors₀ out₀ : List ℕ} where
   scattering_all {rest} {cursors} {out} e k = record { left = sym (ap (λ (l : Pieces). scatter d l (segments cursors out)) e) ∙ k.left }
 
 -- ---- nothing, one piece, and one after another
-
-pub fits_one : (d : Direction) (v : ℕ) (xs cursors : List ℕ) → v < length cursors → Fits d ((v, xs) ∷ []) cursors → Inside d 0 (2 ^ 59) (get_or cursors v 0) (length xs)
-fits_one d v xs cursors h f =
-    let e : length (pieces_of v ((v, xs) ∷ [])) ≡ length xs = rw (eq-eqb v v refl, append-nil) in
-    rw e at (f.inside v h)
 
 pub scatters_one : (d : Direction) (v : ℕ) (xs cursors out : List ℕ) {cursors' out' : List ℕ} → cursors' ≡ set cursors v (moved d (get_or cursors v 0) (length xs)) → out' ≡ words_put (length out) (place d (get_or cursors v 0) (length xs)) xs out
     → Scatters d ((v, xs) ∷ []) cursors out cursors' out'

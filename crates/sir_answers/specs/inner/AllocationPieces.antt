@@ -1,8 +1,9 @@
 -- The pieces of the pass that finds the records of all allocations: in each visited block, from the last to the first, and from its last
 -- operation to the first, what the operation closes, by allocation; then what is open at the block's start. After all blocks the heads.
 -- A piece stands in front of those before it.
-use Rattle.std.specs.Prelude.{◌≡◌, Bool, false, not, ◌&&◌, ◌||◌, cond, ℕ, ◌+◌, ◌-◌, ◌*◌, ◌≤◌, ◌<◌, length, get_or, replicate, eqb, ltb}
+use Rattle.std.specs.Prelude.{◌≡◌, Bool, false, not, ◌&&◌, ◌||◌, cond, ℕ, ◌+◌, ◌-◌, ◌*◌, ◌≤◌, ◌<◌, length, get_or, replicate, eqb, ltb, Option, Some, None}
 use mathlib.Core.List.{List, [], ◌∷◌, ◌++◌, map, foldr, reverse}
+use Rattle.plank_core.specs.declared.index.AllocId.{AllocId}
 use Rattle.plank_core.specs.Lists.{bind, keep, upto, range, mem, ◌∈◌}
 use Rattle.plank_core.specs.inner.DenseIndexSet.{contains, members, meets, row_of}
 use Rattle.sir_data.specs.Records.{blocks, locals, block_word, ops}
@@ -85,6 +86,11 @@ own_rows_in owned = part 8 4096 owned
 -- the owner of local v: allocation + 1, or 0
 abbrev pub owner_in : List ℕ → ℕ → ℕ
 owner_in owned v = number_at (part 4104 512 owned) v
+
+-- the number of an owner: allocation + 1, or 0 for none
+abbrev pub owner_number : Option AllocId → ℕ
+owner_number None = 0
+owner_number (Some a) = a.0 + 1
 
 -- the owner of local v by the tables of pointers, or 0 where that is marked
 unfoldable pub unmarked_owner : List ℕ → ℕ → ℕ

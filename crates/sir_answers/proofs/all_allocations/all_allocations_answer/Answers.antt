@@ -9,10 +9,6 @@ use Rattle.sir_analyses.proofs.allocation_liveness.PointerTables.{allocations_fe
 use Rattle.sir_answers.proofs.scatter.AllAnswers.{fixed_long, fixed_at}
 use Rattle.sir_answers.proofs.all_allocations.all_allocations_answer.Goals as goal
 
-pub alloc_sites-n-requires : goal.alloc_sites-n-requires
-alloc_sites-n-requires c =
-    (c.requires.pointer_stage.long, c.requires.pointer_stage.few)
-
 pub slice_bounds-cursors-end : goal.slice_bounds-cursors-end
 slice_bounds-cursors-end c =
     let stage = c.requires.pointer_stage in

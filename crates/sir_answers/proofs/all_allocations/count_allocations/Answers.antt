@@ -19,10 +19,6 @@ passed_words-requires c =
     let s = c.scan_allocations in
     λ v h. let l : v < length c.args.cursors.now = omega (arith, s.auto) in omega (arith, scatters_cursor v l s.ensures, top v l)
 
-pub shape_of-cursors : goal.shape_of-cursors
-shape_of-cursors c =
-    omega (arith, c.passed_words.auto, c.scan_allocations.auto)
-
 pub returns : goal.returns
 returns c =
     let stage = c.requires.pointer_stage in

@@ -2,7 +2,6 @@
 use mathlib.Core.Path.{◌≡◌, sym, ap, subst, ◌∙◌}
 use mathlib.Core.List.{List}
 use Prim.Native.Nat.{ℕ, ◌*◌}
-use native.Mathlib.Omega.{arith}
 use lib.ListN.{length}
 use Rattle.std.proofs.Common.{rules}
 use Rattle.std.proofs.iter.Serving.{serving}
@@ -13,13 +12,6 @@ use Rattle.sir_answers.specs.inner.Scatter.{Counts}
 use Rattle.sir_answers.proofs.all_allocations.AllocationPieces.{records_small}
 use Rattle.sir_answers.proofs.scatter.AllAnswers.{counts_fit, counts_total}
 use Rattle.sir_answers.proofs.all_allocations.fill_allocations.Goals as goal
-
-pub count_allocations-requires : goal.count_allocations-requires
-count_allocations-requires c = c.requires
-
-pub shape_of-cursors : goal.shape_of-cursors
-shape_of-cursors c =
-    omega (arith, c.segments_answer.auto, c.count_allocations.auto)
 
 pub segments_answer-requires-clause-total : goal.segments_answer-requires-clause-total
 segments_answer-requires-clause-total c =

@@ -21,31 +21,6 @@ loop-a-init c =
     let e : bind (range 0 (length c.args.cursors.now)) (λ a. (a, head_of w a) ∷ []) ≡ head_pieces w = rw (range_all, c.requires.cursors_len.0) in
     (scattering_as (sym e) (scattering_none c.requires.cursors_len.1), λ u p q. refl)
 
-pub offset_bounds-tops-a : goal.offset_bounds-tops-a
-offset_bounds-tops-a c =
-    omega (arith, c.loop-a-test.true, c.loop-a.invariant.0.wide, c.requires.cursors_len.0, allocations_few c.requires.pointer_stage)
-
-pub bounds-tops-a : goal.bounds-tops-a
-bounds-tops-a c =
-    omega (arith, c.loop-a-test.true, c.loop-a.invariant.0.wide, c.requires.cursors_in_bounds.0)
-
-pub offset_bounds-cursors-a : goal.offset_bounds-cursors-a
-offset_bounds-cursors-a c =
-    omega (arith, c.loop-a-test.true, c.loop-a.invariant.0.wide, c.requires.cursors_len.0, allocations_few c.requires.pointer_stage)
-
-pub bounds-cursors-a : goal.bounds-cursors-a
-bounds-cursors-a c =
-    omega (arith, c.loop-a-test.true, c.loop-a.invariant.0.wide)
-
-pub overflow_sub-count : goal.overflow_sub-count
-overflow_sub-count c =
-    let w = c.args.words.now in
-    let L = c.loop-a in
-    let h = c.loop-a-test.true in
-    let l : L.a < length (allocs w) = omega (arith, h, L.invariant.0.wide, c.requires.cursors_len.0) in
-    let top : number_at c.args.tops.now L.a ≡ number_at L.cursors L.a + 3 * length (merged w L.a) = omega (arith, c.requires.cursors_in_bounds.1 L.a (omega (arith, l, c.requires.cursors_len.0)), L.invariant.1 L.a (omega arith) (omega (arith, l, c.requires.cursors_len.0)), interval_count (merged w L.a)) in
-    omega (arith, top)
-
 pub overflow_cast-id : goal.overflow_cast-id
 overflow_cast-id c =
     let w = c.args.words.now in
@@ -64,15 +39,6 @@ overflow_cast-count c =
     let l : L.a < length (allocs w) = omega (arith, h, L.invariant.0.wide, c.requires.cursors_len.0) in
     let top : number_at c.args.tops.now L.a ≡ number_at L.cursors L.a + 3 * length (merged w L.a) = omega (arith, c.requires.cursors_in_bounds.1 L.a (omega (arith, l, c.requires.cursors_len.0)), L.invariant.1 L.a (omega arith) (omega (arith, l, c.requires.cursors_len.0)), interval_count (merged w L.a)) in
     omega (arith, top, interval_count (merged w L.a), merged_few w stage.well_formed L.a l)
-
-pub record_head-head-requires : goal.record_head-head-requires
-record_head-head-requires c =
-    let w = c.args.words.now in
-    let stage = c.requires.pointer_stage in
-    let L = c.loop-a in
-    let h = c.loop-a-test.true in
-    let l : L.a < length (allocs w) = omega (arith, h, L.invariant.0.wide, c.requires.cursors_len.0) in
-    record { pointer_stage = stage; a_in_bounds = l }
 
 pub prepend-requires : goal.prepend-requires
 prepend-requires c =
@@ -98,14 +64,6 @@ loop-a-preserved c =
     let k = scattering_as (bind_step (λ a. (a, head_of w a) ∷ []) L.a (length c.args.cursors.now) (omega (arith, h, L.invariant.0.wide))) L.invariant.0 in
     let s = scatters_as (ap (λ (xs : List ℕ). (L.a, xs) ∷ []) head) c.prepend.ensures in
     (scattering_more (bind (range (L.a + 1) (length c.args.cursors.now)) (λ a. (a, head_of w a) ∷ [])) k s, λ u p q. other_cursor u (λ z. omega arith) (omega (arith, q, L.invariant.0.wide)) s ∙ L.invariant.1 u (omega arith) q)
-
-pub shape_of-cursors : goal.shape_of-cursors
-shape_of-cursors c =
-    c.loop-a.invariant.0.wide
-
-pub shape_of-out : goal.shape_of-out
-shape_of-out c =
-    c.loop-a.invariant.0.long
 
 pub returns : goal.returns
 returns c =

@@ -8,10 +8,6 @@ use Rattle.sir_analyses.proofs.allocation_answers.AllocationWords.{site_known}
 use Rattle.sir_answers.proofs.all_allocations.AllocationPieces.{head_same}
 use Rattle.sir_answers.proofs.all_allocations.record_head.Goals as goal
 
-pub alloc_sites-requires : goal.alloc_sites-requires
-alloc_sites-requires c =
-    (c.requires.pointer_stage.long, c.requires.pointer_stage.few)
-
 pub site_of-site-requires : goal.site_of-site-requires
 site_of-site-requires c =
     omega (arith, ap length (c.alloc_sites.ensures ∙ c.requires.pointer_stage.sites_are), sites_long c.args.words.now, c.requires.a_in_bounds)

@@ -1,5 +1,5 @@
 -- `scan_allocations` meets its contract.
-use mathlib.Core.Path.{◌≡◌, refl, sym, ap, ◌∙◌}
+use mathlib.Core.Path.{◌≡◌, sym, ap, ◌∙◌}
 use native.Mathlib.Omega.{arith}
 use mathlib.Core.List.{List}
 use Prim.Native.Nat.{ℕ}
@@ -10,13 +10,6 @@ use Rattle.sir_analyses.proofs.allocation_liveness.PointerTables.{allocations_fe
 use Rattle.sir_answers.proofs.scatter.Scattering.{fits_first, fits_rest, scatters_then}
 use Rattle.sir_answers.proofs.all_allocations.AllocationPieces.{tops_are}
 use Rattle.sir_answers.proofs.all_allocations.scan_allocations.Goals as goal
-
-pub slice_bounds-owned_tables-end : goal.slice_bounds-owned_tables-end
-slice_bounds-owned_tables-end c = refl
-
-pub owned_tables-requires : goal.owned_tables-requires
-owned_tables-requires c =
-    record { pointer_stage = c.requires.pointer_stage; owned_value = refl }
 
 pub slice_bounds-tops-end : goal.slice_bounds-tops-end
 slice_bounds-tops-end c =
@@ -29,10 +22,6 @@ slice_bounds-copy_from_slice-end c =
 pub copy_from_slice-requires : goal.copy_from_slice-requires
 copy_from_slice-requires c =
     length-take-le _ _ (omega (arith, c.requires.cursors_len.0, allocations_few c.requires.pointer_stage))
-
-pub slice_bounds-sweep_blocks-end : goal.slice_bounds-sweep_blocks-end
-slice_bounds-sweep_blocks-end c =
-    sym c.owned_tables.ensures.long
 
 pub sweep_blocks-requires : goal.sweep_blocks-requires
 sweep_blocks-requires c =
@@ -50,14 +39,6 @@ put_heads-requires c =
     let kept : length s.new.cursors ≡ length c.args.cursors.now = omega (arith, s.auto) in
     let copied : length c.copy_from_slice.new.self ≡ length c.args.cursors.now = ap length c.copy_from_slice.ensures.after in
     record { pointer_stage = c.requires.pointer_stage; cursors_len = (kept ∙ wide, fits_rest (head_pieces w) c.requires.cursors_len.1 s.ensures); cursors_in_bounds = (omega (arith, kept, c.copy_from_slice.ensures.after, copied, length-append {A = ℕ}), λ a h. get_or-append c.copy_from_slice.new.self _ 0 a (omega (arith, copied, kept)) ∙ ap (λ (l : List ℕ). get_or l a 0) c.copy_from_slice.ensures.after ∙ tops_are c.requires.pointer_stage a wide fits s.ensures (omega (arith, kept))) }
-
-pub shape_of-cursors : goal.shape_of-cursors
-shape_of-cursors c =
-    omega (arith, c.put_heads.auto, c.sweep_blocks.auto)
-
-pub shape_of-out : goal.shape_of-out
-shape_of-out c =
-    omega (arith, c.put_heads.auto, c.sweep_blocks.auto)
 
 pub returns : goal.returns
 returns c =

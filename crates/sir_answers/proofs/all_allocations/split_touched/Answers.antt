@@ -6,7 +6,6 @@ use Rattle.plank_core.specs.inner.DenseIndexSet.{contains}
 use Rattle.plank_core.specs.laws.DenseIndexSet.{length_row}
 use Rattle.sir_analyses.specs.inner.Stages.{reads_in, writes_in}
 use Rattle.sir_analyses.proofs.stages.Parts.{length_part}
-use Rattle.sir_analyses.proofs.loading.Loads.{front_length}
 use Rattle.sir_analyses.proofs.merged_intervals.MergedIntervals.{joined}
 use Rattle.sir_answers.proofs.all_allocations.SweptEnds.{touched_split}
 use Rattle.sir_answers.proofs.all_allocations.split_touched.Goals as goal
@@ -19,10 +18,6 @@ pub row_union_with-requires : goal.row_union_with-requires
 row_union_with-requires c =
     (omega arith, ap length c.row_of.ensures ∙ length_row _ _ (omega (arith, ap length c.writes.ensures ∙ length_part 8192 8192 c.args.live.now (omega (arith, c.requires.live_len.0)), c.requires.live_len.1)))
 
-pub slice_bounds-row_union_with-end-2 : goal.slice_bounds-row_union_with-end-2
-slice_bounds-row_union_with-end-2 c =
-    omega (arith, c.row_union_with.auto)
-
 pub row_of-requires-2 : goal.row_of-requires-2
 row_of-requires-2 c =
     omega (arith, ap length c.reads.ensures ∙ length_part 0 8192 c.args.live.now (omega (arith, c.requires.live_len.0)), c.requires.live_len.1)
@@ -30,30 +25,6 @@ row_of-requires-2 c =
 pub row_union_with-requires-2 : goal.row_union_with-requires-2
 row_union_with-requires-2 c =
     (omega (arith, c.row_union_with.auto), ap length c.row_of-2.ensures ∙ length_row _ _ (omega (arith, ap length c.reads.ensures ∙ length_part 0 8192 c.args.live.now (omega (arith, c.requires.live_len.0)), c.requires.live_len.1)))
-
-pub slice_bounds-list_owned-end : goal.slice_bounds-list_owned-end
-slice_bounds-list_owned-end c =
-    omega (arith, c.row_union_with-2.auto, c.row_union_with.auto)
-
-pub list_owned-n-requires : goal.list_owned-n-requires
-list_owned-n-requires c =
-    record { by_index = c.requires.by_index; set_len = (omega (arith, c.row_union_with-2.auto, c.row_union_with.auto), c.requires.set_len.1) }
-
-pub slice_bounds-split_owners-end : goal.slice_bounds-split_owners-end
-slice_bounds-split_owners-end c =
-    omega (arith, c.list_owned-n.ensures.0, c.list_owned-n.auto, c.requires.set_len.1)
-
-pub slice_bounds-split_owners-end-2 : goal.slice_bounds-split_owners-end-2
-slice_bounds-split_owners-end-2 c =
-    front_length _ _ (omega (arith, c.list_owned-n.ensures.0, c.list_owned-n.auto, c.requires.set_len.1))
-
-pub split_owners-requires : goal.split_owners-requires
-split_owners-requires c =
-    record { by_index = c.list_owned-n.ensures.1.small; by_index_2 = c.requires.by_index; set_len = (c.requires.set_len.0, refl) }
-
-pub shape_of-ids : goal.shape_of-ids
-shape_of-ids c =
-    omega (arith, c.list_owned-n.auto)
 
 pub returns : goal.returns
 returns c =

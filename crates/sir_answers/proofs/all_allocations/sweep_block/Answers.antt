@@ -12,7 +12,6 @@ use Rattle.sir_data.specs.Records.{operations, block_word, ops}
 use Rattle.sir_answers.specs.inner.Scatter.{number_at}
 use Rattle.sir_answers.specs.inner.IntervalPieces.{closed_pieces}
 use Rattle.sir_answers.specs.inner.AllocationPieces.{SweptEnds, swept_pieces, open_pieces}
-use Rattle.sir_analyses.proofs.loading.Loads.{front_length}
 use Rattle.sir_answers.proofs.scatter.Scattering.{scattering_none, scattering_as, scattering_fits, scattering_more, scattering_all, scatters_as}
 use Rattle.sir_answers.proofs.all_intervals.OpenEnds.{listed_below, close_ready}
 use Rattle.sir_answers.proofs.all_allocations.AllocationPieces.{swept_below, open_below, swept_left, swept_next, swept_last}
@@ -20,43 +19,10 @@ use Rattle.sir_answers.proofs.LiveSets.{LiveBefore, live_none, live_more}
 use Rattle.sir_answers.proofs.all_allocations.SweptEnds.{swept_none, swept_closed, swept_more, open_closed}
 use Rattle.sir_answers.proofs.all_allocations.sweep_block.Goals as goal
 
-pub slice_bounds-live_after-end : goal.slice_bounds-live_after-end
-slice_bounds-live_after-end c = refl
-
-pub live_after-requires : goal.live_after-requires
-live_after-requires c =
-    (c.requires.liveness_stage.long, omega (arith, c.requires.b_bound, c.requires.liveness_stage.well_formed.sized.blocks_most), refl)
-
-pub slice_bounds-live_owners-end : goal.slice_bounds-live_owners-end
-slice_bounds-live_owners-end c =
-    omega (arith, c.live_after.auto)
-
-pub slice_bounds-live_owners-end-2 : goal.slice_bounds-live_owners-end-2
-slice_bounds-live_owners-end-2 c = refl
-
-pub live_owners-n-requires : goal.live_owners-n-requires
-live_owners-n-requires c =
-    record { by_index = (c.args.words.now, c.requires.owned_tables); set_len = (omega (arith, c.live_after.auto), refl) }
-
-pub slice_bounds-ids-end : goal.slice_bounds-ids-end
-slice_bounds-ids-end c =
-    omega (arith, c.live_owners-n.ensures.0, c.live_owners-n.auto)
-
-pub slice_bounds-set_ends-end : goal.slice_bounds-set_ends-end
-slice_bounds-set_ends-end c =
-    front_length _ _ (omega (arith, c.live_owners-n.ensures.0, c.live_owners-n.auto))
-
-pub slice_bounds-set_ends-end-2 : goal.slice_bounds-set_ends-end-2
-slice_bounds-set_ends-end-2 c = refl
-
 pub set_ends-requires : goal.set_ends-requires
 set_ends-requires c =
     let x = c.live_owners-n.ensures.1 in
     listed_below x.owners (replicate 512 0) x.listed refl
-
-pub block_operations-span-requires : goal.block_operations-span-requires
-block_operations-span-requires c =
-    record { sized = c.requires.liveness_stage.well_formed.sized; b_bound = c.requires.b_bound }
 
 pub loop-o-init : goal.loop-o-init
 loop-o-init c =
@@ -72,49 +38,6 @@ loop-o-init c =
     let lives : LiveBefore w b [] c.live_after.new.set = live_none stage below (omega (arith, c.live_after.auto)) c.live_after.ensures in
     let ends : SweptEnds w b [] c.set_ends.new.till = swept_none stage c.requires.owned_tables below (replicate 512 0) lives c.live_owners-n.ensures.1 c.set_ends.auto.till (λ v. zero_at 512 v) c.set_ends.ensures in
     (omega (arith, few, span.ensures), omega (arith, few, span.ensures), omega arith, c.live_owners-n.auto.ids, rw none lives, rw none ends, scattering_as (ap (λ (l : List ℕ). bind (reverse l) (swept_pieces w b) ++ open_pieces w b) os) (scattering_none c.requires.cursors_len.1))
-
-pub overflow_step-o : goal.overflow_step-o
-overflow_step-o c = omega (arith, c.loop-o-test.true)
-
-pub slice_bounds-live_before-end : goal.slice_bounds-live_before-end
-slice_bounds-live_before-end c =
-    sym c.loop-o.invariant.4.long
-
-pub live_before-requires : goal.live_before-requires
-live_before-requires c =
-    (c.requires.liveness_stage.long, omega (arith, c.loop-o-test.true, c.loop-o.invariant.1, c.requires.liveness_stage.well_formed.sized.operations_most), c.loop-o.invariant.4.long)
-
-pub slice_bounds-split_touched-end : goal.slice_bounds-split_touched-end
-slice_bounds-split_touched-end c =
-    omega (arith, c.live_before.auto, c.loop-o.invariant.4.long)
-
-pub slice_bounds-split_touched-end-in-loop-o : goal.slice_bounds-split_touched-end-in-loop-o
-slice_bounds-split_touched-end-in-loop-o c =
-    sym c.loop-o.invariant.3
-
-pub split_touched-split-requires : goal.split_touched-split-requires
-split_touched-split-requires c =
-    record { live_len = (c.requires.liveness_stage.long, omega (arith, c.loop-o-test.true, c.loop-o.invariant.1, c.requires.liveness_stage.well_formed.sized.operations_most)); by_index = (c.args.words.now, c.requires.owned_tables); set_len = (omega (arith, c.live_before.auto, c.loop-o.invariant.4.long), c.loop-o.invariant.3) }
-
-pub slice_bounds-list_row-end-in-loop-o : goal.slice_bounds-list_row-end-in-loop-o
-slice_bounds-list_row-end-in-loop-o c =
-    omega (arith, c.split_touched-split.auto, c.loop-o.invariant.3)
-
-pub list_row-dead-requires : goal.list_row-dead-requires
-list_row-dead-requires c =
-    (omega (arith, c.split_touched-split.ensures.long), omega (arith, c.split_touched-split.auto, c.loop-o.invariant.3))
-
-pub slice_bounds-ids-end-in-loop-o : goal.slice_bounds-ids-end-in-loop-o
-slice_bounds-ids-end-in-loop-o c =
-    omega (arith, c.list_row-dead.ensures.0, c.list_row-dead.auto, c.split_touched-split.auto, c.loop-o.invariant.3)
-
-pub slice_bounds-close_before-end : goal.slice_bounds-close_before-end
-slice_bounds-close_before-end c =
-    front_length _ _ (omega (arith, c.list_row-dead.ensures.0, c.list_row-dead.auto, c.split_touched-split.auto, c.loop-o.invariant.3))
-
-pub slice_bounds-close_before-end-in-loop-o : goal.slice_bounds-close_before-end-in-loop-o
-slice_bounds-close_before-end-in-loop-o c =
-    sym c.loop-o.invariant.5.long
 
 pub close_before-requires : goal.close_before-requires
 close_before-requires c =
@@ -137,45 +60,9 @@ close_before-requires c =
     let ready = close_ready closed (L.invariant.6.wide ∙ c.requires.cursors_len.0) (swept_below w stage.well_formed b o below) (scattering_fits (swept_pieces w b o) (swept_left w b span.result.start o) k) in
     record { by_index = listed_below (row_of c.split_touched-split.result 1) L.till c.list_row-dead.ensures.1 L.invariant.5.long; below = ready.0; fits = ready.1 }
 
-pub slice_bounds-ids-end-in-loop-o-2 : goal.slice_bounds-ids-end-in-loop-o-2
-slice_bounds-ids-end-in-loop-o-2 c =
-    omega (arith, c.list_row-dead.ensures.0, c.list_row-dead.auto, c.split_touched-split.auto, c.loop-o.invariant.3)
-
-pub slice_bounds-set_ends-end-in-loop-o : goal.slice_bounds-set_ends-end-in-loop-o
-slice_bounds-set_ends-end-in-loop-o c =
-    front_length _ _ (omega (arith, c.list_row-dead.ensures.0, c.list_row-dead.auto, c.split_touched-split.auto, c.loop-o.invariant.3))
-
-pub slice_bounds-set_ends-end-in-loop-o-2 : goal.slice_bounds-set_ends-end-in-loop-o-2
-slice_bounds-set_ends-end-in-loop-o-2 c =
-    sym c.loop-o.invariant.5.long
-
 pub set_ends-requires-in-loop-o : goal.set_ends-requires-in-loop-o
 set_ends-requires-in-loop-o c =
     listed_below (row_of c.split_touched-split.result 1) c.loop-o.till c.list_row-dead.ensures.1 c.loop-o.invariant.5.long
-
-pub slice_bounds-list_row-end-in-loop-o-3 : goal.slice_bounds-list_row-end-in-loop-o-3
-slice_bounds-list_row-end-in-loop-o-3 c =
-    omega (arith, c.list_row-dead.auto, c.split_touched-split.auto, c.loop-o.invariant.3)
-
-pub list_row-alive-requires : goal.list_row-alive-requires
-list_row-alive-requires c =
-    (omega (arith, c.split_touched-split.ensures.long), omega (arith, c.list_row-dead.auto, c.split_touched-split.auto, c.loop-o.invariant.3))
-
-pub slice_bounds-ids-end-in-loop-o-3 : goal.slice_bounds-ids-end-in-loop-o-3
-slice_bounds-ids-end-in-loop-o-3 c =
-    omega (arith, c.list_row-alive.ensures.0, c.list_row-alive.auto, c.list_row-dead.auto, c.split_touched-split.auto, c.loop-o.invariant.3)
-
-pub slice_bounds-open_ends-end : goal.slice_bounds-open_ends-end
-slice_bounds-open_ends-end c =
-    front_length _ _ (omega (arith, c.list_row-alive.ensures.0, c.list_row-alive.auto, c.list_row-dead.auto, c.split_touched-split.auto, c.loop-o.invariant.3))
-
-pub overflow_add-o-in-loop-o : goal.overflow_add-o-in-loop-o
-overflow_add-o-in-loop-o c =
-    omega (arith, c.loop-o-test.true, c.loop-o.invariant.1, c.requires.liveness_stage.well_formed.sized.operations_most)
-
-pub slice_bounds-open_ends-end-in-loop-o : goal.slice_bounds-open_ends-end-in-loop-o
-slice_bounds-open_ends-end-in-loop-o c =
-    omega (arith, c.set_ends-in-loop-o.auto, c.loop-o.invariant.5.long)
 
 pub open_ends-requires : goal.open_ends-requires
 open_ends-requires c =
@@ -208,30 +95,6 @@ loop-o-preserved c =
     let before = range_before L.o span.result.end (omega (arith, h)) L.invariant.2 in
     (omega (arith, h), omega (arith, L.invariant.1), omega (arith, L.invariant.2), omega (arith, c.list_row-alive.auto, c.list_row-dead.auto, c.split_touched-split.auto, L.invariant.3), rw before lives, rw before ends, scattering_more (swept_left w b span.result.start o) k (scatters_as closed c.close_before.ensures))
 
-pub slice_bounds-live_owners-end-3 : goal.slice_bounds-live_owners-end-3
-slice_bounds-live_owners-end-3 c =
-    sym c.loop-o.invariant.4.long
-
-pub slice_bounds-live_owners-end-4 : goal.slice_bounds-live_owners-end-4
-slice_bounds-live_owners-end-4 c =
-    sym c.loop-o.invariant.3
-
-pub live_owners-m-requires : goal.live_owners-m-requires
-live_owners-m-requires c =
-    record { by_index = (c.args.words.now, c.requires.owned_tables); set_len = (c.loop-o.invariant.4.long, c.loop-o.invariant.3) }
-
-pub slice_bounds-ids-end-2 : goal.slice_bounds-ids-end-2
-slice_bounds-ids-end-2 c =
-    omega (arith, c.live_owners-m.ensures.0, c.live_owners-m.auto, c.loop-o.invariant.3)
-
-pub slice_bounds-close_before-end-2 : goal.slice_bounds-close_before-end-2
-slice_bounds-close_before-end-2 c =
-    front_length _ _ (omega (arith, c.live_owners-m.ensures.0, c.live_owners-m.auto, c.loop-o.invariant.3))
-
-pub slice_bounds-close_before-end-3 : goal.slice_bounds-close_before-end-3
-slice_bounds-close_before-end-3 c =
-    sym c.loop-o.invariant.5.long
-
 pub close_before-requires-2 : goal.close_before-requires-2
 close_before-requires-2 c =
     let a = c.args in
@@ -246,14 +109,6 @@ close_before-requires-2 c =
     let x = c.live_owners-m.ensures.1 in
     let ready = close_ready e (L.invariant.6.wide ∙ c.requires.cursors_len.0) (open_below w c.requires.liveness_stage.well_formed b c.requires.b_bound) (scattering_fits (open_pieces w b) [] k) in
     record { by_index = listed_below x.owners L.till x.listed L.invariant.5.long; below = ready.0; fits = ready.1 }
-
-pub shape_of-cursors : goal.shape_of-cursors
-shape_of-cursors c =
-    omega (arith, c.close_before-2.auto, c.loop-o.invariant.6.wide)
-
-pub shape_of-out : goal.shape_of-out
-shape_of-out c =
-    omega (arith, c.close_before-2.auto, c.loop-o.invariant.6.long)
 
 pub returns : goal.returns
 returns c =

@@ -9,21 +9,10 @@ use Rattle.sir_answers.proofs.scatter.Scattering.{scattering_none, scattering_as
 use Rattle.sir_answers.proofs.all_allocations.AllocationPieces.{visited_to, visited_next, visited_skip}
 use Rattle.sir_answers.proofs.all_allocations.sweep_blocks.Goals as goal
 
-pub block_count-count-requires : goal.block_count-count-requires
-block_count-count-requires c =
-    omega (arith, c.requires.visit_stage.well_formed.sized.size)
-
 pub loop-b-init : goal.loop-b-init
 loop-b-init c =
     let n = c.block_count-count.ensures in
     scattering_as (ap (visited_to c.args.words.now) (sym n)) (scattering_none c.requires.cursors_len.1)
-
-pub overflow_step-b : goal.overflow_step-b
-overflow_step-b c = omega (arith, c.loop-b-test.true)
-
-pub is_visited-requires : goal.is_visited-requires
-is_visited-requires c =
-    (c.requires.visit_stage.long, omega (arith, c.loop-b-test.true, c.requires.visit_stage.well_formed.sized.blocks_most))
 
 pub sweep_block-requires : goal.sweep_block-requires
 sweep_block-requires c =
@@ -56,14 +45,6 @@ loop-b-preserved c =
     let below : b < blocks w = omega (arith, h) in
     let t = sym (c.requires.visit_stage.visited_is b below) ∙ sym c.is_visited.ensures ∙ c.if-is_visited.false in
     scattering_as (visited_skip w L.b h t) L.invariant
-
-pub shape_of-cursors : goal.shape_of-cursors
-shape_of-cursors c =
-    c.loop-b.invariant.wide
-
-pub shape_of-out : goal.shape_of-out
-shape_of-out c =
-    c.loop-b.invariant.long
 
 pub returns : goal.returns
 returns c =

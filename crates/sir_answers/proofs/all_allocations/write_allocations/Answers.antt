@@ -22,14 +22,6 @@ scan_allocations-requires c =
     let wide : length c.put_lengths.new.cursors ≡ length (allocs c.args.words.now) = omega (arith, c.put_lengths.auto, counts.wide) in
     record { visit_stage = c.requires.visit_stage; liveness_stage = c.requires.liveness_stage; pointer_stage = stage; cursors_len = (wide, placed_fits counts backward (records_are stage) wide c.put_lengths.ensures (records_small stage)) }
 
-pub shape_of-cursors : goal.shape_of-cursors
-shape_of-cursors c =
-    omega (arith, c.scan_allocations.auto, c.put_lengths.auto)
-
-pub shape_of-out : goal.shape_of-out
-shape_of-out c =
-    omega (arith, c.scan_allocations.auto, c.put_lengths.auto)
-
 pub returns : goal.returns
 returns c =
     let stage = c.requires.pointer_stage in

@@ -1,22 +1,9 @@
 -- `all_intervals_answer` meets its contract.
-use mathlib.Core.Path.{sym, ◌∙◌}
+use mathlib.Core.Path.{◌∙◌}
 use Prim.Native.Nat.{◌≤◌}
 use native.Mathlib.Omega.{arith}
 use Rattle.sir_answers.proofs.scatter.AllAnswers.{zero_long, zero_prefix}
 use Rattle.sir_answers.proofs.all_intervals.all_intervals_answer.Goals as goal
-
-pub local_count-n-requires : goal.local_count-n-requires
-local_count-n-requires c =
-    omega (arith, c.requires.visit_stage.well_formed.sized.size)
-
-pub slice_bounds-cursors-end : goal.slice_bounds-cursors-end
-slice_bounds-cursors-end c =
-    omega (arith, c.local_count-n.ensures, c.requires.visit_stage.well_formed.sized.locals_most)
-
-pub slice_bounds-fill_intervals-end : goal.slice_bounds-fill_intervals-end
-slice_bounds-fill_intervals-end c =
-    let n = c.local_count-n in
-    sym (zero_long n.result 512 (omega (arith, n.ensures, c.requires.visit_stage.well_formed.sized.locals_most)))
 
 pub fill_intervals-requires : goal.fill_intervals-requires
 fill_intervals-requires c =

@@ -1,32 +1,12 @@
 -- `close_block` meets its contract.
 use mathlib.Core.Path.{ap, ◌∙◌}
-use native.Mathlib.Omega.{arith}
-use borrow.Author.Rules.{rules}
-use Rattle.plank_core.specs.laws.Members.{members_most}
 use Rattle.sir_answers.specs.inner.Scatter.{number_at}
 use Rattle.sir_answers.specs.inner.IntervalPieces.{closed_pieces}
-use Rattle.sir_analyses.proofs.loading.Loads.{front_length}
 use Rattle.sir_analyses.proofs.local_liveness.SetAnswers.{front_members}
 use Rattle.sir_answers.proofs.scatter.Scattering.{scatters_as}
 use Rattle.sir_answers.proofs.all_intervals.IntervalPieces.{start_below}
 use Rattle.sir_answers.proofs.all_intervals.OpenEnds.{listed_below, start_closed, close_ready}
 use Rattle.sir_answers.proofs.all_intervals.close_block.Goals as goal
-
-pub compute_liveness_at_block_entry-set-requires : goal.compute_liveness_at_block_entry-set-requires
-compute_liveness_at_block_entry-set-requires c =
-    (c.requires.liveness_stage.long, omega (arith, c.requires.b_bound.0, c.requires.liveness_stage.well_formed.sized.blocks_most))
-
-pub list-n-requires : goal.list-n-requires
-list-n-requires c =
-    (c.compute_liveness_at_block_entry-set.ensures.0, search rules)
-
-pub slice_bounds-ids-end : goal.slice_bounds-ids-end
-slice_bounds-ids-end c =
-    omega (arith, c.list-n.ensures.0, members_most c.compute_liveness_at_block_entry-set.result.words, c.list-n.auto)
-
-pub slice_bounds-close_ends-end : goal.slice_bounds-close_ends-end
-slice_bounds-close_ends-end c =
-    front_length _ _ (omega (arith, c.list-n.ensures.0, members_most c.compute_liveness_at_block_entry-set.result.words, c.list-n.auto))
 
 pub close_ends-requires : goal.close_ends-requires
 close_ends-requires c =

@@ -1,5 +1,4 @@
 -- `close_ends` meets its contract. The invariant: the pieces of the ids left are to be put.
-use native.Mathlib.Omega.{arith}
 use lib.ListN.{get_or}
 use Rattle.plank_core.specs.laws.Lists.{get_or_mem}
 use Rattle.sir_answers.proofs.all_intervals.OpenEnds.{closing_none, closing_fits, closing_more, closing_skip, closing_all}
@@ -8,12 +7,6 @@ use Rattle.sir_answers.proofs.all_intervals.close_ends.Goals.{then-to-ne0, else-
 
 pub loop-v-init : goal.loop-v-init
 loop-v-init c = closing_none c.requires.fits
-
-pub overflow_cast-to : goal.overflow_cast-to
-overflow_cast-to c = omega (arith, c.type_inv.ids c.loop-v.v-index)
-
-pub offset_bounds-till-v : goal.offset_bounds-till-v
-offset_bounds-till-v c = omega (arith, c.type_inv.ids c.loop-v.v-index)
 
 pub bounds-till-v : goal.bounds-till-v
 bounds-till-v c =
@@ -31,12 +24,6 @@ loop-v-preserved c =
       | then-to-ne0 w ↦ rw (w.cursors-is, w.out-is) (closing_more k h w.if-to-ne0.true w.append.ensures)
       | else-to-ne0 w ↦ rw (w.cursors-is, w.out-is) (closing_skip k h w.if-to-ne0.false)
     ]
-
-pub shape_of-cursors : goal.shape_of-cursors
-shape_of-cursors c = c.loop-v.invariant.put.wide
-
-pub shape_of-out : goal.shape_of-out
-shape_of-out c = c.loop-v.invariant.put.long
 
 pub returns : goal.returns
 returns c = closing_all c.loop-v.invariant c.loop-v-test.false

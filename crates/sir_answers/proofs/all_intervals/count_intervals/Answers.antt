@@ -12,10 +12,6 @@ scan_intervals-requires c =
     let wide = c.requires.cursors_len.0 in
     record { visit_stage = c.requires.visit_stage; liveness_stage = c.requires.liveness_stage; cursors_len = (wide, zero_fits wide c.requires.cursors_len.1 (λ v h. ap length (intervals_are good v h)) (intervals_small good)) }
 
-pub shape_of-cursors : goal.shape_of-cursors
-shape_of-cursors c =
-    omega (arith, c.scan_intervals.auto)
-
 pub returns : goal.returns
 returns c =
     counted_all c.requires.cursors_len.0 c.requires.cursors_len.1 (λ v h. ap length (intervals_are c.requires.visit_stage.well_formed v h)) (omega (arith, c.scan_intervals.auto)) c.scan_intervals.ensures

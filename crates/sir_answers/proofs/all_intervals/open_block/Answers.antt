@@ -6,57 +6,24 @@ use lib.ListN.{length}
 use Rattle.plank_core.specs.inner.DenseIndexSet.{members, row_of}
 use Rattle.sir_analyses.specs.inner.Stages.{exits_in, ends_in}
 use Rattle.sir_analyses.proofs.stages.Parts.{length_part}
-use Rattle.sir_analyses.proofs.loading.Loads.{front_length}
 use Rattle.sir_answers.proofs.all_intervals.OpenEnds.{listed_below, block_opened}
 use Rattle.sir_answers.proofs.all_intervals.open_block.Goals as goal
-
-pub exits-requires : goal.exits-requires
-exits-requires c =
-    c.requires.live_len.0
 
 pub list_row-n-requires : goal.list_row-n-requires
 list_row-n-requires c =
     (omega (arith, ap length c.exits.ensures ∙ length_part 22528 2048 c.args.live.now (omega (arith, c.requires.live_len)), c.requires.live_len), search rules)
 
-pub slice_bounds-ids-end : goal.slice_bounds-ids-end
-slice_bounds-ids-end c =
-    omega (arith, c.list_row-n.ensures.0, c.list_row-n.auto)
-
-pub slice_bounds-set_ends-end : goal.slice_bounds-set_ends-end
-slice_bounds-set_ends-end c =
-    front_length _ _ (omega (arith, c.list_row-n.ensures.0, c.list_row-n.auto))
-
 pub set_ends-requires : goal.set_ends-requires
 set_ends-requires c =
     listed_below (row_of c.exits.result.now c.args.b.0) c.args.till.now c.list_row-n.ensures.1 c.requires.till_len.0
-
-pub ends-requires : goal.ends-requires
-ends-requires c =
-    c.requires.live_len.0
-
-pub slice_bounds-list_row-end-2 : goal.slice_bounds-list_row-end-2
-slice_bounds-list_row-end-2 c =
-    omega (arith, c.list_row-n.auto)
 
 pub list_row-m-requires : goal.list_row-m-requires
 list_row-m-requires c =
     (omega (arith, ap length c.ends.ensures ∙ length_part 20480 2048 c.args.live.now (omega (arith, c.requires.live_len)), c.requires.live_len), omega (arith, c.list_row-n.auto))
 
-pub slice_bounds-ids-end-2 : goal.slice_bounds-ids-end-2
-slice_bounds-ids-end-2 c =
-    omega (arith, c.list_row-m.ensures.0, c.list_row-m.auto, c.list_row-n.auto)
-
-pub slice_bounds-set_ends-end-2 : goal.slice_bounds-set_ends-end-2
-slice_bounds-set_ends-end-2 c =
-    front_length _ _ (omega (arith, c.list_row-m.ensures.0, c.list_row-m.auto, c.list_row-n.auto))
-
 pub set_ends-requires-2 : goal.set_ends-requires-2
 set_ends-requires-2 c =
     listed_below (row_of c.ends.result.now c.args.b.0) c.set_ends.new.till c.list_row-m.ensures.1 (omega (arith, c.set_ends.auto, c.requires.till_len.0))
-
-pub shape_of-till : goal.shape_of-till
-shape_of-till c =
-    omega (arith, c.set_ends-2.auto, c.set_ends.auto)
 
 pub returns : goal.returns
 returns c =

@@ -11,19 +11,9 @@ use Rattle.sir_answers.proofs.all_intervals.open_ends.Goals.{then-till-v-eq0, el
 pub loop-id-init : goal.loop-id-init
 loop-id-init c = λ v. refl
 
-pub overflow_cast-v : goal.overflow_cast-v
-overflow_cast-v c = omega (arith, c.type_inv.ids c.loop-id.id-index)
-
-pub offset_bounds-till-v : goal.offset_bounds-till-v
-offset_bounds-till-v c = omega (arith, c.type_inv.ids c.loop-id.id-index)
-
 pub bounds-till-v : goal.bounds-till-v
 bounds-till-v c =
     omega (arith, c.requires (get_or c.args.ids.now c.loop-id.id-index 0) (get_or_mem c.args.ids.now c.loop-id.id-index 0 c.loop-id-test.true), c.loop-id.auto.till)
-
-pub offset_bounds-till-v-then-till-v-eq0 : goal.offset_bounds-till-v-then-till-v-eq0
-offset_bounds-till-v-then-till-v-eq0 c =
-    omega (arith, c.type_inv.ids c.loop-id.id-index)
 
 pub bounds-till-v-then-till-v-eq0 : goal.bounds-till-v-then-till-v-eq0
 bounds-till-v-then-till-v-eq0 c =
@@ -41,9 +31,6 @@ loop-id-preserved c =
       | then-till-v-eq0 w ↦ rw w.till-is (λ v. open_next ids L.id-index h L.till a.to l v w.if-till-v-eq0.true ∙ L.invariant v)
       | else-till-v-eq0 w ↦ rw w.till-is (λ v. open_skip ids L.id-index h L.till a.to l v w.if-till-v-eq0.false ∙ L.invariant v)
     ]
-
-pub shape_of-till : goal.shape_of-till
-shape_of-till c = c.loop-id.auto.till
 
 pub returns : goal.returns
 returns c =

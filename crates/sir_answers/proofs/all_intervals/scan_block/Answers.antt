@@ -1,5 +1,5 @@
 -- `scan_block` meets its contract.
-use mathlib.Core.Path.{refl, sym, ◌∙◌}
+use mathlib.Core.Path.{refl, ◌∙◌}
 use mathlib.Core.List.{[]}
 use native.Mathlib.Omega.{arith}
 use Rattle.plank_core.specs.laws.Lists.{zero_at}
@@ -14,10 +14,6 @@ pub open_block-requires : goal.open_block-requires
 open_block-requires c =
     record { live_len = (c.requires.liveness_stage.long, omega (arith, c.requires.b_bound, c.requires.liveness_stage.well_formed.sized.blocks_most)); till_len = (refl, λ v. zero_at 512 v) }
 
-pub slice_bounds-scan_operations-end : goal.slice_bounds-scan_operations-end
-slice_bounds-scan_operations-end c =
-    sym c.open_block.auto.till
-
 pub scan_operations-requires : goal.scan_operations-requires
 scan_operations-requires c =
     let a = c.args in
@@ -26,10 +22,6 @@ scan_operations-requires c =
     let opened : OpenEnds w b [] c.open_block.new.till = ends_none c.requires.liveness_stage c.requires.b_bound c.open_block.auto.till c.open_block.ensures in
     record { liveness_stage = c.requires.liveness_stage; b_bound = (c.requires.b_bound, opened); cursors_len = (c.requires.cursors_len.0, room_first forward (operations_pieces w b) (start_pieces w b) c.requires.cursors_len.1) }
 
-pub slice_bounds-close_block-end : goal.slice_bounds-close_block-end
-slice_bounds-close_block-end c =
-    sym c.scan_operations.ensures.open_ends.long
-
 pub close_block-requires : goal.close_block-requires
 close_block-requires c =
     let a = c.args in
@@ -37,14 +29,6 @@ close_block-requires c =
     let b = a.b.0 in
     let k = scattering_more (start_pieces w b) (scattering_none c.requires.cursors_len.1) c.scan_operations.ensures.scatters in
     record { liveness_stage = c.requires.liveness_stage; b_bound = (c.requires.b_bound, c.scan_operations.ensures.open_ends); cursors_len = (k.wide ∙ c.requires.cursors_len.0, k.fits) }
-
-pub shape_of-cursors : goal.shape_of-cursors
-shape_of-cursors c =
-    omega (arith, c.close_block.auto, c.scan_operations.auto)
-
-pub shape_of-out : goal.shape_of-out
-shape_of-out c =
-    omega (arith, c.close_block.auto, c.scan_operations.auto)
 
 pub returns : goal.returns
 returns c =

@@ -11,10 +11,6 @@ use Rattle.sir_analyses.proofs.claims.order.OrderLength.{rpo_below}
 use Rattle.sir_answers.proofs.scatter.Scattering.{scattering_none, scattering_as, scattering_fits, scattering_more, scattering_all}
 use Rattle.sir_answers.proofs.all_intervals.scan_intervals.Goals as goal
 
-pub rpo-order-requires : goal.rpo-order-requires
-rpo-order-requires c =
-    (c.requires.visit_stage.long, c.requires.visit_stage.few)
-
 pub loop-b-init : goal.loop-b-init
 loop-b-init c =
     let e = c.rpo-order.ensures ∙ c.requires.visit_stage.rpo_is in
@@ -41,14 +37,6 @@ loop-b-preserved c =
     let h = c.loop-b-test.true in
     let k = scattering_as (bind_drop_step (block_pieces w) order L.b-index h) L.invariant in
     scattering_more (bind (drop (L.b-index + 1) order) (block_pieces w)) k c.scan_block.ensures
-
-pub shape_of-cursors : goal.shape_of-cursors
-shape_of-cursors c =
-    c.loop-b.invariant.wide
-
-pub shape_of-out : goal.shape_of-out
-shape_of-out c =
-    c.loop-b.invariant.long
 
 pub returns : goal.returns
 returns c =

@@ -12,15 +12,10 @@ use Rattle.sir_data.specs.Records.{operations, block_word, ops}
 use Rattle.sir_analyses.specs.inner.Stages.{writes_in}
 use Rattle.sir_answers.specs.inner.Scatter.{number_at}
 use Rattle.sir_answers.specs.inner.IntervalPieces.{closed_pieces, OpenEnds, operation_pieces}
-use Rattle.sir_analyses.proofs.loading.Loads.{front_length}
 use Rattle.sir_answers.proofs.scatter.Scattering.{scattering_none, scattering_as, scattering_fits, scattering_more, scattering_all, scatters_as}
 use Rattle.sir_answers.proofs.all_intervals.IntervalPieces.{operation_below}
 use Rattle.sir_answers.proofs.all_intervals.OpenEnds.{listed_below, operation_closed, ends_more, close_ready}
 use Rattle.sir_answers.proofs.all_intervals.scan_operations.Goals as goal
-
-pub block_operations-span-requires : goal.block_operations-span-requires
-block_operations-span-requires c =
-    record { sized = c.requires.liveness_stage.well_formed.sized; b_bound = c.requires.b_bound.0 }
 
 pub loop-o-init : goal.loop-o-init
 loop-o-init c =
@@ -31,36 +26,6 @@ loop-o-init c =
     let few = c.requires.liveness_stage.well_formed.in_range.ops_range b c.requires.b_bound.0 in
     let os : ops w b ≡ range span.result.start span.result.end = sym (ap₂ range span.ensures.0 span.ensures.1) in
     (omega (arith, few, span.ensures), omega (arith, few, span.ensures), omega arith, search rules, rw (range_none span.result.end span.result.end (omega arith)) c.requires.b_bound.1, scattering_as (ap (λ (l : List ℕ). bind (reverse l) (operation_pieces w b)) os) (scattering_none c.requires.cursors_len.1))
-
-pub overflow_step-o : goal.overflow_step-o
-overflow_step-o c = omega (arith, c.loop-o-test.true)
-
-pub overflow_cast-row : goal.overflow_cast-row
-overflow_cast-row c =
-    omega (arith, c.loop-o-test.true, c.loop-o.invariant.1, c.requires.liveness_stage.well_formed.sized.operations_most)
-
-pub writes-requires : goal.writes-requires
-writes-requires c =
-    c.requires.liveness_stage.long
-
-pub slice_bounds-list_row-end : goal.slice_bounds-list_row-end
-slice_bounds-list_row-end c =
-    omega (arith, c.loop-o.invariant.3)
-
-pub list_row-n-requires : goal.list_row-n-requires
-list_row-n-requires c =
-    let L = c.loop-o in
-    let o = L.o - 1 in
-    let m : o < operations c.args.words.now = omega (arith, c.loop-o-test.true, L.invariant.1) in
-    (omega (arith, m, ap length c.writes.ensures, c.requires.liveness_stage.operands.writes_long, c.requires.liveness_stage.well_formed.sized.operations_most), L.invariant.3)
-
-pub slice_bounds-ids-end : goal.slice_bounds-ids-end
-slice_bounds-ids-end c =
-    omega (arith, c.list_row-n.ensures.0, c.list_row-n.auto, c.loop-o.invariant.3)
-
-pub slice_bounds-close_ends-end : goal.slice_bounds-close_ends-end
-slice_bounds-close_ends-end c =
-    front_length _ _ (omega (arith, c.list_row-n.ensures.0, c.list_row-n.auto, c.loop-o.invariant.3))
 
 pub close_ends-requires : goal.close_ends-requires
 close_ends-requires c =
@@ -79,44 +44,9 @@ close_ends-requires c =
     let ready = close_ready e (L.invariant.5.wide ∙ c.requires.cursors_len.0) (operation_below c.requires.liveness_stage.well_formed c.requires.b_bound.0 o) (scattering_fits (operation_pieces w b o) (bind (reverse (range span.result.start o)) (operation_pieces w b)) k) in
     record { by_index = listed_below (row_of (writes_in a.live.now) o) L.till listed L.invariant.4.long; below = ready.0; fits = ready.1 }
 
-pub slice_bounds-ids-end-in-loop-o : goal.slice_bounds-ids-end-in-loop-o
-slice_bounds-ids-end-in-loop-o c =
-    omega (arith, c.list_row-n.ensures.0, c.list_row-n.auto, c.loop-o.invariant.3)
-
-pub slice_bounds-set_ends-end : goal.slice_bounds-set_ends-end
-slice_bounds-set_ends-end c =
-    front_length _ _ (omega (arith, c.list_row-n.ensures.0, c.list_row-n.auto, c.loop-o.invariant.3))
-
 pub set_ends-requires : goal.set_ends-requires
 set_ends-requires c =
     listed_below (row_of c.writes.result.now (c.loop-o.o - 1)) c.loop-o.till c.list_row-n.ensures.1 c.loop-o.invariant.4.long
-
-pub reads-requires : goal.reads-requires
-reads-requires c =
-    c.requires.liveness_stage.long
-
-pub slice_bounds-list_row-end-in-loop-o : goal.slice_bounds-list_row-end-in-loop-o
-slice_bounds-list_row-end-in-loop-o c =
-    omega (arith, c.list_row-n.auto, c.loop-o.invariant.3)
-
-pub list_row-m-requires : goal.list_row-m-requires
-list_row-m-requires c =
-    let L = c.loop-o in
-    let o = L.o - 1 in
-    let m : o < operations c.args.words.now = omega (arith, c.loop-o-test.true, L.invariant.1) in
-    (omega (arith, m, ap length c.reads.ensures, c.requires.liveness_stage.operands.reads_long, c.requires.liveness_stage.well_formed.sized.operations_most), omega (arith, c.list_row-n.auto, L.invariant.3))
-
-pub slice_bounds-ids-end-in-loop-o-2 : goal.slice_bounds-ids-end-in-loop-o-2
-slice_bounds-ids-end-in-loop-o-2 c =
-    omega (arith, c.list_row-m.ensures.0, c.list_row-m.auto, c.list_row-n.auto, c.loop-o.invariant.3)
-
-pub slice_bounds-open_ends-end : goal.slice_bounds-open_ends-end
-slice_bounds-open_ends-end c =
-    front_length _ _ (omega (arith, c.list_row-m.ensures.0, c.list_row-m.auto, c.list_row-n.auto, c.loop-o.invariant.3))
-
-pub overflow_add-o-in-loop-o : goal.overflow_add-o-in-loop-o
-overflow_add-o-in-loop-o c =
-    omega (arith, c.loop-o-test.true, c.loop-o.invariant.1, c.requires.liveness_stage.well_formed.sized.operations_most)
 
 pub open_ends-requires : goal.open_ends-requires
 open_ends-requires c =
@@ -140,18 +70,6 @@ loop-o-preserved c =
     let long : length c.open_ends.new.till ≡ 512 = omega (arith, c.open_ends.auto, c.set_ends.auto, L.invariant.4.long) in
     let ends : OpenEnds w b (o ∷ range L.o span.result.end) c.open_ends.new.till = ends_more c.requires.liveness_stage c.requires.b_bound.0 L.invariant.4 m c.set_ends.new.till long (rw listed at c.set_ends.ensures) (rw read at c.open_ends.ensures) in
     (omega (arith, c.loop-o-test.true), omega (arith, L.invariant.1), omega (arith, L.invariant.2), omega (arith, c.list_row-m.auto, c.list_row-n.auto, L.invariant.3), rw (range_before L.o span.result.end (omega (arith, c.loop-o-test.true)) L.invariant.2) ends, scattering_more (bind (reverse (range span.result.start o)) (operation_pieces w b)) k (scatters_as e c.close_ends.ensures))
-
-pub shape_of-till : goal.shape_of-till
-shape_of-till c =
-    omega (arith, c.loop-o.invariant.4.long, c.requires.b_bound.1.long)
-
-pub shape_of-cursors : goal.shape_of-cursors
-shape_of-cursors c =
-    c.loop-o.invariant.5.wide
-
-pub shape_of-out : goal.shape_of-out
-shape_of-out c =
-    c.loop-o.invariant.5.long
 
 pub returns : goal.returns
 returns c =

@@ -10,13 +10,6 @@ use Rattle.sir_answers.proofs.all_intervals.set_ends.Goals as goal
 pub loop-v-init : goal.loop-v-init
 loop-v-init c = λ v. refl
 
-pub overflow_cast-till : goal.overflow_cast-till
-overflow_cast-till c =
-    omega (arith, c.type_inv.ids c.loop-v.v-index)
-
-pub offset_bounds-till-v : goal.offset_bounds-till-v
-offset_bounds-till-v c = omega (arith, c.type_inv.ids c.loop-v.v-index)
-
 pub bounds-till-v : goal.bounds-till-v
 bounds-till-v c =
     let L = c.loop-v in
@@ -31,9 +24,6 @@ loop-v-preserved c =
     let h = c.loop-v-test.true in
     let l : x < length L.till = omega (arith, c.requires x (get_or_mem ids L.v-index 0 h), L.auto.till) in
     λ v. set_next ids L.v-index h L.till a.to l v ∙ L.invariant v
-
-pub shape_of-till : goal.shape_of-till
-shape_of-till c = c.loop-v.auto.till
 
 pub returns : goal.returns
 returns c =

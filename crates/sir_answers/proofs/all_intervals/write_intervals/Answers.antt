@@ -20,14 +20,6 @@ scan_intervals-requires c =
     let wide : length c.put_lengths.new.cursors ≡ locals c.args.words.now = omega (arith, c.put_lengths.auto, k.wide) in
     record { visit_stage = c.requires.visit_stage; liveness_stage = c.requires.liveness_stage; cursors_len = (wide, placed_fits k forward (intervals_are good) wide c.put_lengths.ensures (intervals_small good)) }
 
-pub shape_of-cursors : goal.shape_of-cursors
-shape_of-cursors c =
-    omega (arith, c.scan_intervals.auto, c.put_lengths.auto)
-
-pub shape_of-out : goal.shape_of-out
-shape_of-out c =
-    omega (arith, c.scan_intervals.auto, c.put_lengths.auto)
-
 pub returns : goal.returns
 returns c =
     let good = c.requires.visit_stage.well_formed in

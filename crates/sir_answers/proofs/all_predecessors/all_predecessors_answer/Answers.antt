@@ -1,13 +1,9 @@
 -- `all_predecessors_answer` meets its contract.
-use mathlib.Core.Path.{sym, ◌∙◌}
+use mathlib.Core.Path.{◌∙◌}
 use Prim.Native.Nat.{◌≤◌}
 use native.Mathlib.Omega.{arith}
 use Rattle.sir_answers.proofs.scatter.AllAnswers.{zero_long, zero_prefix}
 use Rattle.sir_answers.proofs.all_predecessors.all_predecessors_answer.Goals as goal
-
-pub slice_bounds-fill_predecessors-end : goal.slice_bounds-fill_predecessors-end
-slice_bounds-fill_predecessors-end c =
-    sym (zero_long c.block_count-n.result 256 (omega (arith, c.requires.well_formed.sized.blocks_most)))
 
 pub fill_predecessors-requires : goal.fill_predecessors-requires
 fill_predecessors-requires c =

@@ -12,10 +12,6 @@ use Rattle.sir_answers.proofs.all_predecessors.scan_edges.Goals as goal
 pub loop-i-init : goal.loop-i-init
 loop-i-init c = scattering_none c.requires.fits
 
-pub successor-s-requires : goal.successor-s-requires
-successor-s-requires c =
-    record { sized = c.requires.well_formed.sized; in_range = c.requires.well_formed.in_range; b_bound = c.requires.p_bound.0; i_in_bounds = omega (arith, c.successor_count-count.ensures) }
-
 pub append-requires : goal.append-requires
 append-requires c =
     let w = c.args.words.now in
@@ -33,12 +29,6 @@ loop-i-preserved c =
     let i = c.loop-i.i in
     let h : i < length (successors w p) = omega (arith, c.successor_count-count.ensures) in
     piece_more (λ k. p ∷ []) (successors w p) c.loop-i.i c.loop-i.invariant h c.successor-s.ensures c.append.ensures
-
-pub shape_of-cursors : goal.shape_of-cursors
-shape_of-cursors c = c.loop-i.invariant.wide
-
-pub shape_of-out : goal.shape_of-out
-shape_of-out c = c.loop-i.invariant.long
 
 pub returns : goal.returns
 returns c =

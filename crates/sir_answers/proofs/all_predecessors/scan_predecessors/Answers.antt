@@ -15,10 +15,6 @@ use Rattle.sir_answers.proofs.all_predecessors.scan_predecessors.Goals.{then-is_
 pub loop-p-init : goal.loop-p-init
 loop-p-init c = scattering_as (rw (c.block_count-count.ensures, range_all)) (scattering_none c.requires.cursors_len.1)
 
-pub is_visited-requires : goal.is_visited-requires
-is_visited-requires c =
-    (c.requires.visit_stage.long, omega (arith, c.block_count-count.ensures, c.requires.visit_stage.well_formed.sized.blocks_most, c.loop-p-test.true))
-
 pub scan_edges-requires : goal.scan_edges-requires
 scan_edges-requires c =
     let w = c.args.words.now in
@@ -41,12 +37,6 @@ loop-p-preserved c =
       | then-is_visited x ↦ rw (x.cursors-is, x.out-is) (scattering_more (visited_left w (edge_pieces w) (p + 1) n) (scattering_as (visited_step w (edge_pieces w) p n l (seen ∙ x.if-is_visited.true)) c.loop-p.invariant) x.scan_edges.ensures)
       | else-is_visited x ↦ rw (x.cursors-is, x.out-is) (scattering_as (unvisited_step w (edge_pieces w) p n l (seen ∙ x.if-is_visited.false)) c.loop-p.invariant)
     ]
-
-pub shape_of-cursors : goal.shape_of-cursors
-shape_of-cursors c = c.loop-p.invariant.wide
-
-pub shape_of-out : goal.shape_of-out
-shape_of-out c = c.loop-p.invariant.long
 
 pub returns : goal.returns
 returns c =

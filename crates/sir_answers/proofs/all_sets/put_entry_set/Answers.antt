@@ -5,21 +5,12 @@ use Prim.Native.Nat.{ℕ}
 use lib.ListN.{length}
 use Rattle.sir_analyses.proofs.local_liveness.SetAnswers.{no_entry}
 use Rattle.sir_analyses.proofs.answers.Writing.{puts_as}
-use native.Mathlib.Omega.{arith}
 use Rattle.sir_answers.proofs.all_sets.put_entry_set.Goals as goal
-
-pub is_visited-requires : goal.is_visited-requires
-is_visited-requires c =
-    (c.requires.visit_stage.long, omega (arith, c.requires.liveness_stage.1, c.requires.visit_stage.well_formed.sized.blocks_most))
 
 pub returns-then-not-is_visited : goal.returns-then-not-is_visited
 returns-then-not-is_visited c =
     let e = no_entry c.args.words.now c.args.b.0 (sym (c.requires.visit_stage.visited_is c.args.b.0 c.requires.liveness_stage.1) ∙ sym c.is_visited.ensures ∙ c.if-not-is_visited.true) in
     (c.put_set.ensures.0, puts_as (ap (λ (l : List ℕ). length l ∷ l) e) c.put_set.ensures.1)
-
-pub compute_liveness_at_block_entry-set-requires : goal.compute_liveness_at_block_entry-set-requires
-compute_liveness_at_block_entry-set-requires c =
-    (c.requires.liveness_stage.0.long, omega (arith, c.requires.liveness_stage.1, c.requires.visit_stage.well_formed.sized.blocks_most))
 
 pub returns : goal.returns
 returns c =

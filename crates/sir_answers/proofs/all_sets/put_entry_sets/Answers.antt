@@ -10,25 +10,14 @@ use native.Mathlib.Omega.{arith}
 use Rattle.plank_core.specs.laws.Loops.{bind_all, bind_step, bind_end}
 use Rattle.sir_answers.proofs.all_sets.put_entry_sets.Goals as goal
 
-pub block_count-count-requires : goal.block_count-count-requires
-block_count-count-requires c =
-    omega (arith, c.requires.visit_stage.well_formed.sized.size)
-
 pub loop-b-init : goal.loop-b-init
 loop-b-init c =
     (omega arith, putting_as (ap (λ (n : ℕ). bind (upto n) (λ i. length (entry_answer c.args.words.now i) ∷ entry_answer c.args.words.now i)) (sym c.block_count-count.ensures) ∙ bind_all (λ i. length (entry_answer c.args.words.now i) ∷ entry_answer c.args.words.now i) c.block_count-count.result) putting_none)
-
-pub put_entry_set-m-requires : goal.put_entry_set-m-requires
-put_entry_set-m-requires c =
-    record { visit_stage = c.requires.visit_stage; liveness_stage = (c.requires.liveness_stage, omega (arith, c.loop-b-test.true, c.block_count-count.ensures), omega (arith, c.loop-b.invariant.0, c.loop-b-test.true, c.block_count-count.ensures, c.requires.visit_stage.well_formed.sized.blocks_most)) }
 
 pub loop-b-preserved : goal.loop-b-preserved
 loop-b-preserved c =
     let w = c.args.words.now in
     (omega (arith, c.put_entry_set-m.ensures.0, c.loop-b.invariant.0), putting_more (putting_as (bind_step (λ i. length (entry_answer w i) ∷ entry_answer w i) c.loop-b.b c.block_count-count.result c.loop-b-test.true) c.loop-b.invariant.1) c.put_entry_set-m.ensures.1)
-
-pub shape_of-out : goal.shape_of-out
-shape_of-out c = c.loop-b.invariant.1.long
 
 pub returns : goal.returns
 returns c =

@@ -12,24 +12,9 @@ use native.Mathlib.Omega.{arith}
 use Rattle.plank_core.specs.laws.Loops.{bind_all, bind_step, bind_end}
 use Rattle.sir_answers.proofs.all_sets.put_exit_sets.Goals as goal
 
-pub exits-table-requires : goal.exits-table-requires
-exits-table-requires c = c.requires.long
-
-pub block_count-count-requires : goal.block_count-count-requires
-block_count-count-requires c =
-    omega (arith, c.requires.well_formed.sized.size)
-
 pub loop-b-init : goal.loop-b-init
 loop-b-init c =
     (omega arith, putting_as (ap (λ (n : ℕ). bind (upto n) (λ i. length (exit_answer c.args.words.now i) ∷ exit_answer c.args.words.now i)) (sym c.block_count-count.ensures) ∙ bind_all (λ i. length (exit_answer c.args.words.now i) ∷ exit_answer c.args.words.now i) c.block_count-count.result) putting_none)
-
-pub overflow_cast-b : goal.overflow_cast-b
-overflow_cast-b c =
-    omega (arith, c.loop-b-test.true, c.block_count-count.ensures, c.requires.well_formed.sized.blocks_most)
-
-pub row_of-requires : goal.row_of-requires
-row_of-requires c =
-    omega (arith, ap length c.exits-table.ensures ∙ c.requires.sets.exits_long, c.loop-b-test.true, c.block_count-count.ensures, c.requires.well_formed.sized.blocks_most)
 
 pub put_set-m-requires : goal.put_set-m-requires
 put_set-m-requires c =
@@ -39,9 +24,6 @@ pub loop-b-preserved : goal.loop-b-preserved
 loop-b-preserved c =
     let w = c.args.words.now in
     (omega (arith, c.put_set-m.ensures.0, c.loop-b.invariant.0), putting_more (putting_as (bind_step (λ i. length (exit_answer w i) ∷ exit_answer w i) c.loop-b.b c.block_count-count.result c.loop-b-test.true) c.loop-b.invariant.1) (puts_as (ap (λ (l : List ℕ). length l ∷ l) (ap members (c.row_of.ensures ∙ ap (λ (t : List ℕ). row_of t c.loop-b.b) c.exits-table.ensures) ∙ c.requires.sets.exit_is c.loop-b.b (omega (arith, c.loop-b-test.true, c.block_count-count.ensures)))) c.put_set-m.ensures.1))
-
-pub shape_of-out : goal.shape_of-out
-shape_of-out c = c.loop-b.invariant.1.long
 
 pub returns : goal.returns
 returns c =

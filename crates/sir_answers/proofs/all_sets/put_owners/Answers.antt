@@ -10,28 +10,14 @@ use native.Mathlib.Omega.{arith}
 use Rattle.plank_core.specs.laws.Loops.{bind_all, bind_step, bind_end}
 use Rattle.sir_answers.proofs.all_sets.put_owners.Goals as goal
 
-pub local_count-count-requires : goal.local_count-count-requires
-local_count-count-requires c = omega (arith, c.requires.well_formed.sized.size)
-
 pub loop-v-init : goal.loop-v-init
 loop-v-init c =
     (omega arith, putting_as (ap (λ (n : ℕ). bind (upto n) (λ i. length (owner_answer c.args.words.now i) ∷ owner_answer c.args.words.now i)) (sym c.local_count-count.ensures) ∙ bind_all (λ i. length (owner_answer c.args.words.now i) ∷ owner_answer c.args.words.now i) c.local_count-count.result) putting_none)
-
-pub owner_of-requires : goal.owner_of-requires
-owner_of-requires c =
-    (c.requires.long, omega (arith, c.loop-v-test.true, c.local_count-count.ensures, c.requires.well_formed.sized.locals_most))
-
-pub put_words-m-requires : goal.put_words-m-requires
-put_words-m-requires c =
-    omega (arith, c.loop-v.invariant.0, c.loop-v-test.true, c.local_count-count.ensures, c.requires.well_formed.sized.locals_most)
 
 pub loop-v-preserved : goal.loop-v-preserved
 loop-v-preserved c =
     let w = c.args.words.now in
     (omega (arith, c.put_words-m.ensures.next, c.loop-v.invariant.0), putting_more (putting_as (bind_step (λ i. length (owner_answer w i) ∷ owner_answer w i) c.loop-v.v c.local_count-count.result c.loop-v-test.true) c.loop-v.invariant.1) (puts_as (ap (λ (o : ℕ). 1 ∷ o ∷ []) (c.owner_of.ensures ∙ c.requires.discovered.owner_is c.loop-v.v (omega (arith, c.loop-v-test.true, c.local_count-count.ensures)))) c.put_words-m.ensures))
-
-pub shape_of-out : goal.shape_of-out
-shape_of-out c = c.loop-v.invariant.1.long
 
 pub returns : goal.returns
 returns c =

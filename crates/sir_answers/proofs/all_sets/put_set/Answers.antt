@@ -3,21 +3,12 @@ use mathlib.Core.Path.{sym, ap}
 use mathlib.Core.List.{[], ◌∷◌}
 use Prim.Native.Nat.{ℕ}
 use lib.ListN.{length}
-use lib.Seq.{length-take-le}
 use Rattle.plank_core.specs.inner.DenseIndexSet.{members}
 use Rattle.plank_core.specs.laws.Members.{members_most}
 use Rattle.sir_analyses.proofs.local_liveness.SetAnswers.{front_members}
 use Rattle.sir_analyses.proofs.answers.Writing.{puts_then, puts_as, puts_past}
 use native.Mathlib.Omega.{arith}
 use Rattle.sir_answers.proofs.all_sets.put_set.Goals as goal
-
-pub overflow_add-result : goal.overflow_add-result
-overflow_add-result c =
-    omega (arith, c.requires.1)
-
-pub len-requires : goal.len-requires
-len-requires c =
-    c.requires.0
 
 pub overflow_add-result-then-out-eq0 : goal.overflow_add-result-then-out-eq0
 overflow_add-result-then-out-eq0 c =
@@ -34,23 +25,6 @@ returns-then-out-eq0 c =
         left = sym (puts_past (length out) n (length (members s) ∷ members s) out (omega (arith, c.if-out-eq0.true)));
       },
     )
-
-pub overflow_cast-count : goal.overflow_cast-count
-overflow_cast-count c =
-    omega (arith, c.list-count.ensures.0, members_most c.args.set.now)
-
-pub slice_bounds-ids-end : goal.slice_bounds-ids-end
-slice_bounds-ids-end c =
-    omega (arith, c.list-count.ensures.0, c.list-count.auto, members_most c.args.set.now)
-
-pub slice_bounds-put_words-end : goal.slice_bounds-put_words-end
-slice_bounds-put_words-end c =
-    sym (length-take-le _ _ (omega (arith, c.list-count.ensures.0, c.list-count.auto, members_most c.args.set.now)))
-
-pub put_words-requires : goal.put_words-requires
-put_words-requires c =
-    let s = c.args.set.now in
-    omega (arith, c.put_word-m.ensures.next, ap length (front_members s _ c.list-count.ensures.0 c.list-count.ensures.1), members_most s, c.requires.1)
 
 pub returns : goal.returns
 returns c =

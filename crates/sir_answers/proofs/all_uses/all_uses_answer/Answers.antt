@@ -1,13 +1,9 @@
 -- `all_uses_answer` meets its contract.
-use mathlib.Core.Path.{sym, ◌∙◌}
+use mathlib.Core.Path.{◌∙◌}
 use Prim.Native.Nat.{◌≤◌}
 use native.Mathlib.Omega.{arith}
 use Rattle.sir_answers.proofs.scatter.AllAnswers.{zero_long, zero_prefix}
 use Rattle.sir_answers.proofs.all_uses.all_uses_answer.Goals as goal
-
-pub slice_bounds-fill_uses-end : goal.slice_bounds-fill_uses-end
-slice_bounds-fill_uses-end c =
-    sym (zero_long c.local_count-n.result 512 (omega (arith, c.requires.well_formed.sized.locals_most)))
 
 pub fill_uses-requires : goal.fill_uses-requires
 fill_uses-requires c =

@@ -17,14 +17,6 @@ pub loop-o-init : goal.loop-o-init
 loop-o-init c =
     scattering_as (rw (c.operation_count-last.ensures, range_all)) (scattering_none c.requires.fits)
 
-pub op_inputs-requires : goal.op_inputs-requires
-op_inputs-requires c =
-    record { sized = c.requires.well_formed.sized; in_range = c.requires.well_formed.in_range; o_bound = omega (arith, c.operation_count-last.ensures, c.loop-o-test.true) }
-
-pub bounds-times-o : goal.bounds-times-o
-bounds-times-o c =
-    omega (arith, c.requires.operation_times.0.wide, c.requires.well_formed.sized.operations_most, c.operation_count-last.ensures, c.loop-o-test.true)
-
 pub overflow_mul-times : goal.overflow_mul-times
 overflow_mul-times c =
     let o = c.loop-o.o in
@@ -48,9 +40,6 @@ loop-o-preserved c =
     let last = c.operation_count-last.result in
     let g : ℕ → Pieces = λ o. pieces_at (λ k. blanks (3 * get_or c.args.times.now o 0)) (ins c.args.words.now o) 0 in
     scattering_more (bind (range (o + 1) last) g) (scattering_as (bind_step g o last c.loop-o-test.true) c.loop-o.invariant) (scatters_as (ap (λ (l : List ℕ). pieces_at (λ k. blanks n) l 0) is) c.advance_each.ensures)
-
-pub shape_of-cursors : goal.shape_of-cursors
-shape_of-cursors c = c.loop-o.invariant.wide
 
 pub returns : goal.returns
 returns c =

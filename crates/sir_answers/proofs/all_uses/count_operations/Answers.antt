@@ -30,9 +30,6 @@ loop-o-preserved c =
     let g : ℕ → Pieces = λ o. (o, blanks 1) ∷ [] in
     scattering_more (bind (range (o + 1) last) g) (scattering_as (bind_step g o last c.loop-o-test.true) c.loop-o.invariant) c.advance.ensures
 
-pub shape_of-times : goal.shape_of-times
-shape_of-times c = c.loop-o.invariant.wide
-
 pub returns : goal.returns
 returns c =
     let span = c.operations-span in

@@ -14,10 +14,6 @@ use Rattle.sir_answers.proofs.all_uses.UsePieces.{ones_most}
 use Rattle.sir_answers.proofs.scatter.AllAnswers.{scatters_cursor, zero_room}
 use Rattle.sir_answers.proofs.all_uses.operation_times.Goals as goal
 
-pub rpo-order-requires : goal.rpo-order-requires
-rpo-order-requires c =
-    (c.requires.visit_stage.long, c.requires.visit_stage.few)
-
 pub loop-b-init : goal.loop-b-init
 loop-b-init c =
     let w = c.args.words.now in
@@ -39,9 +35,6 @@ loop-b-preserved c =
     let order = c.rpo-order.result.now in
     let i = c.loop-b.b-index in
     scattering_more (bind (drop (i + 1) order) (one_pieces w)) (scattering_as (bind_drop_step (one_pieces w) order i c.loop-b-test.true) c.loop-b.invariant) c.count_operations.ensures
-
-pub shape_of-times : goal.shape_of-times
-shape_of-times c = c.loop-b.invariant.wide
 
 pub returns : goal.returns
 returns c =

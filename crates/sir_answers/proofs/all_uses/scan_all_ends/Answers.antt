@@ -11,10 +11,6 @@ use Rattle.sir_answers.proofs.scatter.Scattering.{scattering_none, scattering_as
 use Rattle.sir_analyses.proofs.claims.order.OrderLength.{rpo_below}
 use Rattle.sir_answers.proofs.all_uses.scan_all_ends.Goals as goal
 
-pub rpo-order-requires : goal.rpo-order-requires
-rpo-order-requires c =
-    (c.requires.visit_stage.long, c.requires.visit_stage.few)
-
 pub loop-b-init : goal.loop-b-init
 loop-b-init c =
     scattering_none (fits_as (ap (λ (l : List ℕ). bind l (end_pieces c.args.words.now)) (sym (c.rpo-order.ensures ∙ c.requires.visit_stage.rpo_is))) c.requires.fits)
@@ -35,12 +31,6 @@ loop-b-preserved c =
     let order = c.rpo-order.result.now in
     let i = c.loop-b.b-index in
     scattering_more (bind (drop (i + 1) order) (end_pieces w)) (scattering_as (bind_drop_step (end_pieces w) order i c.loop-b-test.true) c.loop-b.invariant) c.scan_ends.ensures
-
-pub shape_of-cursors : goal.shape_of-cursors
-shape_of-cursors c = c.loop-b.invariant.wide
-
-pub shape_of-out : goal.shape_of-out
-shape_of-out c = c.loop-b.invariant.long
 
 pub returns : goal.returns
 returns c =

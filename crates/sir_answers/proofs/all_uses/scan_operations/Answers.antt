@@ -15,12 +15,6 @@ pub loop-o-init : goal.loop-o-init
 loop-o-init c =
     scattering_none (rw (c.operations-span.ensures.0, c.operations-span.ensures.1) c.requires.fits)
 
-pub op_inputs-requires : goal.op_inputs-requires
-op_inputs-requires c =
-    let span = c.operations-span in
-    let r = c.requires.well_formed.in_range.ops_range c.args.b.0 c.requires.b_bound.0 in
-    record { sized = c.requires.well_formed.sized; in_range = c.requires.well_formed.in_range; o_bound = omega (arith, r.1, span.ensures.1, c.loop-o-test.true) }
-
 pub append_each-requires : goal.append_each-requires
 append_each-requires c =
     let is = c.op_inputs.ensures in
@@ -40,12 +34,6 @@ loop-o-preserved c =
     let o = c.loop-o.o in
     let g : ℕ → Pieces = λ o. pieces_at (λ k. b ∷ 0 ∷ o ∷ []) (ins c.args.words.now o) 0 in
     scattering_more (bind (range (o + 1) last) g) (scattering_as (bind_step g o last c.loop-o-test.true) c.loop-o.invariant) (scatters_as (ap (λ (l : List ℕ). pieces_at (λ k. b ∷ 0 ∷ o ∷ []) l 0) is) c.append_each.ensures)
-
-pub shape_of-cursors : goal.shape_of-cursors
-shape_of-cursors c = c.loop-o.invariant.wide
-
-pub shape_of-out : goal.shape_of-out
-shape_of-out c = c.loop-o.invariant.long
 
 pub returns : goal.returns
 returns c =

@@ -37,12 +37,6 @@ loop-k-preserved c =
     let g : ℕ → List ℕ = λ k. c.args.b.0 ∷ 2 ∷ k ∷ [] in
     piece_more g run c.loop-k.k c.loop-k.invariant c.loop-k-test.true refl c.append.ensures
 
-pub shape_of-cursors : goal.shape_of-cursors
-shape_of-cursors c = c.loop-k.invariant.wide
-
-pub shape_of-out : goal.shape_of-out
-shape_of-out c = c.loop-k.invariant.long
-
 pub returns : goal.returns
 returns c =
     let b = c.args.b.0 in

@@ -2,29 +2,13 @@
 use Rattle.std.proofs.Common.{sym, ◌∙◌, rules}
 use Rattle.sir_answers.specs.inner.Questions.{own_rules, answer_bytes}
 use Rattle.sir_analyses.proofs.answers.Calls.{call_answered}
-use Rattle.sir_answers.proofs.questions.Asked.{call_err, own_as, answered_as}
+use Rattle.sir_answers.proofs.questions.Asked.{call_err, answered_as}
 use Rattle.sir_answers.proofs.ask.answer.Goals as goal
-
-pub own_refusal-requires : goal.own_refusal-requires
-own_refusal-requires c =
-    let r = c.requires.2 in record { well_formed = r.well_formed; sites_value = (r.sites_are, r.sites_few) }
 
 pub returns-in_err-own_refusal : goal.returns-in_err-own_refusal
 returns-in_err-own_refusal c =
     let a = c.args in
     call_err (search rules) (own_rules a.question a.words.now) (answer_bytes a.question a.words.now) a.out.now c.in_err-own_refusal.ensures
-
-pub order_answer-requires : goal.order_answer-requires
-order_answer-requires c =
-    record { order_stage = c.requires.0; visit_stage = c.requires.1 }
-
-pub live_answer-requires : goal.live_answer-requires
-live_answer-requires c =
-    record { visit_stage = c.requires.1; words_value = own_as (λ q. q) c.args.words.now c.in-OfLiveness.is (sym c.in_ok-own_refusal.ensures) }
-
-pub pointer_answer-requires : goal.pointer_answer-requires
-pointer_answer-requires c =
-    record { visit_stage = c.requires.1; accepted_stage = (c.requires.2, own_as (λ q. q) c.args.words.now c.in-OfPointers.is (sym c.in_ok-own_refusal.ensures)) }
 
 pub returns-in-OfOrder : goal.returns-in-OfOrder
 returns-in-OfOrder c =

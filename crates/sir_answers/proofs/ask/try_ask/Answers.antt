@@ -11,14 +11,6 @@ returns-in_err-sizes c =
     let a = c.args in
     image_err (search rules) (own_rules a.question) (answer_bytes a.question) a.image.now a.out.now c.in_err-sizes.ensures.number
 
-pub slice_bounds-words-end : goal.slice_bounds-words-end
-slice_bounds-words-end c = c.in_ok-sizes.ensures.prepared.words_fit
-
-pub answer-requires : goal.answer-requires
-answer-requires c =
-    let p = c.in_ok-sizes.ensures.prepared in
-    (p.order_stage, p.visit_stage, p.accepted_stage)
-
 pub returns : goal.returns
 returns c =
     let a = c.args in

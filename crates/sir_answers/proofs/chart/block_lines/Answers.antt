@@ -5,10 +5,6 @@ use Rattle.plank_core.specs.laws.Loops.{length_count}
 use Rattle.sir_data.specs.Records.{block_word}
 use Rattle.sir_answers.proofs.chart.block_lines.Goals as goal
 
-pub overflow_sub-result : goal.overflow_sub-result
-overflow_sub-result c =
-    omega (arith, c.block_operations-span.ensures, c.requires.well_formed.in_range.ops_range c.args.b.0 c.requires.b_bound)
-
 pub returns : goal.returns
 returns c =
     let w = c.args.words.now in

@@ -1,20 +1,13 @@
 -- `chart_answer` meets its contract.
 use mathlib.Core.Path.{◌≡◌, sym, ap, ap₂, ◌∙◌}
-use Prim.Native.Nat.{ℕ, ◌*◌, ◌≤◌}
-use native.Mathlib.Nat.{mul-le-mul_left}
+use Prim.Native.Nat.{ℕ, ◌*◌}
 use native.Mathlib.Omega.{arith}
 use lib.Seq.{length-take-le}
 use lib.ListN.{length}
-use Rattle.sir_analyses.proofs.claims.chart.ChartProof.{series_most}
 use Rattle.sir_analyses.specs.Chart.{on_sheets, series_count, chart_text, lines_of}
 use Rattle.sir_analyses.specs.Order.{blocks_rpo}
 use Rattle.sir_answers.proofs.chart.ChartTexts.{series_is, chart_length, chart_refused, chart_answered}
 use Rattle.sir_answers.proofs.chart.chart_answer.Goals as goal
-
-pub overflow_mul-n : goal.overflow_mul-n
-overflow_mul-n c =
-    let few : c.series_count.result ≤ 8 = rw c.series_count.ensures (series_most (length c.args.sites.now) c.requires.accepted_stage.sites_few) in
-    omega (arith, mul-le-mul_left (73 * c.on_sheets-bytes.result) few, c.on_sheets-bytes.ensures, c.series_lines.ensures.1)
 
 pub returns-then-out-n : goal.returns-then-out-n
 returns-then-out-n c =
@@ -24,17 +17,13 @@ returns-then-out-n c =
     let n : 73 * c.on_sheets-bytes.result * c.series_count.result ≡ length (chart_text w) = ap₂ (λ (x y : ℕ). x * y) bytes count ∙ sym (chart_length c.requires.accepted_stage) in
     chart_refused (chart_text w) c.args.out.now (omega (arith, n, c.if-out-n.true))
 
-pub slice_bounds-put_chart-end-4 : goal.slice_bounds-put_chart-end-4
-slice_bounds-put_chart-end-4 c =
-    sym (length-take-le _ c.args.out.now c.if-out-n.false)
-
-pub put_chart-requires : goal.put_chart-requires
-put_chart-requires c =
+pub put_chart-requires-clause-bytes_value : goal.put_chart-requires-clause-bytes_value
+put_chart-requires-clause-bytes_value c =
     let w = c.args.words.now in
     let bytes : 73 * c.on_sheets-bytes.result ≡ 73 * on_sheets (lines_of w (blocks_rpo w)) = ap (λ (n : ℕ). 73 * n) (c.on_sheets-bytes.ensures ∙ ap on_sheets c.series_lines.ensures.0) in
     let count : c.series_count.result ≡ series_count w = c.series_count.ensures ∙ series_is c.requires.accepted_stage in
     let n : 73 * c.on_sheets-bytes.result * c.series_count.result ≡ length (chart_text w) = ap₂ (λ (x y : ℕ). x * y) bytes count ∙ sym (chart_length c.requires.accepted_stage) in
-    record { visit_stage = c.requires.visit_stage; liveness_stage = c.compute_liveness.ensures.1; pointer_stage = c.compute_pointers.ensures; bytes_value = (bytes, length-take-le _ c.args.out.now c.if-out-n.false ∙ ap (λ (k : ℕ). 73 * c.on_sheets-bytes.result * k) count) }
+    (bytes, length-take-le _ c.args.out.now c.if-out-n.false ∙ ap (λ (k : ℕ). 73 * c.on_sheets-bytes.result * k) count)
 
 pub returns : goal.returns
 returns c =

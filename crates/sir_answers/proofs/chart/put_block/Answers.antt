@@ -11,15 +11,10 @@ use Rattle.plank_core.specs.Lists.{range}
 use Rattle.sir_data.specs.Records.{block_word, ops}
 use Rattle.sir_analyses.specs.Chart.{heading}
 use Rattle.sir_analyses.proofs.claims.order.OrderProof.{blocks_below}
-use Rattle.sir_answers.proofs.chart_columns.ColumnLaws.{met_owned}
 use Rattle.sir_answers.proofs.chart.BlockLines.{LinesScan, lines_none, lines_more}
 use Rattle.sir_answers.proofs.LiveSets.{live_none}
 use Rattle.sir_answers.specs.inner.Columns.{Columns}
 use Rattle.sir_answers.proofs.chart.put_block.Goals as goal
-
-pub slice_bounds-put_heading-end : goal.slice_bounds-put_heading-end
-slice_bounds-put_heading-end c =
-    omega (arith, c.requires.fact.1)
 
 pub slice_bounds-put_heading-end-2 : goal.slice_bounds-put_heading-end-2
 slice_bounds-put_heading-end-2 c =
@@ -30,20 +25,10 @@ put_heading-requires c =
     let stage = c.requires.liveness_stage in
     (omega (arith, blocks_below c.args.words.now stage.well_formed c.args.b.0 c.requires.fact.0, stage.well_formed.sized.blocks_most), length-take-le 73 c.args.out.now (omega (arith, c.requires.fact.1)))
 
-pub slice_bounds-live_after-end : goal.slice_bounds-live_after-end
-slice_bounds-live_after-end c = refl
-
 pub live_after-requires : goal.live_after-requires
 live_after-requires c =
     let stage = c.requires.liveness_stage in
     (stage.long, omega (arith, blocks_below c.args.words.now stage.well_formed c.args.b.0 c.requires.fact.0, stage.well_formed.sized.blocks_most), refl)
-
-pub slice_bounds-closed_columns-end : goal.slice_bounds-closed_columns-end
-slice_bounds-closed_columns-end c = refl
-
-pub closed_columns-requires : goal.closed_columns-requires
-closed_columns-requires c =
-    record { by_index = (c.args.words.now, c.requires.pointer_stage); series_bound = (c.requires.series_bound.0, refl) }
 
 pub block_operations-span-requires : goal.block_operations-span-requires
 block_operations-span-requires c =
@@ -68,40 +53,11 @@ loop-o-init c =
       λ d s. lines_none (range_none c.block_operations-span.result.end c.block_operations-span.result.end (omega arith)) refl s.live,
     )
 
-pub overflow_sub-at : goal.overflow_sub-at
-overflow_sub-at c =
-    omega (arith, c.loop-o.invariant.3)
-
-pub slice_bounds-live_around-end : goal.slice_bounds-live_around-end
-slice_bounds-live_around-end c =
-    omega (arith, c.loop-o.invariant.2)
-
 pub live_around-requires : goal.live_around-requires
 live_around-requires c =
     let good = c.requires.liveness_stage.well_formed in
     let below = blocks_below c.args.words.now good c.args.b.0 c.requires.fact.0 in
     (c.requires.liveness_stage.long, omega (arith, c.loop-o.invariant.1, c.block_operations-span.ensures, good.in_range.ops_range c.args.b.0 below, good.sized.operations_most), c.loop-o.invariant.2)
-
-pub slice_bounds-of_series-end : goal.slice_bounds-of_series-end
-slice_bounds-of_series-end c =
-    omega (arith, c.live_around.auto, c.loop-o.invariant.2)
-
-pub of_series-requires : goal.of_series-requires
-of_series-requires c =
-    (omega (arith, c.live_around.auto, c.loop-o.invariant.2), c.requires.series_bound.1.long)
-
-pub slice_bounds-update_columns-end : goal.slice_bounds-update_columns-end
-slice_bounds-update_columns-end c =
-    sym c.loop-o.invariant.6.long
-
-pub update_columns-shown-requires : goal.update_columns-shown-requires
-update_columns-shown-requires c =
-    let x = c.requires.series_bound in
-    record { by_index = (c.args.words.now, c.requires.pointer_stage); series_bound = (x.0, c.loop-o.invariant.6); by_index_2 = met_owned x.1 c.live_around.new.set c.of_series.result.words c.of_series.ensures }
-
-pub slice_bounds-put_op_line-end : goal.slice_bounds-put_op_line-end
-slice_bounds-put_op_line-end c =
-    sym c.update_columns-shown.ensures.columns.long
 
 pub put_op_line-requires : goal.put_op_line-requires
 put_op_line-requires c =
@@ -109,10 +65,6 @@ put_op_line-requires c =
     let below = blocks_below c.args.words.now good c.args.b.0 c.requires.fact.0 in
     let l = c.loop-o in
     record { well_formed = good; o_bound = (omega (arith, c.loop-o-test.true, l.invariant.1, c.block_operations-span.ensures, good.in_range.ops_range c.args.b.0 below), c.update_columns-shown.ensures.columns.long, omega (arith, l.invariant.3, l.invariant.4, l.invariant.5)) }
-
-pub slice_bounds-live_before-end : goal.slice_bounds-live_before-end
-slice_bounds-live_before-end c =
-    omega (arith, c.live_around.auto, c.loop-o.invariant.2)
 
 pub live_before-requires : goal.live_before-requires
 live_before-requires c =
@@ -143,10 +95,6 @@ loop-o-preserved c =
           rw (range_before l.o last (omega arith) (omega (arith, l.invariant.1)))
           (rw next at (lines_more c.requires.liveness_stage c.requires.pointer_stage c.requires.series_bound.1 s k (omega (arith, test)) (omega (arith, test, l.invariant.1)) around c.of_series.result.words c.live_around.ensures long c.of_series.ensures update.columns c.put_op_line.ensures c.live_before.ensures rest (omega (arith, l.invariant.3)) l.invariant.5)),
     )
-
-pub shape_of-out : goal.shape_of-out
-shape_of-out c =
-    c.loop-o.invariant.4 ∙ length_front c.args.out.now c.put_heading.new.line 73 (omega (arith, c.put_heading.auto))
 
 pub returns : goal.returns
 returns c =

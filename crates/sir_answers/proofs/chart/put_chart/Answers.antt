@@ -12,7 +12,7 @@ use Rattle.sir_analyses.specs.Allocation.{allocs}
 use Rattle.sir_analyses.proofs.allocation_liveness.PointerTables.{allocations_few}
 use Rattle.sir_analyses.proofs.claims.chart.ChartProof.{series_most}
 use Rattle.sir_analyses.specs.Chart.{series_lines, sheets, series_for, series_count, text_of, chart_lines, chart_text}
-use Rattle.sir_answers.proofs.chart.ChartTexts.{lines_most, series_to, series_next}
+use Rattle.sir_answers.proofs.chart.ChartTexts.{series_to, series_next}
 use Rattle.sir_answers.proofs.chart_lines.LineTexts.{fill_next}
 use Rattle.sir_answers.proofs.chart_columns.ColumnLaws.{sites_count, sites_few}
 use Rattle.sir_answers.proofs.chart.put_chart.Goals as goal
@@ -22,27 +22,12 @@ text_is : (w : List ℕ) → series_to w (series_count w) ≡ chart_text w
 unfolding chart_lines chart_text
 text_is w = refl
 
-pub alloc_sites-requires : goal.alloc_sites-requires
-alloc_sites-requires c =
-    (c.requires.pointer_stage.long, c.requires.pointer_stage.few)
-
 pub series_count-count-requires : goal.series_count-count-requires
 series_count-count-requires c =
     omega (arith, ap length c.alloc_sites.ensures, sites_few c.requires.pointer_stage)
 
 pub loop-series-init : goal.loop-series-init
 loop-series-init c = (refl, omega arith, refl, refl)
-
-pub overflow_add-end : goal.overflow_add-end
-overflow_add-end c =
-    let w = c.args.words.now in
-    let l = c.loop-series in
-    let count : c.series_count-count.result ≡ series_count w = c.series_count-count.ensures ∙ ap series_for (ap length c.alloc_sites.ensures ∙ sites_count c.requires.pointer_stage) in
-    let more : l.series < series_count w = omega (arith, count, c.loop-series-test.true) in
-    let room : c.args.bytes * suc l.series ≤ c.args.bytes * series_count w = mul-le-mul_left c.args.bytes more in
-    let next = mul-suc c.args.bytes l.series in
-    let eight = mul-le-mul_left c.args.bytes (series_most (length (allocs w)) (allocations_few c.requires.pointer_stage)) in
-    omega (arith, room, next, eight, l.invariant.1, c.requires.bytes_value.0, lines_most c.requires.visit_stage)
 
 pub slice_bounds-put_series-end : goal.slice_bounds-put_series-end
 slice_bounds-put_series-end c =
@@ -81,9 +66,6 @@ loop-series-preserved c =
       ap length (sym (series_next w l.series)) ∙ put.0,
       put.1 ∙ ap (λ (t : List ℕ). t ++ drop (l.at + bytes) d) (series_next w l.series),
     )
-
-pub shape_of-out : goal.shape_of-out
-shape_of-out c = c.loop-series.invariant.0
 
 pub returns : goal.returns
 returns c =

@@ -12,20 +12,9 @@ use Rattle.sir_analyses.proofs.claims.chart.Places.{sheets_hold}
 use Rattle.sir_analyses.proofs.claims.order.OrderProof.{blocks_below}
 use Rattle.sir_analyses.specs.Chart.{blank_line, block_lines, on_sheets, text_of, lines_of}
 use Rattle.sir_analyses.specs.Order.{blocks_rpo}
-use Rattle.sir_answers.proofs.chart.ChartTexts.{lines_most, lines_next, blocks_next, lines_within, sheets_text}
+use Rattle.sir_answers.proofs.chart.ChartTexts.{lines_next, blocks_next, lines_within, sheets_text}
 use Rattle.sir_answers.proofs.chart_lines.LineTexts.{fill_next, fill_end}
 use Rattle.sir_answers.proofs.chart.put_series.Goals as goal
-
-pub slice_bounds-other_locals-end : goal.slice_bounds-other_locals-end
-slice_bounds-other_locals-end c = refl
-
-pub other_locals-requires : goal.other_locals-requires
-other_locals-requires c =
-    record { by_index = (c.args.words.now, c.requires.pointer_stage); series_bound = (c.requires.series_bound.0, refl) }
-
-pub rpo-order-requires : goal.rpo-order-requires
-rpo-order-requires c =
-    (c.requires.visit_stage.long, c.requires.visit_stage.few)
 
 pub loop-b-init : goal.loop-b-init
 loop-b-init c = (refl, refl, refl, refl)
@@ -38,22 +27,6 @@ block_lines-requires c =
     let member = subst (λ (bs : List ℕ). get_or order i 0 ∈ bs) same (get_or_mem order i 0 c.loop-b-test.true) in
     let good = c.requires.visit_stage.well_formed in
     record { well_formed = good; b_bound = blocks_below c.args.words.now good (get_or order i 0) member }
-
-pub overflow_mul-end : goal.overflow_mul-end
-overflow_mul-end c = omega (arith, c.block_lines.ensures.1)
-
-pub overflow_add-end : goal.overflow_add-end
-overflow_add-end c =
-    let w = c.args.words.now in
-    let order = c.rpo-order.result.now in
-    let l = c.loop-b in
-    let same : order ≡ blocks_rpo w = c.rpo-order.ensures ∙ c.requires.visit_stage.rpo_is in
-    let room : 73 * lines_of w (take l.b-index order) ≤ length c.args.out.now = omega (arith, lines_within w order l.b-index, ap (lines_of w) same, sheets_hold (lines_of w (blocks_rpo w)), c.requires.series_bound.1) in
-    omega (arith, c.block_lines.ensures.1, l.invariant.1, room, c.requires.series_bound.1, lines_most c.requires.visit_stage)
-
-pub slice_bounds-put_block-end : goal.slice_bounds-put_block-end
-slice_bounds-put_block-end c =
-    sym c.other_locals.ensures.long
 
 pub slice_bounds-put_block-end-in-loop-b : goal.slice_bounds-put_block-end-in-loop-b
 slice_bounds-put_block-end-in-loop-b c =
@@ -97,38 +70,6 @@ loop-b-preserved c =
       ap length (sym more) ∙ put.0,
       put.1 ∙ ap (λ (t : List ℕ). t ++ drop (l.at + 73 * c.block_lines.result) d) more,
     )
-
-pub slice_bounds-put_blanks-count : goal.slice_bounds-put_blanks-count
-slice_bounds-put_blanks-count c =
-    let w = c.args.words.now in
-    let order = c.rpo-order.result.now in
-    let l = c.loop-b in
-    let same : order ≡ blocks_rpo w = c.rpo-order.ensures ∙ c.requires.visit_stage.rpo_is in
-    let room : 73 * lines_of w (take l.b-index order) ≤ length c.args.out.now = omega (arith, lines_within w order l.b-index, ap (lines_of w) same, sheets_hold (lines_of w (blocks_rpo w)), c.requires.series_bound.1) in
-    omega (arith, room, l.invariant.0, l.invariant.1)
-
-pub slice_bounds-put_blanks-start : goal.slice_bounds-put_blanks-start
-slice_bounds-put_blanks-start c =
-    let w = c.args.words.now in
-    let order = c.rpo-order.result.now in
-    let l = c.loop-b in
-    let same : order ≡ blocks_rpo w = c.rpo-order.ensures ∙ c.requires.visit_stage.rpo_is in
-    let room : 73 * lines_of w (take l.b-index order) ≤ length c.args.out.now = omega (arith, lines_within w order l.b-index, ap (lines_of w) same, sheets_hold (lines_of w (blocks_rpo w)), c.requires.series_bound.1) in
-    omega (arith, room, l.invariant.0, l.invariant.1)
-
-pub put_blanks-requires : goal.put_blanks-requires
-put_blanks-requires c =
-    let w = c.args.words.now in
-    let order = c.rpo-order.result.now in
-    let l = c.loop-b in
-    let all : take l.b-index order ≡ blocks_rpo w = take_all l.b-index order c.loop-b-test.false ∙ c.rpo-order.ensures ∙ c.requires.visit_stage.rpo_is in
-    let room : lines_of w (blocks_rpo w) ≤ on_sheets (lines_of w (blocks_rpo w)) = sheets_hold (lines_of w (blocks_rpo w)) in
-    omega (arith, room, l.invariant.0, l.invariant.1, ap (lines_of w) all, c.requires.series_bound.1)
-
-pub shape_of-out : goal.shape_of-out
-shape_of-out c =
-    let l = c.loop-b in
-    same_len_mid l.at (length l.out - l.at) l.out c.put_blanks.new.out (omega (arith, c.put_blanks.auto)) ∙ l.invariant.0
 
 pub returns : goal.returns
 returns c =

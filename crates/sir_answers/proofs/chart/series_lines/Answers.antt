@@ -13,9 +13,6 @@ use Rattle.sir_analyses.specs.Chart.{lines_of}
 use Rattle.sir_answers.proofs.chart.ChartTexts.{order_most, lines_next}
 use Rattle.sir_answers.proofs.chart.series_lines.Goals as goal
 
-pub rpo-order-requires : goal.rpo-order-requires
-rpo-order-requires c = (c.requires.long, c.requires.few)
-
 pub loop-b-init : goal.loop-b-init
 loop-b-init c = (refl, omega arith)
 

@@ -1,5 +1,5 @@
 -- `closed_columns` meets its contract. The invariant: the columns before k are filled.
-use mathlib.Core.Path.{sym, ◌∙◌}
+use mathlib.Core.Path.{◌∙◌}
 use native.Mathlib.Omega.{arith}
 use lib.ListN.{length-set}
 use Rattle.sir_answers.proofs.chart_columns.ColumnLaws.{closed_next, columns_closed}
@@ -8,17 +8,11 @@ use Rattle.sir_answers.proofs.chart_columns.closed_columns.Goals as goal
 pub loop-k-init : goal.loop-k-init
 loop-k-init c = (c.requires.series_bound.1, λ j h. absurd (omega arith))
 
-pub closed_column-requires : goal.closed_column-requires
-closed_column-requires c = c.requires.by_index
-
 pub loop-k-preserved : goal.loop-k-preserved
 loop-k-preserved c =
     let a = c.args in
     let l = c.loop-k in
     (length-set l.columns l.k c.closed_column.result ∙ l.invariant.0, closed_next a.pointers.now l.columns a.series l.k c.closed_column.result (omega (arith, l.invariant.0)) c.closed_column.ensures l.invariant.1)
-
-pub shape_of-columns : goal.shape_of-columns
-shape_of-columns c = c.loop-k.invariant.0 ∙ sym c.requires.series_bound.1
 
 pub returns : goal.returns
 returns c =

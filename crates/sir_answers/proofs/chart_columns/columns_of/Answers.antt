@@ -1,19 +1,10 @@
 -- `columns_of` meets its contract.
 use native.Mathlib.Omega.{arith}
 use lib.ListN.{replicate}
-use Rattle.plank_core.specs.laws.Members.{members_most, member_is}
+use Rattle.plank_core.specs.laws.Members.{member_is}
 use Rattle.sir_analyses.proofs.local_liveness.SetAnswers.{front_members}
-use Rattle.sir_analyses.proofs.loading.Loads.{front_length}
 use Rattle.sir_answers.proofs.chart_columns.ColumnLaws.{columns_opened}
 use Rattle.sir_answers.proofs.chart_columns.columns_of.Goals as goal
-
-pub slice_bounds-ids-end : goal.slice_bounds-ids-end
-slice_bounds-ids-end c =
-    omega (arith, c.list-n.ensures.0, members_most c.args.set.now, c.list-n.auto)
-
-pub slice_bounds-open_columns-end : goal.slice_bounds-open_columns-end
-slice_bounds-open_columns-end c =
-    front_length _ _ (omega (arith, c.list-n.ensures.0, members_most c.args.set.now, c.list-n.auto))
 
 pub open_columns-requires : goal.open_columns-requires
 open_columns-requires c =

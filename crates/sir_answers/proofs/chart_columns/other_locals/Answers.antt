@@ -8,7 +8,7 @@ use borrow.Author.Tests.{lt-ltb}
 use Rattle.sir_analyses.proofs.allocation_liveness.PointerTables.{allocations_few}
 use Rattle.sir_analyses.proofs.allocation_answers.AllocationWords.{below_none, below_more, below_on}
 use Rattle.sir_answers.specs.inner.Columns.{in_series}
-use Rattle.sir_answers.specs.inner.AllocationPieces.{unmarked_owner}
+use Rattle.sir_answers.specs.inner.AllocationPieces.{owner_number, unmarked_owner}
 use Rattle.sir_answers.proofs.chart_columns.other_locals.Goals as goal
 use Rattle.sir_answers.proofs.chart_columns.other_locals.Goals.{then-not-in_series, else-not-in_series}
 
@@ -21,31 +21,18 @@ unmarked_owner-owner-requires c =
     let stage = c.requires.by_index.1 in
     (stage.long, omega arith, omega (arith, stage.discovered.owner_known c.loop-v.v, allocations_few stage))
 
-pub overflow_cast-owner : goal.overflow_cast-owner
-overflow_cast-owner c = omega (arith, c.unmarked_owner-owner.ensures.1)
-
-pub in_series-requires : goal.in_series-requires
-in_series-requires c = c.requires.series_bound.0
-
-pub row_add-requires : goal.row_add-requires
-row_add-requires c =
-    (omega (arith, c.loop-v.invariant.0), omega arith)
-
 pub loop-v-preserved : goal.loop-v-preserved
 loop-v-preserved c =
     let a = c.args in
     let l = c.loop-v in
     let own : ℕ → Bool = λ u. not (in_series a.series (unmarked_owner a.pointers.now u)) in
-    let known : own l.v ≡ not (in_series a.series c.unmarked_owner-owner.result) = ap (λ (x : ℕ). not (in_series a.series x)) (sym c.unmarked_owner-owner.ensures.0) in
+    let known : own l.v ≡ not (in_series a.series (owner_number c.unmarked_owner-owner.result)) = ap (λ (x : ℕ). not (in_series a.series x)) (sym c.unmarked_owner-owner.ensures.0) in
     let place : 512 * 0 + l.v ≡ l.v = omega arith in
     elim c.if-not-in_series.branch [
       | then-not-in_series w ↦ rw w.others-is
           (omega (arith, w.row_add.auto, l.invariant.0), below_more own l.others l.v l.invariant.1 _ l.invariant.0 (rw place at w.row_add.ensures.1) (known ∙ ap not (sym c.in_series.ensures ∙ w.if-not-in_series.true)))
       | else-not-in_series w ↦ rw w.others-is (l.invariant.0, below_on own l.others l.v l.invariant.1 (known ∙ ap not (sym c.in_series.ensures ∙ w.if-not-in_series.false)))
     ]
-
-pub shape_of-others : goal.shape_of-others
-shape_of-others c = c.loop-v.invariant.0 ∙ sym (ap length c.requires.series_bound.1)
 
 pub returns : goal.returns
 returns c =

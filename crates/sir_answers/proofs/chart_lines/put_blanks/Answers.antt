@@ -12,10 +12,6 @@ use Rattle.sir_answers.proofs.chart_lines.put_blanks.Goals as goal
 pub loop-k-init : goal.loop-k-init
 loop-k-init c = (refl, refl)
 
-pub put_blank-requires : goal.put_blank-requires
-put_blank-requires c =
-    omega (arith, c.loop-k.auto.out, c.requires, c.loop-k-test.true)
-
 pub loop-k-preserved : goal.loop-k-preserved
 loop-k-preserved c =
     let d = c.args.out.now in

@@ -39,12 +39,6 @@ returns-then-is_marked c =
     ] in
     c.words_answer.ensures ∙ ap (λ (l : List ℕ). answered (bind l bytes_of) c.args.out.now) (crossing_marked w a d either)
 
-pub unmarked_crossing-told-requires : goal.unmarked_crossing-told-requires
-unmarked_crossing-told-requires c =
-    let found = c.requires.pointer_stage.discovered in
-    let known = c.requires.one_in_bounds in
-    record { visit_stage = c.requires.visit_stage; pointer_stage = c.requires.pointer_stage; one_in_bounds = known; one_value = (mark_told found known.0 c.is_marked.ensures c.if-is_marked.false, mark_told found known.1 c.is_marked-else-is_marked.ensures c.if-is_marked-2.false) }
-
 pub returns : goal.returns
 returns c =
     c.words_answer-2.ensures ∙ ap (λ (l : List ℕ). answered (bind l bytes_of) c.args.out.now) c.unmarked_crossing-told.ensures

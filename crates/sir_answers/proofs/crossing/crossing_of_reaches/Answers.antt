@@ -10,23 +10,9 @@ use Rattle.sir_answers.proofs.crossing.FirstCommon.{none_passes, crossing_starts
 use Rattle.sir_answers.proofs.crossing.crossing_of_reaches.Goals as goal
 use Rattle.sir_answers.proofs.crossing.crossing_of_reaches.Goals.{then-is_visited+in_default, else-is_visited}
 
-pub block_count-count-requires : goal.block_count-count-requires
-block_count-count-requires c =
-    omega (arith, c.requires.visit_stage.well_formed.sized.size)
-
 pub loop-b-init : goal.loop-b-init
 loop-b-init c =
     λ a d x y. crossing_starts c.args.words.now a d x.unmarked y.unmarked
-
-pub is_visited-requires : goal.is_visited-requires
-is_visited-requires c =
-    (c.requires.visit_stage.long, omega (arith, c.loop-b-test.true, c.block_count-count.ensures, c.requires.visit_stage.well_formed.sized.blocks_most))
-
-pub first_common-requires : goal.first_common-requires
-first_common-requires c =
-    let b = c.loop-b.b in
-    let h : b < blocks c.args.words.now = omega (arith, c.loop-b-test.true, c.block_count-count.ensures) in
-    record { liveness_stage = c.requires.liveness_stage; b_bound = (h, sym (c.is_visited.ensures ∙ c.requires.visit_stage.visited_is b h) ∙ c.if-is_visited.true, c.requires.one_len.0, c.requires.one_len.1) }
 
 pub loop-b-preserved : goal.loop-b-preserved
 loop-b-preserved c =

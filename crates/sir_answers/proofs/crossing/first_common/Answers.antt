@@ -1,5 +1,5 @@
 -- `first_common` meets its contract. The invariant: whatever block the scan started in, the operations from o on are passed.
-use mathlib.Core.Path.{◌≡◌, refl, ap, ap₂, ◌∙◌}
+use mathlib.Core.Path.{◌≡◌, ap, ap₂, ◌∙◌}
 use mathlib.Core.Bool.{cond}
 use Rattle.std.proofs.Common.{◌<◌, Some}
 use Rattle.std.specs.Prelude.{IfSome}
@@ -15,17 +15,6 @@ use Rattle.sir_answers.proofs.crossing.FirstCommon.{raw, CommonScan, scan_none, 
 use Rattle.sir_answers.proofs.crossing.first_common.Goals as goal
 use Rattle.sir_answers.proofs.crossing.first_common.Goals.{then-both_meet, else-both_meet}
 
-pub slice_bounds-live_after-end : goal.slice_bounds-live_after-end
-slice_bounds-live_after-end c = refl
-
-pub live_after-requires : goal.live_after-requires
-live_after-requires c =
-    (c.requires.liveness_stage.long, omega (arith, c.requires.b_bound.0, c.requires.liveness_stage.well_formed.sized.blocks_most), refl)
-
-pub block_operations-span-requires : goal.block_operations-span-requires
-block_operations-span-requires c =
-    record { sized = c.requires.liveness_stage.well_formed.sized; b_bound = c.requires.b_bound.0 }
-
 pub loop-o-init : goal.loop-o-init
 loop-o-init c =
     let span = c.block_operations-span in (
@@ -35,30 +24,6 @@ loop-o-init c =
       λ b s. scan_none c.requires.liveness_stage s (range_none span.result.end span.result.end (omega arith)),
       tt,
     )
-
-pub slice_bounds-live_around-end : goal.slice_bounds-live_around-end
-slice_bounds-live_around-end c =
-    omega (arith, c.loop-o.invariant.2)
-
-pub live_around-requires : goal.live_around-requires
-live_around-requires c =
-    (c.requires.liveness_stage.long, omega (arith, c.loop-o.invariant.1, c.block_operations-span.ensures, c.requires.liveness_stage.well_formed.in_range.ops_range c.args.b.0 c.requires.b_bound.0, c.requires.liveness_stage.well_formed.sized.operations_most), c.loop-o.invariant.2)
-
-pub slice_bounds-both_meet-end : goal.slice_bounds-both_meet-end
-slice_bounds-both_meet-end c =
-    omega (arith, c.live_around.auto, c.loop-o.invariant.2)
-
-pub both_meet-requires : goal.both_meet-requires
-both_meet-requires c =
-    (c.requires.b_bound.2, c.requires.b_bound.3, omega (arith, c.live_around.auto, c.loop-o.invariant.2))
-
-pub slice_bounds-live_before-end : goal.slice_bounds-live_before-end
-slice_bounds-live_before-end c =
-    omega (arith, c.live_around.auto, c.loop-o.invariant.2)
-
-pub live_before-requires : goal.live_before-requires
-live_before-requires c =
-    (c.requires.liveness_stage.long, omega (arith, c.loop-o.invariant.1, c.block_operations-span.ensures, c.requires.liveness_stage.well_formed.in_range.ops_range c.args.b.0 c.requires.b_bound.0, c.requires.liveness_stage.well_formed.sized.operations_most), omega (arith, c.live_around.auto, c.loop-o.invariant.2))
 
 pub loop-o-preserved : goal.loop-o-preserved
 loop-o-preserved c =

@@ -4,45 +4,17 @@ use mathlib.Core.List.{List, [], ◌∷◌}
 use Prim.Native.Nat.{ℕ}
 use Rattle.plank_core.specs.Lists.{bind}
 use Rattle.sir_data.specs.Pages.{bytes_of}
-use Rattle.sir_data.specs.Records.{blocks, locals}
+use Rattle.sir_data.specs.Records.{blocks}
 use Rattle.sir_analyses.specs.Calls.{answered}
 use Rattle.sir_answers.specs.declared.questions.Question.{Question}
 use Rattle.sir_analyses.proofs.answers.Calls.{known_below}
 use Rattle.sir_answers.proofs.questions.Asked.{own_as, answered_as}
-use Rattle.sir_analyses.proofs.local_liveness.SetAnswers.{row_answer, exit_row_fits}
+use Rattle.sir_analyses.proofs.local_liveness.SetAnswers.{row_answer}
 use Rattle.sir_answers.proofs.live_answers.answer_from_sets.Goals as goal
-
-pub entry_answer-requires : goal.entry_answer-requires
-entry_answer-requires c =
-    record { visit_stage = c.requires.visit_stage; liveness_stage = (c.requires.liveness_stage.0, known_below blocks _ c.args.words.now (own_as Question.OfLiveness c.args.words.now c.in-EntrySet.is c.requires.words_value)) }
-
-pub exits-requires : goal.exits-requires
-exits-requires c =
-    c.requires.liveness_stage.0.long
-
-pub row_of-requires : goal.row_of-requires
-row_of-requires c =
-    exit_row_fits c.requires.visit_stage.well_formed c.requires.liveness_stage.0.sets (known_below blocks _ c.args.words.now (own_as Question.OfLiveness c.args.words.now c.in-ExitSet.is c.requires.words_value)) c.exits.ensures
 
 pub set_answer-requires : goal.set_answer-requires
 set_answer-requires c =
     (row_answer c.requires.visit_stage.well_formed c.requires.liveness_stage.0.sets (known_below blocks _ c.args.words.now (own_as Question.OfLiveness c.args.words.now c.in-ExitSet.is c.requires.words_value)) (rw c.exits.ensures at c.row_of.ensures)).0
-
-pub intervals_answer-requires : goal.intervals_answer-requires
-intervals_answer-requires c =
-    record { visit_stage = c.requires.visit_stage; liveness_stage = (c.requires.liveness_stage.0, known_below locals _ c.args.words.now (own_as Question.OfLiveness c.args.words.now c.in-Intervals.is c.requires.words_value)) }
-
-pub all_entry_sets_answer-requires : goal.all_entry_sets_answer-requires
-all_entry_sets_answer-requires c =
-    record { visit_stage = c.requires.visit_stage; liveness_stage = c.requires.liveness_stage.0 }
-
-pub all_exit_sets_answer-requires : goal.all_exit_sets_answer-requires
-all_exit_sets_answer-requires c =
-    c.requires.liveness_stage.0
-
-pub all_intervals_answer-requires : goal.all_intervals_answer-requires
-all_intervals_answer-requires c =
-    record { visit_stage = c.requires.visit_stage; liveness_stage = c.requires.liveness_stage.0 }
 
 pub returns-in-EntrySet : goal.returns-in-EntrySet
 returns-in-EntrySet c =

@@ -6,20 +6,11 @@ use Rattle.plank_core.specs.Lists.{bind}
 use Rattle.sir_data.specs.Pages.{bytes_of}
 use Rattle.sir_analyses.specs.Calls.{answered}
 use Rattle.sir_analyses.proofs.local_liveness.SetAnswers.{no_entry}
-use native.Mathlib.Omega.{arith}
 use Rattle.sir_answers.proofs.live_answers.entry_answer.Goals as goal
-
-pub is_visited-requires : goal.is_visited-requires
-is_visited-requires c =
-    (c.requires.visit_stage.long, omega (arith, c.requires.liveness_stage.1, c.requires.visit_stage.well_formed.sized.blocks_most))
 
 pub returns-then-not-is_visited : goal.returns-then-not-is_visited
 returns-then-not-is_visited c =
     c.set_answer.ensures ∙ ap (λ (l : List ℕ). answered (bind l bytes_of) c.args.out.now) (no_entry c.args.words.now c.args.b.0 (sym (c.requires.visit_stage.visited_is c.args.b.0 c.requires.liveness_stage.1) ∙ sym c.is_visited.ensures ∙ c.if-not-is_visited.true))
-
-pub compute_liveness_at_block_entry-set-requires : goal.compute_liveness_at_block_entry-set-requires
-compute_liveness_at_block_entry-set-requires c =
-    (c.requires.liveness_stage.0.long, omega (arith, c.requires.liveness_stage.1, c.requires.visit_stage.well_formed.sized.blocks_most))
 
 pub returns : goal.returns
 returns c =

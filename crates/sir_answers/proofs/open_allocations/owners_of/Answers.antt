@@ -7,32 +7,15 @@ use lib.ListN.{take}
 use Rattle.plank_core.specs.Lists.{mem}
 use Rattle.plank_core.specs.laws.Members.{members_most, member_is}
 use Rattle.sir_answers.specs.inner.AllocationPieces.{unmarked_owner}
-use Rattle.sir_analyses.proofs.loading.Loads.{front_length}
 use Rattle.sir_analyses.proofs.local_liveness.SetAnswers.{front_members}
 use Rattle.sir_answers.proofs.open_allocations.OpenOwners.{owners_added}
 use Rattle.sir_answers.proofs.open_allocations.owners_of.Goals as goal
-
-pub slice_bounds-add_owners-end : goal.slice_bounds-add_owners-end
-slice_bounds-add_owners-end c =
-    omega (arith, c.list-n.ensures.0, members_most c.args.set.now, c.list-n.auto, c.requires.set_len.1)
-
-pub slice_bounds-add_owners-end-2 : goal.slice_bounds-add_owners-end-2
-slice_bounds-add_owners-end-2 c =
-    front_length _ _ (omega (arith, c.list-n.ensures.0, members_most c.args.set.now, c.list-n.auto, c.requires.set_len.1))
 
 pub add_owners-requires : goal.add_owners-requires
 add_owners-requires c =
     let set = c.args.set.now in
     let front = front_members set c.args.ids.now c.list-n.ensures.0 c.list-n.ensures.1 in
     record { by_index = c.requires.by_index; by_index_2 = λ v m. (member_is set v (rw front at m)).0; owners_len = refl }
-
-pub list-requires : goal.list-requires
-list-requires c =
-    (omega (arith, c.add_owners.ensures.long), omega (arith, c.list-n.auto, c.requires.set_len.1))
-
-pub shape_of-ids : goal.shape_of-ids
-shape_of-ids c =
-    omega (arith, c.list.auto, c.list-n.auto)
 
 pub returns : goal.returns
 returns c =

@@ -10,20 +10,6 @@ use Rattle.sir_data.specs.Records.{operations, block_word}
 use Rattle.sir_answers.proofs.LiveSets.{LiveBefore, live_none, live_more, around_here}
 use Rattle.sir_answers.proofs.open_allocations.scan_to.Goals as goal
 
-pub live_after-requires : goal.live_after-requires
-live_after-requires c =
-    (c.requires.liveness_stage.long, omega (arith, c.requires.b_bound.0, c.requires.liveness_stage.well_formed.sized.blocks_most), c.requires.b_bound.2)
-
-pub block_operations-span-requires : goal.block_operations-span-requires
-block_operations-span-requires c =
-    record { sized = c.requires.liveness_stage.well_formed.sized; b_bound = c.requires.b_bound.0 }
-
-pub overflow_add-last : goal.overflow_add-last
-overflow_add-last c =
-    let w = c.args.words.now in
-    let b = c.args.b.0 in
-    omega (arith, mem_range c.args.o.0 (block_word w b 4) (block_word w b 5) c.requires.b_bound.1, c.requires.liveness_stage.well_formed.in_range.ops_range b c.requires.b_bound.0, c.requires.liveness_stage.well_formed.sized.operations_most)
-
 pub loop-p-init : goal.loop-p-init
 loop-p-init c =
     let w = c.args.words.now in
@@ -34,12 +20,6 @@ loop-p-init c =
       omega (arith, c.live_after.auto, ap length c.requires.b_bound.2),
       λ d h e k. rw (range_none span.result.end span.result.end (omega arith)) k,
     )
-
-pub live_before-requires : goal.live_before-requires
-live_before-requires c =
-    let w = c.args.words.now in
-    let b = c.args.b.0 in
-    (c.requires.liveness_stage.long, omega (arith, c.loop-p.invariant.1, c.block_operations-span.ensures, c.requires.liveness_stage.well_formed.in_range.ops_range b c.requires.b_bound.0, c.requires.liveness_stage.well_formed.sized.operations_most), c.loop-p.invariant.2)
 
 pub loop-p-preserved : goal.loop-p-preserved
 loop-p-preserved c =
@@ -55,16 +35,6 @@ loop-p-preserved c =
           let m : l.p - 1 < operations w = omega (arith, test, l.invariant.1, e, c.requires.liveness_stage.well_formed.in_range.ops_range d h) in
           rw (range_before l.p span.result.end (omega arith) (omega (arith, l.invariant.1))) (live_more c.requires.liveness_stage h (l.invariant.3 d h e k) m g.ensures (omega (arith, g.auto, l.invariant.2))),
     )
-
-pub live_around-requires : goal.live_around-requires
-live_around-requires c =
-    let w = c.args.words.now in
-    let b = c.args.b.0 in
-    (c.requires.liveness_stage.long, omega (arith, mem_range c.args.o.0 (block_word w b 4) (block_word w b 5) c.requires.b_bound.1, c.requires.liveness_stage.well_formed.in_range.ops_range b c.requires.b_bound.0, c.requires.liveness_stage.well_formed.sized.operations_most), c.loop-p.invariant.2)
-
-pub shape_of-set : goal.shape_of-set
-shape_of-set c =
-    omega (arith, c.live_around.auto, c.loop-p.invariant.2, ap length c.requires.b_bound.2)
 
 pub returns : goal.returns
 returns c =

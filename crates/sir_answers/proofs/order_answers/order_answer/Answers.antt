@@ -9,14 +9,6 @@ use Rattle.sir_answers.specs.declared.questions.Question.{Question}
 use Rattle.sir_answers.proofs.questions.Asked.{answered_as}
 use Rattle.sir_answers.proofs.order_answers.order_answer.Goals as goal
 
-pub all_predecessors_answer-requires : goal.all_predecessors_answer-requires
-all_predecessors_answer-requires c =
-    c.requires.visit_stage
-
-pub all_uses_answer-requires : goal.all_uses_answer-requires
-all_uses_answer-requires c =
-    c.requires.visit_stage
-
 pub returns-in-Order : goal.returns-in-Order
 returns-in-Order c =
     let a = c.args in

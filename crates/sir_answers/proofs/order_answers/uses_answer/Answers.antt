@@ -12,10 +12,6 @@ use Rattle.sir_analyses.proofs.answers.Writing.{puts_as}
 use Rattle.sir_analyses.proofs.def_use.UseWords.{uses_are, uses_most}
 use Rattle.sir_answers.proofs.order_answers.uses_answer.Goals as goal
 
-pub input_counts-requires : goal.input_counts-requires
-input_counts-requires c =
-    record { well_formed = c.requires.well_formed; counts_len = omega arith }
-
 pub counted_answer-requires-clause-callable : goal.counted_answer-requires-clause-callable
 counted_answer-requires-clause-callable c =
     let k = c.input_counts.ensures in

@@ -1,5 +1,5 @@
 -- `own_rows` meets its contract. The invariant: the locals below v are in their rows.
-use mathlib.Core.Path.{◌≡◌}
+use mathlib.Core.Path.{◌≡◌, ◌∙◌}
 use Prim.Native.Nat.{◌<◌}
 use native.Mathlib.Omega.{arith}
 use Rattle.sir_data.specs.Records.{locals}
@@ -8,37 +8,21 @@ use Rattle.sir_analyses.proofs.allocation_liveness.PointerTables.{allocations_fe
 use Rattle.sir_answers.proofs.owned_tables.OwnedTables.{rows_none, rows_more}
 use Rattle.sir_answers.proofs.owned_tables.own_rows.Goals as goal
 
-pub local_count-count-requires : goal.local_count-count-requires
-local_count-count-requires c =
-    omega (arith, c.requires.pointer_stage.well_formed.sized.size)
-
 pub loop-v-init : goal.loop-v-init
 loop-v-init c =
     rows_none (unmarked_owner c.args.pointers.now) c.args.rows.now c.args.rows.now
 
-pub unmarked_owner-owner-requires : goal.unmarked_owner-owner-requires
-unmarked_owner-owner-requires c =
+pub unmarked_owner-requires : goal.unmarked_owner-requires
+unmarked_owner-requires c =
     (c.requires.pointer_stage.long, omega (arith, c.loop-v-test.true, c.local_count-count.ensures, c.requires.pointer_stage.well_formed.sized.locals_most), omega (arith, c.requires.pointer_stage.discovered.owner_known c.loop-v.v, allocations_few c.requires.pointer_stage))
-
-pub overflow_cast-owner : goal.overflow_cast-owner
-overflow_cast-owner c =
-    omega (arith, c.unmarked_owner-owner.ensures.1)
-
-pub row_add-requires : goal.row_add-requires
-row_add-requires c =
-    (omega (arith, c.unmarked_owner-owner.ensures.1, c.loop-v.auto.rows, c.requires.rows_len), omega (arith, c.loop-v-test.true, c.local_count-count.ensures, c.requires.pointer_stage.well_formed.sized.locals_most))
 
 pub loop-v-preserved : goal.loop-v-preserved
 loop-v-preserved c =
     let own = unmarked_owner c.args.pointers.now in
     let L = c.loop-v in
-    let r = c.unmarked_owner-owner in
+    let r = c.owner_row-row in
     let h : L.v < 512 = omega (arith, c.loop-v-test.true, c.local_count-count.ensures, c.requires.pointer_stage.well_formed.sized.locals_most) in
-    rows_more own c.args.rows.now L.rows L.v r.result h r.ensures.0 c.row_add.ensures.1 L.invariant
-
-pub shape_of-rows : goal.shape_of-rows
-shape_of-rows c =
-    c.loop-v.auto.rows
+    rows_more own c.args.rows.now L.rows L.v r.result h (r.ensures ∙ c.unmarked_owner.ensures.0) c.row_add.ensures.1 L.invariant
 
 pub returns : goal.returns
 returns c =

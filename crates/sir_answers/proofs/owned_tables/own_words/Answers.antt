@@ -1,5 +1,5 @@
 -- `own_words` meets its contract. The invariant: the owners of the locals below v are stored.
-use mathlib.Core.Path.{◌≡◌}
+use mathlib.Core.Path.{◌≡◌, ◌∙◌}
 use Prim.Native.Nat.{◌<◌}
 use native.Mathlib.Omega.{arith}
 use lib.ListN.{length}
@@ -9,10 +9,6 @@ use Rattle.sir_analyses.proofs.allocation_liveness.PointerTables.{allocations_fe
 use Rattle.sir_answers.proofs.owned_tables.OwnedTables.{words_none, words_more}
 use Rattle.sir_answers.proofs.owned_tables.own_words.Goals as goal
 
-pub local_count-count-requires : goal.local_count-count-requires
-local_count-count-requires c =
-    omega (arith, c.requires.pointer_stage.well_formed.sized.size)
-
 pub loop-v-init : goal.loop-v-init
 loop-v-init c =
     words_none (unmarked_owner c.args.pointers.now) c.args.owners.now c.args.owners.now
@@ -21,33 +17,13 @@ pub unmarked_owner-requires : goal.unmarked_owner-requires
 unmarked_owner-requires c =
     (c.requires.pointer_stage.long, omega (arith, c.loop-v-test.true, c.local_count-count.ensures, c.requires.pointer_stage.well_formed.sized.locals_most), omega (arith, c.requires.pointer_stage.discovered.owner_known c.loop-v.v, allocations_few c.requires.pointer_stage))
 
-pub overflow_cast-owners : goal.overflow_cast-owners
-overflow_cast-owners c =
-    omega (arith, c.unmarked_owner.ensures.1)
-
-pub overflow_cast-owners-in-loop-v : goal.overflow_cast-owners-in-loop-v
-overflow_cast-owners-in-loop-v c =
-    omega (arith, c.loop-v-test.true, c.local_count-count.ensures, c.requires.pointer_stage.well_formed.sized.locals_most)
-
-pub offset_bounds-owners-v : goal.offset_bounds-owners-v
-offset_bounds-owners-v c =
-    omega (arith, c.loop-v-test.true, c.local_count-count.ensures, c.requires.pointer_stage.well_formed.sized.locals_most)
-
-pub bounds-owners-v : goal.bounds-owners-v
-bounds-owners-v c =
-    omega (arith, c.loop-v-test.true, c.local_count-count.ensures, c.requires.pointer_stage.well_formed.sized.locals_most, c.loop-v.auto.owners, c.requires.owners_len)
-
 pub loop-v-preserved : goal.loop-v-preserved
 loop-v-preserved c =
     let own = unmarked_owner c.args.pointers.now in
     let L = c.loop-v in
-    let r = c.unmarked_owner in
+    let r = c.owner_row in
     let h : L.v < length L.owners = omega (arith, c.loop-v-test.true, c.local_count-count.ensures, c.requires.pointer_stage.well_formed.sized.locals_most, L.auto.owners, c.requires.owners_len) in
-    words_more own c.args.owners.now L.owners L.v r.result h r.ensures.0 L.invariant
-
-pub shape_of-owners : goal.shape_of-owners
-shape_of-owners c =
-    c.loop-v.auto.owners
+    words_more own c.args.owners.now L.owners L.v r.result h (r.ensures ∙ c.unmarked_owner.ensures.0) L.invariant
 
 pub returns : goal.returns
 returns c =

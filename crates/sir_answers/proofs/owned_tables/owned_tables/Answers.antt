@@ -1,37 +1,11 @@
 -- `owned_tables` meets its contract.
-use mathlib.Core.Path.{sym, ◌∙◌}
+use mathlib.Core.Path.{◌∙◌}
 use native.Mathlib.Omega.{arith}
 use Rattle.sir_analyses.specs.inner.Stages.{part}
 use Rattle.sir_analyses.proofs.Tables.{cleared_long}
 use Rattle.sir_analyses.proofs.stages.Parts.{length_part, put_back, put_long}
 use Rattle.sir_answers.proofs.owned_tables.OwnedTables.{tables_owned}
 use Rattle.sir_answers.proofs.owned_tables.owned_tables.Goals as goal
-
-pub own_rows-requires : goal.own_rows-requires
-unfolding part
-own_rows-requires c =
-    record { pointer_stage = c.requires.pointer_stage; rows_len = length_part 0 4104 c.args.owned.now (omega (arith, cleared_long c.args.owned.now 4616 c.requires.owned_value)) }
-
-pub own_words-requires : goal.own_words-requires
-unfolding part
-own_words-requires c =
-    let owned = c.args.owned.now in
-    let long = cleared_long owned 4616 c.requires.owned_value in
-    let rows = c.own_rows.new.rows in
-    let adds = c.own_rows.ensures in
-    let put = put_long 0 4104 owned rows (adds.long ∙ length_part 0 4104 owned (omega (arith, long))) (omega (arith, long)) ∙ long in
-    record { pointer_stage = c.requires.pointer_stage; owners_len = length_part 4104 512 (put_back 0 4104 owned rows) (omega (arith, put)) }
-
-pub shape_of-owned : goal.shape_of-owned
-unfolding part
-shape_of-owned c =
-    let owned = c.args.owned.now in
-    let long = cleared_long owned 4616 c.requires.owned_value in
-    let rows = c.own_rows.new.rows in
-    let adds = c.own_rows.ensures in
-    let put = put_long 0 4104 owned rows (adds.long ∙ length_part 0 4104 owned (omega (arith, long))) (omega (arith, long)) ∙ long in
-    let words = c.own_words.new.owners in
-    put_long 4104 512 (put_back 0 4104 owned rows) words (c.own_words.auto.owners ∙ length_part 4104 512 (put_back 0 4104 owned rows) (omega (arith, put))) (omega (arith, put)) ∙ put ∙ sym long
 
 pub returns : goal.returns
 unfolding part

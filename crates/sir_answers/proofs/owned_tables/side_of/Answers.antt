@@ -12,20 +12,11 @@ use Rattle.sir_analyses.proofs.stages.Parts.{length_part}
 use Rattle.sir_answers.proofs.owned_tables.OwnedTables.{side_zero}
 use Rattle.sir_answers.proofs.owned_tables.side_of.Goals as goal
 
-pub row_contains-requires : goal.row_contains-requires
-row_contains-requires c =
-    (omega (arith, c.requires.owned_len.1), c.requires.owned_len.3)
-
 pub returns-then-row_contains : goal.returns-then-row_contains
 returns-then-row_contains c =
     let a = c.args in
     let at : a.v.0 ≡ 512 * 0 + a.v.0 = omega arith in
     sym (side_zero a.owned.now a.set.now a.a a.v.0 c.requires.owned_len.3 c.requires.v_value (ap (contains a.set.now) at ∙ sym c.row_contains.ensures ∙ c.if-row_contains.true))
-
-pub row_of-requires : goal.row_of-requires
-unfolding part
-row_of-requires c =
-    omega (arith, length_part 8 4096 c.args.owned.now (omega (arith, c.requires.owned_len.0)), c.requires.owned_len.2)
 
 pub intersects-requires : goal.intersects-requires
 unfolding part

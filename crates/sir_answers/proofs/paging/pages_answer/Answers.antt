@@ -1,22 +1,11 @@
 -- `pages_answer` meets its contract.
-use Rattle.std.proofs.Common.{◌≡◌, ℕ, ◌*◌, ◌/◌, length, Ok, refl, sym, subst, arith, rules, length-take-le}
+use Rattle.std.proofs.Common.{◌≡◌, ℕ, ◌*◌, ◌/◌, length, Ok, refl, subst, arith, rules}
 use Rattle.sir_data.specs.Paging.{page_words, pages_of}
 use Rattle.sir_data.specs.laws.Paging.{page_words_length}
 use Rattle.sir_analyses.specs.inner.Outcomes.{Finished}
-use Rattle.sir_analyses.proofs.answers.Calls.{finish_is, finish_fits, answered_short, answered_whole}
+use Rattle.sir_analyses.proofs.answers.Calls.{answered_short, answered_whole}
 use Rattle.sir_answers.proofs.paging.WrittenPages.{pages_put}
 use Rattle.sir_answers.proofs.paging.pages_answer.Goals as goal
-
-pub slice_bounds-write_pages-end : goal.slice_bounds-write_pages-end
-slice_bounds-write_pages-end c = finish_fits c.in_ok-end.ensures
-
-pub slice_bounds-write_pages-end-2 : goal.slice_bounds-write_pages-end-2
-slice_bounds-write_pages-end-2 c = sym (length-take-le _ _ (finish_fits c.in_ok-end.ensures))
-
-pub write_pages-requires : goal.write_pages-requires
-write_pages-requires c =
-    let f = c.in_ok-end.ensures in
-    (omega (arith, finish_is f, length-take-le c.in_ok-end.end c.args.out.now (finish_fits f)), c.requires.1)
 
 pub returns-in_err-end : goal.returns-in_err-end
 unfolding pages_of

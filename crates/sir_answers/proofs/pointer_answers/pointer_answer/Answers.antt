@@ -1,51 +1,21 @@
 -- `pointer_answer` meets its contract.
-use mathlib.Core.Path.{refl, ap, ◌∙◌}
+use mathlib.Core.Path.{ap, ◌∙◌}
 use mathlib.Core.List.{[], ◌∷◌}
 use Prim.Native.Nat.{ℕ}
-use native.Mathlib.Omega.{arith}
-use lib.ListN.{length}
 use Rattle.plank_core.specs.Lists.{bind}
 use Rattle.sir_data.specs.Pages.{bytes_of}
 use Rattle.sir_data.specs.Records.{locals}
-use Rattle.sir_analyses.specs.Allocation.{allocs}
 use Rattle.sir_analyses.specs.Calls.{answered}
 use Rattle.sir_answers.specs.declared.questions.Question.{Question}
 use Rattle.sir_analyses.proofs.answers.Calls.{known_below}
 use Rattle.sir_answers.proofs.questions.Asked.{own_as, answered_as}
-use Rattle.sir_answers.proofs.questions.OpenRules.{open_held, crossing_known}
+use Rattle.sir_answers.proofs.questions.OpenRules.{open_held}
 use Rattle.sir_answers.proofs.pointer_answers.pointer_answer.Goals as goal
-
-pub compute_pointers-requires : goal.compute_pointers-requires
-compute_pointers-requires c =
-    record { visit_stage = c.requires.visit_stage; accepted_stage = (c.requires.accepted_stage.0, refl) }
-
-pub one_allocation-requires : goal.one_allocation-requires
-one_allocation-requires c =
-    let w = c.args.words.now in
-    record { visit_stage = c.requires.visit_stage; pointer_stage = (c.compute_pointers.ensures, known_below (λ x. length (allocs x)) _ w (own_as Question.OfPointers w c.in-Allocation.is c.requires.accepted_stage.1)) }
-
-pub owner_of-requires : goal.owner_of-requires
-owner_of-requires c =
-    let w = c.args.words.now in
-    (c.compute_pointers.ensures.long, omega (arith, known_below locals _ w (own_as Question.OfPointers w c.in-Owner.is c.requires.accepted_stage.1), c.requires.visit_stage.well_formed.sized.locals_most))
-
-pub every_allocation-requires : goal.every_allocation-requires
-every_allocation-requires c =
-    record { visit_stage = c.requires.visit_stage; pointer_stage = c.compute_pointers.ensures }
-
-pub all_owners_answer-requires : goal.all_owners_answer-requires
-all_owners_answer-requires c =
-    c.compute_pointers.ensures
 
 pub open_answer-requires : goal.open_answer-requires
 open_answer-requires c =
     let w = c.args.words.now in
     record { visit_stage = c.requires.visit_stage; pointer_stage = c.compute_pointers.ensures; b_bound = open_held _ _ w (own_as Question.OfPointers w c.in-Open.is c.requires.accepted_stage.1) }
-
-pub crossing_answer-requires : goal.crossing_answer-requires
-crossing_answer-requires c =
-    let w = c.args.words.now in
-    record { visit_stage = c.requires.visit_stage; pointer_stage = c.compute_pointers.ensures; one_in_bounds = crossing_known _ _ w (own_as Question.OfPointers w c.in-Crossing.is c.requires.accepted_stage.1) }
 
 pub returns-in-Allocation : goal.returns-in-Allocation
 returns-in-Allocation c =

@@ -27,9 +27,6 @@ loop-id-preserved c =
     let g : ℕ → List ℕ = λ k. blanks c.args.n in
     piece_more g ids c.loop-id.id-index c.loop-id.invariant (omega arith) refl c.advance.ensures
 
-pub shape_of-cursors : goal.shape_of-cursors
-shape_of-cursors c = c.loop-id.invariant.wide
-
 pub returns : goal.returns
 returns c =
     let a = c.args in

@@ -1,15 +1,9 @@
 -- `append` meets its contract.
 use mathlib.Core.Path.{ap}
-use native.Mathlib.Omega.{arith}
 use lib.ListN.{set}
 use Rattle.sir_answers.specs.inner.Scatter.{forward}
-use Rattle.sir_answers.proofs.scatter.Scattering.{fits_one, scatters_one}
+use Rattle.sir_answers.proofs.scatter.Scattering.{scatters_one}
 use Rattle.sir_answers.proofs.scatter.append.Goals as goal
-
-pub put_words-requires : goal.put_words-requires
-put_words-requires c =
-    let a = c.args in
-    omega (arith, fits_one forward a.id a.words.now a.cursors.now c.requires.0 c.requires.1)
 
 pub returns : goal.returns
 returns c =

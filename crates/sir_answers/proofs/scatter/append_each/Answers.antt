@@ -26,12 +26,6 @@ loop-id-preserved c =
     let g : ℕ → List ℕ = λ k. c.args.words.now in
     piece_more g ids c.loop-id.id-index c.loop-id.invariant (omega arith) refl c.append.ensures
 
-pub shape_of-cursors : goal.shape_of-cursors
-shape_of-cursors c = c.loop-id.invariant.wide
-
-pub shape_of-out : goal.shape_of-out
-shape_of-out c = c.loop-id.invariant.long
-
 pub returns : goal.returns
 returns c =
     let a = c.args in

@@ -11,11 +11,6 @@ use Rattle.sir_answers.proofs.scatter.passed_words.Goals as goal
 pub loop-cursor-init : goal.loop-cursor-init
 loop-cursor-init c = ((λ u h. absurd (omega arith)), λ u h. refl)
 
-pub overflow_sub-cursor : goal.overflow_sub-cursor
-overflow_sub-cursor c =
-    let v = c.loop-cursor.cursor-index in
-    omega (arith, c.requires v (omega arith), c.loop-cursor.invariant.1 v (omega arith))
-
 pub loop-cursor-preserved : goal.loop-cursor-preserved
 loop-cursor-preserved c =
     let v = c.loop-cursor.cursor-index in
@@ -27,9 +22,6 @@ loop-cursor-preserved c =
           (get_or-set_same cs v x 0 (omega arith) ∙ ap (λ (i : ℕ). 2 ^ 59 - i) (c.loop-cursor.invariant.1 v (omega arith))),
       λ u h. get_or-set_other cs v u x 0 (λ e. omega arith) ∙ c.loop-cursor.invariant.1 u (omega arith),
     )
-
-pub shape_of-cursors : goal.shape_of-cursors
-shape_of-cursors c = c.loop-cursor.auto.cursors
 
 pub returns : goal.returns
 returns c = λ v h. c.loop-cursor.invariant.0 v (omega arith)

@@ -9,20 +9,12 @@ use Rattle.sir_answers.proofs.scatter.put_lengths.Goals as goal
 pub loop-cursor-init : goal.loop-cursor-init
 loop-cursor-init c = let a = c.args in (refl, refl, placing_none (toward a.ends) a.cursors.now a.out.now)
 
-pub overflow_cast-n : goal.overflow_cast-n
-overflow_cast-n c =
-    omega (arith, (placing_next (length c.args.cursors.now) (omega arith) c.loop-cursor.invariant.2).0, c.requires.by_index c.loop-cursor.cursor-index (omega arith))
-
 pub put_word-requires : goal.put_word-requires
 put_word-requires c =
     omega (arith, (placing_next (length c.args.cursors.now) (omega arith) c.loop-cursor.invariant.2).1)
 
 pub origin-requires : goal.origin-requires
 origin-requires c =
-    omega (arith, (placing_next (length c.args.cursors.now) (omega arith) c.loop-cursor.invariant.2).1)
-
-pub overflow_add-start : goal.overflow_add-start
-overflow_add-start c =
     omega (arith, (placing_next (length c.args.cursors.now) (omega arith) c.loop-cursor.invariant.2).1)
 
 pub overflow_add-start-in-loop-cursor : goal.overflow_add-start-in-loop-cursor
@@ -36,12 +28,6 @@ loop-cursor-preserved c =
     let n = placing_next (length c.args.cursors.now) (omega arith) L.invariant.2 in
     let o : c.origin.result ≡ origin (toward c.args.ends) f L.cursor-index = c.origin.ensures ∙ rw (n.0, L.invariant.2.start_is) (sym (origin_is c.args.ends f L.cursor-index)) in
     (simp length-set L.invariant.0, omega arith, placing_more L.invariant.2 (omega arith) (omega arith) (ap (set L.cursors L.cursor-index) o) c.put_word.ensures.left)
-
-pub shape_of-cursors : goal.shape_of-cursors
-shape_of-cursors c = c.loop-cursor.invariant.0
-
-pub shape_of-out : goal.shape_of-out
-shape_of-out c = c.loop-cursor.invariant.1
 
 pub returns : goal.returns
 returns c =

@@ -1,27 +1,17 @@
 -- `try_records` meets its contract.
-use Rattle.std.proofs.Common.{List, ℕ, sym, ap, ◌∙◌, arith, rules}
+use Rattle.std.proofs.Common.{List, ℕ, sym, ap, ◌∙◌, rules}
 use Rattle.plank_core.specs.Lists.{bind}
 use Rattle.sir_data.specs.Pages.{bytes_of}
 use Rattle.sir_data.specs.Paging.{records_of}
 use Rattle.sir_analyses.specs.Calls.{answered, no_rules, in_words}
 use Rattle.sir_analyses.proofs.answers.Calls.{image_accepted}
-use Rattle.sir_analyses.proofs.loading.Loads.{front_length}
 use Rattle.sir_answers.proofs.questions.Asked.{image_err}
-use Rattle.sir_answers.proofs.write_back.LentPages.{count_few, front_few, records_front}
+use Rattle.sir_answers.proofs.write_back.LentPages.{records_front}
 use Rattle.sir_answers.proofs.write_back.try_records.Goals as goal
 
 pub returns-in_err-load : goal.returns-in_err-load
 returns-in_err-load c =
     image_err (search rules) no_rules (in_words records_of) c.args.image.now c.args.out.now c.in_err-load.ensures.number
-
-pub slice_bounds-words-end : goal.slice_bounds-words-end
-slice_bounds-words-end c = (count_few c.in_ok-load.ensures.prepared c.word_count-n.ensures).0
-
-pub slice_bounds-words_answer-end : goal.slice_bounds-words_answer-end
-slice_bounds-words_answer-end c = front_length _ _ (count_few c.in_ok-load.ensures.prepared c.word_count-n.ensures).0
-
-pub words_answer-requires : goal.words_answer-requires
-words_answer-requires c = omega (arith, front_few c.in_ok-load.ensures.prepared c.word_count-n.ensures)
 
 pub returns : goal.returns
 returns c =
