@@ -9,10 +9,6 @@ use Rattle.sir_analyses.specs.Answers.{allocation_answer}
 use Rattle.report_lines.proofs.TooLong.{refused_long, sites_count, sites_most, long_allocation, allocations_start}
 use Rattle.report_lines.proofs.counting.allocation_too_long.Goals as goal
 
-pub alloc_sites-count-requires : goal.alloc_sites-count-requires
-alloc_sites-count-requires c =
-    (c.requires.pointer_stage.0.long, c.requires.pointer_stage.0.few)
-
 pub loop-a-init : goal.loop-a-init
 loop-a-init c =
     (refl, allocations_start c.args.words.now)
@@ -40,9 +36,6 @@ loop-a-preserved c =
     let l : L.a < length (allocs w) = omega (arith, c.loop-a-test.true, sites_count c.requires.pointer_stage.0 (ap length c.alloc_sites-count.ensures)) in
     let short = sym (refused_long (allocation_answer w L.a) L.out c.allocation_answer.result (L.invariant.0 ∙ c.requires.pointer_stage.1) c.allocation_answer.ensures) ∙ sym c.is_err.ensures.value ∙ c.if-is_err.false in
     (omega (arith, c.allocation_answer.auto, L.invariant.0), any_step (long_allocation w) L.a (length (allocs w)) l short ∙ L.invariant.1)
-
-pub shape_of-out : goal.shape_of-out
-shape_of-out c = c.loop-a.invariant.0
 
 pub returns : goal.returns
 returns c =
