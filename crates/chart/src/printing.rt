@@ -1,15 +1,14 @@
 // Printing a chart block by block, each written as in the exported answer, so that no chart is too long.
 ghost use Rattle.std.specs.Prelude.{◌<◌, ◌≤◌, ◌≡◌, length};
+ghost use Rattle.sir_data.specs.Refusals.{refused};
 ghost use Rattle.sir_analyses.specs.Calls.{refusal};
 ghost use Rattle.sir_analyses.specs.inner.Stages.{VisitStage, AcceptedStage, LivenessStage, PointerStage};
 
 use plank_core::index::BlockId;
-use report_lines::Printed;
-use report_lines::lines::RefusedLine;
+use report_lines::{Printed, print_loaded};
 use sir_analyses::allocation_answers::compute_pointers;
-use sir_analyses::loading::load;
 use sir_analyses::local_liveness::compute_liveness;
-use sir_analyses::stages::{LIVE, POINTERS, POSTORDER, VISIT, WORDS, alloc_sites, rpo};
+use sir_analyses::stages::{LIVE, POINTERS, alloc_sites, rpo};
 use sir_answers::chart::{block_lines, on_sheets, put_block, series_count, series_lines};
 use sir_answers::chart_columns::other_locals;
 use sir_answers::chart_lines::{LINE, put_blanks};
@@ -17,11 +16,6 @@ use std::io;
 
 // The bytes of the longest block: a heading and 1,024 operations.
 const BLOCK: usize = 74825;
-
-// Prints some bytes.
-fn say(rt: &impl Print, text: &[u8]) -> io::Result<()> {
-    rt.write_all(text)
-}
 
 // The blocks of a series, in the order's sequence.
 fn say_blocks(
@@ -51,7 +45,7 @@ fn say_blocks(
             BlockId(*b),
             &mut out[..end],
         );
-        say(rt, &out[..end])?;
+        rt.write_all(&out[..end])?;
     }
     Ok(())
 }
@@ -64,7 +58,7 @@ fn say_filling(rt: &impl Print, words: &[u32], visit: &[u32], out: &mut [u8]) ->
     let lines = series_lines(words, visit);
     let end = LINE * (on_sheets(lines) - lines);
     put_blanks(&mut out[..end]);
-    say(rt, &out[..end])
+    rt.write_all(&out[..end])
 }
 
 // All series.
@@ -102,20 +96,10 @@ fn chart_words(rt: &impl Print, words: &[u32], visit: &[u32], sites: &[u32]) -> 
 
 // Prints the chart of an image, or `refused` and the number.
 pub fn chart(rt: &impl Print, image: &[u8]) -> Printed
-    ensures { result.number ≡ refusal image.now }
+    ensures { refused result.accepted ≡ refusal image.now }
 {
-    let mut words = [0u32; WORDS];
-    let mut postorder = [0u32; POSTORDER];
-    let mut visit = [0u32; VISIT];
-    let mut sites = [0u32; 512];
-    let sizes = load(image, &mut words, &mut postorder, &mut visit, &mut sites);
-    let number = sizes.number;
-    if number != 0 {
-        let written = rt.print(RefusedLine(number));
-        return Printed { number, written };
-    }
-    let n = sizes.words;
-    let allocations = sizes.allocations;
-    let written = chart_words(rt, &words[..n], &visit, &sites[..allocations]);
-    Printed { number: 0, written }
+    print_loaded(rt, image, |words, visit, sites| Printed {
+        accepted: Ok(()),
+        written: chart_words(rt, words, visit, sites),
+    })
 }

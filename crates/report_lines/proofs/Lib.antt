@@ -1,5 +1,3 @@
-pub mod Numbers
-pub mod Intervals
 pub mod TooLong
 pub mod Fields
 pub mod AnswerText

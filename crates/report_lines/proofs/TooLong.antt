@@ -7,9 +7,9 @@ use Prim.Native.Nat.{ℕ, ◌+◌, ◌*◌, ◌≤◌, ◌<◌}
 use native.Mathlib.Omega.{arith}
 use native.Mathlib.Decide.{dec_lt}
 use lib.ListN.{length, get_or, take, drop, length-map, length-take, get_or-eq_default}
-use lib.Seq.{take_at, length-take-le, get_or-take, get_or-drop}
-use lib.Dec.{ltb}
-use borrow.Author.Tests.{lt-ltb, le-ltb, ltb-false}
+use lib.Seq.{take_at, get_or-take, get_or-drop}
+use lib.Dec.{eqb, ltb}
+use borrow.Author.Tests.{lt-ltb, le-ltb, ltb-false, ne_eqb}
 use Rattle.plank_core.specs.Lists.{bind, any, range, upto, ◌∈◌}
 use Rattle.plank_core.specs.inner.DenseIndexSet.{contains, set_of, row_of, members}
 use Rattle.plank_core.specs.laws.Lists.{any_not, keep_out, mem_upto}
@@ -21,9 +21,14 @@ use Rattle.sir_data.specs.Records.{blocks, locals}
 use Rattle.sir_analyses.specs.Allocation.{allocs}
 use Rattle.sir_analyses.specs.Answers.{order_answer, entry_answer, exit_answer, intervals_answer, allocation_answer}
 use Rattle.sir_analyses.specs.Calls.{Outcome, made, refused, answered}
+use Rattle.sir_analyses.specs.inner.Outcomes.{given, outcome}
+use Rattle.std.specs.Prelude.{Result, Ok, Err, is_err, IsOk}
+use Rattle.sir_data.specs.declared.refusals.Refusal.{Refusal}
+use Rattle.sir_data.specs.Refusals.{number, refused as code}
+use Rattle.sir_data.specs.laws.Refusals.{not_0}
 use Rattle.sir_analyses.specs.inner.Discovery.{alloc_site, alloc_sites}
 use Rattle.sir_analyses.specs.Order.{blocks_rpo, is_visited}
-use Rattle.sir_analyses.specs.inner.Stages.{part, rpo_in, sites_in, VisitStage, PointerStage}
+use Rattle.sir_analyses.specs.inner.Stages.{part, sites_in, VisitStage, PointerStage}
 use Rattle.sir_analyses.specs.inner.Tables.{LiveRows}
 use Rattle.sir_analyses.specs.inner.Writing.{Puts}
 use Rattle.sir_analyses.specs.laws.Writing.{length_bytes, puts_within}
@@ -37,6 +42,14 @@ module _ (xs : List ℕ) {r : ℕ} {out out' : List ℕ} (p : Puts 0 xs out out'
   pub not_long : r ≤ 16384 → too_long xs ≡ false
   not_long h = le-ltb 65536 (4 * length xs) (omega (arith, p.next))
 
+-- the test of a count, as of the answer
+pub long_is : (xs : List ℕ) (r : ℕ) (t : Bool) → r ≡ length xs → t ≡ ltb 16384 r → t ≡ too_long xs
+long_is xs r t n e = e ∙ go (dec_lt 16384 r)
+  where
+    go : Dec (16384 < r) → ltb 16384 r ≡ too_long xs
+    go (yes h) = lt-ltb 16384 r h ∙ sym (lt-ltb 65536 (4 * length xs) (omega arith))
+    go (no h) = le-ltb 16384 r (omega arith) ∙ sym (le-ltb 65536 (4 * length xs) (omega arith))
+
 pub short : (xs : List ℕ) → too_long xs ≡ false → 4 * length xs ≤ 65536
 short xs e = ltb-false 65536 (4 * length xs) e
 
@@ -47,31 +60,35 @@ stands xs {out} {out'} {r} l e p =
     ap (take (4 * r)) (p.left ∙ puts_within (length out) xs out f f)
     ∙ take_at (bind xs bytes_of) (drop (4 * length xs) out) (4 * r) (omega (arith, length_bytes xs, p.next))
 
--- the same of an answer that was asked for: 14 tells that it is too long
-module _ (xs out : List ℕ) {n l : ℕ} {out' : List ℕ} (long : length out ≡ 65536) (e : made n l out' ≡ answered (bind xs bytes_of) out) where
-  told : (t : Bool) → too_long xs ≡ t → made n l out' ≡ cond t (refused 14 out) (made 0 (length (bind xs bytes_of)) (bind xs bytes_of ++ drop (length (bind xs bytes_of)) out))
+failed : (r : Result ℕ Refusal) → is_err r ≡ not (eqb (code r) 0)
+failed (Ok n) = refl
+failed (Err refusal) = rw (ne_eqb (number refusal) 0 (not_0 refusal)) refl
+
+succeeded : (r : Result ℕ Refusal) → is_err r ≡ false → IsOk r
+succeeded (Ok n) e = refl
+succeeded (Err refusal) e = cc
+
+-- the same of an answer that was asked for: it is refused where it is too long
+module _ (xs out : List ℕ) (r : Result ℕ Refusal) {out' : List ℕ} (long : length out ≡ 65536) (e : outcome r out' ≡ answered (bind xs bytes_of) out) where
+  told : (t : Bool) → too_long xs ≡ t → outcome r out' ≡ cond t (refused 14 out) (made 0 (length (bind xs bytes_of)) (bind xs bytes_of ++ drop (length (bind xs bytes_of)) out))
   told t q =
       let same : ltb (length out) (length (bind xs bytes_of)) ≡ too_long xs = rw (long, length_bytes xs) refl in
       e ∙ ap (λ (t : Bool). cond t (refused 14 out) (made 0 (length (bind xs bytes_of)) (bind xs bytes_of ++ drop (length (bind xs bytes_of)) out))) (same ∙ q)
 
-  pub refused_long : n ≡ 14 → too_long xs ≡ true
-  refused_long h = go (too_long xs) refl
+  pub refused_long : is_err r ≡ too_long xs
+  refused_long = failed r ∙ go (too_long xs) refl
     where
-      go : (t : Bool) → too_long xs ≡ t → t ≡ true
-      go true q = refl
-      go false q = let z : n ≡ 0 = ap (λ (o : Outcome). o.number) (told false q) in absurd (omega arith)
+      go : (t : Bool) → too_long xs ≡ t → not (eqb (code r) 0) ≡ t
+      go true q = rw (ap (λ (o : Outcome). o.number) (told true q)) refl
+      go false q = rw (ap (λ (o : Outcome). o.number) (told false q)) refl
 
-  pub answered_short : (n ≡ 14 → ⊥) → too_long xs ≡ false
-  answered_short h = go (too_long xs) refl
-    where
-      go : (t : Bool) → too_long xs ≡ t → t ≡ false
-      go true q = absurd (h (ap (λ (o : Outcome). o.number) (told true q)))
-      go false q = refl
+  pub answered_short : too_long xs ≡ false → IsOk r
+  answered_short q = succeeded r (refused_long ∙ q)
 
-  pub answer_stands : too_long xs ≡ false → (l ≡ 4 * length xs) × (take l out' ≡ bind xs bytes_of)
-  answer_stands q =
-      let z : l ≡ length (bind xs bytes_of) = ap (λ (o : Outcome). o.len) (told false q) in
-      (z ∙ length_bytes xs, ap (take l) (ap (λ (o : Outcome). o.result) (told false q)) ∙ take_at (bind xs bytes_of) (drop (length (bind xs bytes_of)) out) l (sym z))
+  pub answer_stands : {n : ℕ} → too_long xs ≡ false → r ≡ Ok n → take n out' ≡ bind xs bytes_of
+  answer_stands {n} q o =
+      let z : n ≡ length (bind xs bytes_of) = sym (ap given o) ∙ ap (λ (o : Outcome). o.len) (told false q) in
+      ap (take n) (ap (λ (o : Outcome). o.result) (told false q)) ∙ take_at (bind xs bytes_of) (drop (length (bind xs bytes_of)) out) n (sym z)
 
 -- ---- all of some answers
 
@@ -101,16 +118,6 @@ module _ (w : List ℕ) where
   pub allocation_short : {a : ℕ} → allocation_too_long w ≡ false → a < length (allocs w) → too_long (allocation_answer w a) ≡ false
   unfolding allocation_too_long
   allocation_short {a} e l = any_not (long_allocation w) 0 (length (allocs w)) a e (omega arith) (omega arith)
-
--- the first n of an array
-pub front : {n : ℕ} (xs out : List ℕ) {out' : List ℕ} → n ≡ length xs → out' ≡ xs ++ drop n out → take n out' ≡ xs
-front {n} xs out l e = ap (take n) e ∙ take_at xs (drop n out) n (sym l)
-
-pub take_most : (n k : ℕ) (xs : List ℕ) → n ≤ length xs → n ≤ k → length (take n xs) ≤ k
-take_most n k xs l h = omega (arith, length-take-le n xs l)
-
-pub take_least : (n k : ℕ) (xs : List ℕ) → n ≤ length xs → k ≤ n → k ≤ length (take n xs)
-take_least n k xs l h = omega (arith, length-take-le n xs l)
 
 -- ---- order, rounds and sets are never too long, so that intervals and allocations decide
 
@@ -179,7 +186,3 @@ sites_count {w} S e = e ∙ ap length S.sites_are ∙ sites_long w
 pub sites_most : {w p : List ℕ} → PointerStage w p → length (sites_in p) ≤ 512
 unfolding part
 sites_most {w} {p} S = omega (arith, length-take (get_or p 0 0) (drop 2 p), S.few)
-
-pub rpo_most : {w visit : List ℕ} → VisitStage w visit → length (rpo_in visit) ≤ 256
-unfolding part
-rpo_most {w} {visit} v = omega (arith, length-take (get_or visit 0 0) (drop 1 visit), v.few)

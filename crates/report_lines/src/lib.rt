@@ -6,4 +6,4 @@ pub mod lines;
 pub mod printing;
 pub mod text;
 
-pub use printing::{Printed, report};
+pub use printing::{Printed, print_loaded, report};

@@ -1,12 +1,12 @@
-// The lines of a report. Those of words at hand show themselves. The others go to the front of `line`, and come back as how many
-// bytes they have: a value that shows itself would have to borrow the arrays in which its function lists the members or the answer.
-ghost use Rattle.std.specs.Prelude.{Some, ◌-◌, ◌/◌, ◌≤◌, length};
+// The lines of a report: each shows itself, with its exact text as its output.
+ghost use Rattle.std.specs.Prelude.{Some, ◌≡◌, ◌≤◌, length};
+ghost use Rattle.plank_core.specs.inner.DenseIndexSet.{members};
 ghost use Rattle.report_lines.specs.Lines.{refused_line, order_line, rounds_line, block_line};
-ghost use Rattle.plank_core.specs.inner.Putting.{Put};
-ghost use Rattle.report_lines.specs.inner.AnswerLines.{local_line, allocation_head, allocation_line, EndsSome};
+ghost use Rattle.report_lines.specs.inner.AnswerLines.{local_line, mark, allocation_line};
 
-use crate::text::{put_intervals_at, put_members, put_named, write_blocks};
-use plank_core::text::put_text;
+use crate::text::{write_intervals, write_members, write_named};
+use plank_core::dense_index_set::DenseIndexSet;
+use plank_core::index::{AllocId, BlockId, LocalId};
 use sir_data::pages::word_at;
 use std::fmt;
 
@@ -34,7 +34,7 @@ impl<'a> fmt::Display for OrderLine<'a> {
 
     fn fmt<W: fmt::Write>(&self, f: &mut fmt::Formatter<W>) -> fmt::Result {
         write!(f, "order")?;
-        write_blocks(f, self.rpo)?;
+        write_named(f, " b", self.rpo)?;
         write!(f, "\n")
     }
 }
@@ -52,52 +52,77 @@ impl fmt::Display for RoundsLine {
     }
 }
 
-// Block b with the members of its entry and its exit set.
-pub fn block_line(b: u32, entry: &[u32], exit: &[u32], line: &mut [u8]) -> usize
-    requires { (length entry.now ≤ 512) × (length exit.now ≤ 512) × (196608 ≤ length line.old) }
-    ensures { Put (block_line b entry.now exit.now) 0 line.old line.new result }
-{
-    let m = put_named(line, 0, b"b", b);
-    let i = put_text(line, m, b" in");
-    let j = put_members(line, i, entry);
-    let o = put_text(line, j, b" out");
-    let k = put_members(line, o, exit);
-    put_text(line, k, b"\n")
+// A block with the members of its entry and its exit set.
+#[derive(Drop)]
+pub struct BlockLine<'a> {
+    pub block: BlockId,
+    pub entry: DenseIndexSet,
+    pub exit: &'a [u64],
+    ghost exit_long: { length exit.now ≡ 8 },
 }
 
-// Local v with the intervals of its answer.
-pub fn local_line(v: u32, answer: &[u8], line: &mut [u8]) -> usize
-    requires answer_len_bound { (length answer.now ≤ 65536) × (196608 ≤ length line.old) }
-    requires ends_some { EndsSome answer.now 0 (length answer.now / 12) }
-    ensures { Put (local_line v answer.now) 0 line.old line.new result }
-{
-    let a = put_named(line, 0, b"v", v);
-    let b = put_intervals_at(line, a, answer, 0, answer.len() / 12);
-    put_text(line, b, b"\n")
-}
+impl<'a> fmt::Display for BlockLine<'a> {
+    ghost output = { λ x. Some (block_line x.block.0 (members x.entry.words) (members x.exit.now)) };
 
-// The definition and the base of an allocation, and its mark.
-fn put_allocation_head(a: u32, answer: &[u8], line: &mut [u8]) -> usize
-    requires { (36 ≤ length answer.now) × (196608 ≤ length line.old) }
-    ensures { (result ≤ 100) × Put (allocation_head a answer.now) 0 line.old line.new result }
-{
-    let i = put_named(line, 0, b"a", a);
-    let b = put_named(line, i, b" b", word_at(answer, 0));
-    let o = put_named(line, b, b" op", word_at(answer, 1));
-    let v = put_named(line, o, b" v", word_at(answer, 2));
-    if word_at(answer, 6) == 0 {
-        return put_text(line, v, b" kept");
+    fn fmt<W: fmt::Write>(&self, f: &mut fmt::Formatter<W>) -> fmt::Result {
+        let block = self.block.0;
+        write!(f, "b{block} in")?;
+        write_members(f, &self.entry.words)?;
+        write!(f, " out")?;
+        write_members(f, self.exit)?;
+        write!(f, "\n")
     }
-    put_text(line, v, b" escaped")
 }
 
-// Allocation a by its answer.
-pub fn allocation_line(a: u32, answer: &[u8], line: &mut [u8]) -> usize
-    requires in_bounds { (36 ≤ length answer.now) × (length answer.now ≤ 65536) × (196608 ≤ length line.old) }
-    requires ends_some { EndsSome answer.now 9 ((length answer.now - 36) / 12) }
-    ensures { Put (allocation_line a answer.now) 0 line.old line.new result }
+// A local with the intervals of its answer.
+#[derive(Drop)]
+pub struct LocalLine<'a> {
+    pub local: LocalId,
+    pub answer: &'a [u8],
+}
+
+impl<'a> fmt::Display for LocalLine<'a> {
+    ghost output = { λ x. Some (local_line x.local.0 x.answer.now) };
+
+    fn fmt<W: fmt::Write>(&self, f: &mut fmt::Formatter<W>) -> fmt::Result {
+        let local = self.local.0;
+        write!(f, "v{local}")?;
+        write_intervals(f, self.answer, 0, self.answer.len() / 12)?;
+        write!(f, "\n")
+    }
+}
+
+// How an allocation that is marked or not is shown.
+fn mark(marked: u32) -> &'static str
+    ensures { result.now ≡ mark marked }
 {
-    let m = put_allocation_head(a, answer, line);
-    let n = put_intervals_at(line, m, answer, 9, (answer.len() - 36) / 12);
-    put_text(line, n, b"\n")
+    if marked == 0 {
+        return " kept";
+    }
+    " escaped"
+}
+
+// An allocation by its answer: where it is defined, its base and its mark, then its intervals.
+#[derive(Drop)]
+pub struct AllocationLine<'a> {
+    pub allocation: AllocId,
+    pub answer: &'a [u8],
+    ghost answer_long: { 36 ≤ length answer.now },
+}
+
+impl<'a> fmt::Display for AllocationLine<'a> {
+    ghost output = { λ x. Some (allocation_line x.allocation.0 x.answer.now) };
+
+    fn fmt<W: fmt::Write>(&self, f: &mut fmt::Formatter<W>) -> fmt::Result {
+        let answer = self.answer;
+        let allocation = self.allocation.0;
+        let block = word_at(answer, 0);
+        let operation = word_at(answer, 1);
+        let base = word_at(answer, 2);
+        let mark = mark(word_at(answer, 6));
+        write!(f, "a{allocation} b{block}")?;
+        write!(f, " op{operation} v{base}{mark}")?;
+        write_intervals(f, answer, 9, (answer.len() - 36) / 12)?;
+        write!(f, "\n")
+    }
 }

@@ -21,7 +21,7 @@ use Rattle.sir_analyses.specs.Calls as calls
 use Rattle.sir_analyses.specs.Calls.{Rules, made, answered, call, image_rules, refusal, asked, known}
 use Rattle.sir_analyses.specs.inner.Outcomes.{given, outcome, Finished}
 use Rattle.sir_analyses.specs.inner.Writing.{Puts}
-use Rattle.sir_analyses.proofs.answers.Writing.{length_bytes, puts_past, puts_within}
+use Rattle.sir_analyses.proofs.answers.Writing.{length_bytes, puts_within}
 
 -- ---- one call
 

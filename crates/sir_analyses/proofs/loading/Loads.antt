@@ -2,7 +2,7 @@
 use mathlib.Core.Path.{◌≡◌, refl, sym, ap, ◌∙◌, subst}
 use mathlib.Core.Bool.{Bool, true, false, cond}
 use mathlib.Core.List.{List, [], ◌∷◌, ◌++◌}
-use Prim.Native.Nat.{ℕ, ◌*◌, ◌/◌, ◌≤◌}
+use Prim.Native.Nat.{ℕ, ◌≤◌}
 use native.Mathlib.Omega.{arith}
 use lib.ListN.{length, take, drop, length-append}
 use lib.Seq.{take_at, length-take-le}
@@ -14,7 +14,7 @@ use Rattle.sir_data.specs.Rules.{first, page_rules, record_rules}
 use Rattle.sir_data.specs.inner.WellFormed.{WellFormed}
 use Rattle.sir_data.specs.inner.Image.{Read}
 use Rattle.sir_data.specs.laws.Rules.{first_append}
-use Rattle.sir_data.specs.laws.Image.{length_payload, accepted}
+use Rattle.sir_data.specs.laws.Image.{accepted}
 use Rattle.sir_analyses.specs.Order.{blocks_rpo}
 use Rattle.sir_analyses.specs.Allocation.{rule12}
 use Rattle.sir_analyses.specs.Answers.{order_answer}

@@ -3,7 +3,7 @@ use mathlib.Core.Path.{◌≡◌, refl, sym, ap, ap₂, ◌∙◌, subst}
 use mathlib.Core.Bool.{Bool, true, false, ◌||◌}
 use mathlib.Core.List.Memᴰ
 use mathlib.Core.List.{List, [], ◌∷◌, ◌++◌, append-nil}
-use Prim.Native.Nat.{ℕ, zero, suc, ◌+◌, ◌-◌, ◌/◌, ◌%◌, ◌≤◌, ◌<◌}
+use Prim.Native.Nat.{ℕ, suc, ◌+◌, ◌-◌, ◌/◌, ◌%◌, ◌≤◌, ◌<◌}
 use native.Mathlib.Nat.{le_refl, le_trans}
 use native.Mathlib.Omega.{arith}
 use native.Mathlib.Numerals.{add-one}
@@ -16,7 +16,7 @@ use Rattle.plank_core.specs.laws.Lists.{get_or_mem}
 use Rattle.plank_core.specs.laws.Loops.{range_next, range_none, bind_snoc}
 use Rattle.plank_core.specs.inner.DenseIndexSet.{contains, added}
 use Rattle.plank_core.specs.laws.DenseIndexSet.{contains_added, contains_cleared, length_added}
-use Rattle.sir_data.specs.Records.{functions, blocks, operations, optional, init_function, main_plus_one, entry_block, ops, successors, callees}
+use Rattle.sir_data.specs.Records.{functions, blocks, operations, init_function, main_plus_one, entry_block, ops, successors, callees}
 use Rattle.sir_data.specs.inner.WellFormed.{WellFormed}
 use Rattle.sir_analyses.specs.Order.{Visit, start, see_function, see_block, finish_function, finish_block, visit_function, visit_block}
 use Rattle.sir_analyses.specs.inner.Visiting.{block_key, keyed_block, keyed_function, Shows, unseen, Held, VisitStep, VisitedAll}

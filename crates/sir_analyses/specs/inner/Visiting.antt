@@ -2,7 +2,6 @@
 -- `seen` is a table of two sets, the functions seen and the blocks seen. `postorder` has what is finished, in that order: f for a
 -- function, 256 * (f + 1) + b for block b on behalf of function f.
 use Rattle.std.specs.Prelude.{◌≡◌, Bool, not, cond, List, [], ◌∷◌, ◌++◌, reverse, ℕ, zero, suc, ◌+◌, ◌-◌, ◌*◌, ◌/◌, ◌%◌, ◌≤◌, ◌<◌, length, take, eqb, leb, ltb}
-use Rattle.std.specs.Prelude.{Option, Some, None}
 use Rattle.std.specs.Borrow.{MutBor}
 use Rattle.plank_core.specs.declared.index.FunctionId.{FunctionId}
 use Rattle.plank_core.specs.Lists.{bind, mem, one_if}

@@ -1,6 +1,6 @@
 -- How the words of an answer go into a slice: word by word, each only where the slice has room for it. In an empty slice the words
 -- are only counted, and in one of the answer's length it is written whole.
-use Rattle.std.specs.Prelude.{◌≡◌, cond, List, [], ◌∷◌, ◌++◌, ℕ, ◌+◌, ◌*◌, length, take, drop, leb, ltb}
+use Rattle.std.specs.Prelude.{◌≡◌, cond, List, [], ◌∷◌, ◌++◌, ℕ, ◌+◌, ◌*◌, length, take, drop, leb}
 use Rattle.sir_data.specs.Pages.{bytes_of}
 
 -- the slice with x put as word n of an answer, if it ends within the limit

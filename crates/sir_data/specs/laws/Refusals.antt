@@ -1,5 +1,5 @@
 -- No refusal has the number 0, so a result that gives 0 is `Ok`.
-use Rattle.std.specs.Prelude.{◌≡◌, ℕ, ◌<◌}
+use Rattle.std.specs.Prelude.{◌≡◌, ◌<◌}
 use Rattle.std.proofs.Common.{arith}
 use Rattle.sir_data.specs.declared.refusals.Refusal.{Refusal}
 use Rattle.sir_data.specs.declared.refusals.Refusal.TheVariants.{Length, PageNumber, PageCheck, Edition, Count, PageCount, Unknown, Range, OperandCount, OutputCount, RepeatedInput, SharedBase, UnknownId, ShortResult, NotInBlock}

@@ -1,8 +1,8 @@
 -- `intersects` meets its contract.
 use mathlib.Core.Path.{◌≡◌, ap}
 use mathlib.Core.Bool.{◌&&◌}
-use Prim.Native.Nat.{ℕ, ◌<◌, ◌^◌}
-use lib.ListN.{length, get_or}
+use Prim.Native.Nat.{ℕ}
+use lib.ListN.{get_or}
 use lib.Bits.{bit_and, and_le_l}
 use borrow.Author.Tests.{tests}
 use native.Mathlib.Omega.{arith}

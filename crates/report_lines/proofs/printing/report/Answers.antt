@@ -1,45 +1,27 @@
 -- `report` meets its contract.
-use mathlib.Core.Path.{sym, ap, ◌∙◌}
-use native.Mathlib.Omega.{arith}
-use lib.ListN.{length}
-use lib.Seq.{length-take-le}
-use borrow.Author.Tests.{eq-eqb, ne_eqb}
-use Rattle.report_lines.specs.Counting.{reported}
+use Rattle.std.proofs.Common.{rules, ◌≡◌, ◌≢◌, Bool, true, false, ℕ, refl, cond, ap, ◌∙◌}
+use lib.Dec.{eqb}
+use Rattle.std.proofs.lemmas.Bool.{eqb-true, eqb-false}
+use Rattle.sir_data.specs.Pages.{payload}
+use Rattle.sir_data.specs.Refusals.{refused}
 use Rattle.sir_analyses.specs.Calls.{refusal}
+use Rattle.report_lines.specs.Counting.{reported, some_too_long}
 use Rattle.report_lines.proofs.printing.report.Goals as goal
 
-pub returns-then-number-ne0 : goal.returns-then-number-ne0
-unfolding reported
-returns-then-number-ne0 g c =
-    rw (ne_eqb (refusal c.args.image.now) 0 (λ z. c.if-number-ne0.true (c.load-sizes.ensures.number_is ∙ z))) c.load-sizes.ensures.number_is
-
-pub slice_bounds-words-end : goal.slice_bounds-words-end
-slice_bounds-words-end g c =
-    let p = c.load-sizes.ensures.prepared (sym c.load-sizes.ensures.number_is ∙ c.if-number-ne0.false) in
-    p.words_fit
-
-pub slice_bounds-report_words-end : goal.slice_bounds-report_words-end
-slice_bounds-report_words-end g c =
-    let p = c.load-sizes.ensures.prepared (sym c.load-sizes.ensures.number_is ∙ c.if-number-ne0.false) in
-    sym (length-take-le _ _ p.words_fit)
-
-pub slice_bounds-sites-end : goal.slice_bounds-sites-end
-slice_bounds-sites-end g c =
-    let p = c.load-sizes.ensures.prepared (sym c.load-sizes.ensures.number_is ∙ c.if-number-ne0.false) in
-    p.sites_fit
-
-pub slice_bounds-report_words-end-3 : goal.slice_bounds-report_words-end-3
-slice_bounds-report_words-end-3 g c =
-    let p = c.load-sizes.ensures.prepared (sym c.load-sizes.ensures.number_is ∙ c.if-number-ne0.false) in
-    sym (length-take-le _ _ p.sites_fit)
-
-pub report_words-requires : goal.report_words-requires
-report_words-requires g c =
-    let p = c.load-sizes.ensures.prepared (sym c.load-sizes.ensures.number_is ∙ c.if-number-ne0.false) in
-    record { visit_stage = p.visit_stage; accepted_stage = (p.accepted_stage, omega (arith, ap length p.order_stage.order_is, p.order_stage.order_fits)) }
+-- what is refused with n, or gives p
+either : (n p r : ℕ) → (n ≢ 0 → r ≡ n) → (n ≡ 0 → r ≡ p) → r ≡ cond (eqb n 0) p n
+either n p r unloaded loaded = go (eqb n 0) refl
+  where
+    go : (t : Bool) → eqb n 0 ≡ t → r ≡ cond t p n
+    go true e = loaded (eqb-true n 0 e)
+    go false e = unloaded (eqb-false n 0 e)
 
 pub returns : goal.returns
 unfolding reported
 returns g c =
-    let z = sym c.load-sizes.ensures.number_is ∙ c.if-number-ne0.false in
-    rw (eq-eqb (refusal c.args.image.now) 0 z) (rw (c.load-sizes.ensures.prepared z).words_are at c.report_words.ensures)
+    let s = c.args.image.now in
+    either (refusal s) (cond (some_too_long (payload s)) 14 0) (refused c.print_loaded.result.accepted) c.print_loaded.ensures.unloaded
+    (λ z.
+    let k = c.print_loaded.ensures.loaded z in
+    let ends : refused c.print_loaded.result.accepted ≡ cond (some_too_long k.0.now) 14 0 = search rules in
+    ends ∙ ap (λ w. cond (some_too_long w) 14 0) k.3)

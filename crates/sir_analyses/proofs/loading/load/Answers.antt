@@ -3,7 +3,7 @@ use mathlib.Core.Path.{◌≡◌, refl, sym, ◌∙◌}
 use Rattle.std.proofs.Common.{rules}
 use Rattle.sir_data.specs.Refusals.{refused, number}
 use Rattle.sir_data.specs.laws.Refusals.{not_0}
-use Rattle.sir_analyses.proofs.loading.Loads.{refused_early, words_fit, front_good, front_length, last_is, prepared, prepared_ok}
+use Rattle.sir_analyses.proofs.loading.Loads.{refused_early, words_fit, front_good, front_length, last_is, prepared_ok}
 use Rattle.sir_analyses.proofs.loading.load.Goals as goal
 
 pub returns-in_err-n : goal.returns-in_err-n

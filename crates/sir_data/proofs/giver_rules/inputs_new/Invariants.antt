@@ -1,5 +1,4 @@
 -- `inputs_new` meets its contract. The loop's invariant: the blocks that are left decide, and go into the set.
-use Rattle.std.proofs.Common.{◌-◌}
 use Rattle.sir_data.specs.Records.{blocks, inputs}
 use Rattle.sir_data.proofs.giver_rules.Passing.{PassingRuns}
 use Rattle.sir_data.proofs.giver_rules.inputs_new.Given as goal

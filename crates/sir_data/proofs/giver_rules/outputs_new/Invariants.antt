@@ -1,5 +1,4 @@
 -- `outputs_new` meets its contract. The loop's invariant: the operations that are left decide, and go into the set.
-use Rattle.std.proofs.Common.{◌-◌}
 use Rattle.sir_data.specs.Records.{operations, outs}
 use Rattle.sir_data.proofs.giver_rules.Passing.{PassingRuns}
 use Rattle.sir_data.proofs.giver_rules.outputs_new.Given as goal

@@ -1,5 +1,5 @@
 -- `copy_words` meets its contract. The loop's invariant: i words are stored, and the rest is as it was.
-use Rattle.std.proofs.Common.{◌≡◌, ◌-◌, ◌≤◌, ◌++◌, map, length, drop}
+use Rattle.std.proofs.Common.{◌≡◌, ◌≤◌, ◌++◌, map, length, drop}
 use Rattle.plank_core.specs.Lists.{upto}
 use Rattle.sir_data.specs.Pages.{word_at}
 use Rattle.sir_data.proofs.lent_records.copy_words.Given as goal

@@ -1,7 +1,7 @@
 -- `number_bad` meets its contract.
 use native.Mathlib.Omega.{arith}
 use borrow.Author.Tests.{tests}
-use Rattle.std.proofs.Common.{rules, ◌*◌, ◌/◌, not, eqb, length, refl}
+use Rattle.std.proofs.Common.{rules, ◌/◌, not, eqb, length}
 use Rattle.plank_core.specs.laws.Ranges.{any_range}
 use Rattle.sir_data.specs.Pages.{page_word, pages}
 use Rattle.sir_data.proofs.pages.number_bad.Goals as goal

@@ -1,5 +1,5 @@
 -- `read_page` meets its contract. The loop's invariant: k payload words are stored, and the rest is as it was.
-use Rattle.std.proofs.Common.{◌≡◌, ℕ, ◌+◌, ◌-◌, ◌≤◌, List, ◌++◌, map, length, drop}
+use Rattle.std.proofs.Common.{◌≡◌, ℕ, ◌+◌, ◌≤◌, List, ◌++◌, map, length, drop}
 use Rattle.plank_core.specs.Lists.{upto}
 use Rattle.sir_data.specs.Pages.{page_word}
 use Rattle.sir_data.proofs.pages.read_page.Given as goal

@@ -1,5 +1,5 @@
 -- `read_payload` meets its contract. The loop's invariant: the payload of p pages is stored, and the rest is as it was.
-use Rattle.std.proofs.Common.{◌≡◌, ℕ, ◌+◌, ◌-◌, ◌*◌, ◌/◌, ◌%◌, ◌≤◌, List, ◌++◌, map, length, drop}
+use Rattle.std.proofs.Common.{◌≡◌, ℕ, ◌+◌, ◌*◌, ◌/◌, ◌%◌, List, ◌++◌, map, length, drop}
 use Rattle.plank_core.specs.Lists.{upto}
 use Rattle.sir_data.specs.Pages.{page_word}
 use Rattle.sir_data.proofs.pages.read_payload.Given as goal
