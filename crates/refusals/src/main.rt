@@ -7,7 +7,10 @@ use std::io;
 
 fn main(rt: HostRuntime) -> io::Result<()> {
     visit_arguments(&rt, |name, file| {
-        let number = with_image(file, |image| Ok(sir_data::refusal(image)))?;
+        let number = match with_image(file, |image| Ok(sir_data::refusal(image)))? {
+            Ok(()) => 0,
+            Err(refusal) => u32::from(refusal),
+        };
         println!(rt; "{name} {number}")?;
         Ok(true)
     })?;
