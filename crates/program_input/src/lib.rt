@@ -1,7 +1,8 @@
 // What a program is given: its arguments, and what a file or the standard input holds, in buffers of a fixed length.
 #![tactic(auto)]
 
-ghost use Rattle.std.specs.Prelude.{◌<◌, length, take, IfOk};
+ghost use Rattle.std.specs.Prelude.{◌<◌, ℕ, List, length, take, IfOk, Ok};
+ghost use Rattle.std.specs.Fn.{FnOnceReturnsAt};
 ghost use Rattle.std.specs.Io.{ReadsAtMost};
 ghost use Rattle.std.specs.Io.KnownBytes.{Consumes, IsAtEnd};
 
@@ -31,12 +32,13 @@ pub fn read_full<R: Read>(from: &mut R, space: &mut [u8]) -> io::Result<usize>
     Ok(done)
 }
 
-// Reads an image, and gives it to `visit`.
-pub fn with_image<T, V: FnOnce(&[u8]) -> io::Result<T>>(
-    from: &mut impl Read,
+// Reads an image, and gives it to `visit`, whose answer it gives back.
+pub fn with_image<R: Read, T, V: FnOnce(&[u8]) -> io::Result<T>>(
+    from: &mut R,
     visit: V,
 ) -> io::Result<T>
     requires { V.IsAlwaysCallable visit }
+    ensures { IfOk result (λ t. (image : List ℕ) × Consumes (R.remaining from.old) (R.remaining from.new) image × FnOnceReturnsAt V.FnOnce visit image (Ok t)) }
 {
     let mut image = [0u8; MOST];
     let n = read_full(from, &mut image)?;
