@@ -1,10 +1,11 @@
 // What a program is given: its arguments, and what a file or the standard input holds, in buffers of a fixed length.
 #![tactic(auto)]
 
-ghost use Rattle.std.specs.Prelude.{◌<◌, ℕ, List, length, take, IfOk, Ok};
+ghost use Rattle.std.specs.Prelude.{◌<◌, ◌≡◌, ℕ, true, List, length, take, IfOk, IfSome, Ok};
 ghost use Rattle.std.specs.Fn.{FnOnceReturnsAt};
 ghost use Rattle.std.specs.Io.{ReadsAtMost};
 ghost use Rattle.std.specs.Io.KnownBytes.{Consumes, IsAtEnd};
+ghost use Rattle.program_input.specs.Given.{ReadsUpTo, Visit};
 
 use std::env::{Env, FillError};
 use std::fs::Files;
@@ -32,13 +33,14 @@ pub fn read_full<R: Read>(from: &mut R, space: &mut [u8]) -> io::Result<usize>
     Ok(done)
 }
 
-// Reads an image, and gives it to `visit`, whose answer it gives back.
+// Reads an image, and gives it to `visit`, whose answer it gives back. Where the reader's bytes are known, the image is its first,
+// and all of them where there are fewer than `MOST`.
 pub fn with_image<R: Read, T, V: FnOnce(&[u8]) -> io::Result<T>>(
     from: &mut R,
     visit: V,
 ) -> io::Result<T>
     requires { V.IsAlwaysCallable visit }
-    ensures { IfOk result (λ t. (image : List ℕ) × Consumes (R.remaining from.old) (R.remaining from.new) image × FnOnceReturnsAt V.FnOnce visit image (Ok t)) }
+    ensures { IfOk result (λ t. (image : List ℕ) × ReadsUpTo MOST (R.remaining from.old) (R.remaining from.new) image × FnOnceReturnsAt V.FnOnce visit image (Ok t)) }
 {
     let mut image = [0u8; MOST];
     let n = read_full(from, &mut image)?;
@@ -66,6 +68,7 @@ fn visit_argument<R: Env + Files, T, V: Fn(&str, &mut R::File) -> io::Result<T>>
     visit: &V,
 ) -> io::Result<Option<T>>
     requires { V.IsAlwaysCallable visit.now }
+    ensures { IfOk result (λ found. IfSome found (λ t. Visit (V.post visit.now) (Ok t))) }
 {
     let mut space = [0u8; 4096];
     let Some(name) = argument(rt, i, &mut space)? else {
@@ -75,12 +78,14 @@ fn visit_argument<R: Env + Files, T, V: Fn(&str, &mut R::File) -> io::Result<T>>
     Ok(Some(visit(name, &mut file)?))
 }
 
-// Gives the name and the file of each argument to `visit`, in turn, as long as that answers true; how many these were.
+// Gives the name and the file of each argument to `visit`, in turn, as long as that answers true; how many these were. `Env`
+// does not state which arguments there are, so what is stated is that each that is counted had a visit that answered true.
 pub fn visit_arguments<R: Env + Files, V: Fn(&str, &mut R::File) -> io::Result<bool>>(
     rt: &R,
     visit: V,
 ) -> io::Result<usize>
     requires { V.IsAlwaysCallable visit }
+    ensures { IfOk result (λ n. (visits : List (Visit (V.post visit) (Ok true))) × (length visits ≡ n)) }
 {
     for i in 1..usize::MAX {
         if visit_argument(rt, i, &visit)? != Some(true) {
