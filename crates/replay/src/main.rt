@@ -38,7 +38,7 @@ fn read_part(file: &mut impl Read, space: &mut [u8], wanted: usize) -> io::Resul
     read_full(file, &mut space[..wanted])
 }
 
-// Puts a question. True where number, length and every byte of the slice are as recorded; the head states the first two.
+// Puts a question. True where it is known, and number, length and every byte of the slice are as recorded; the head states the first two.
 fn is_as_recorded(
     head: &[u8; 12],
     recorded: &[u8],
@@ -47,7 +47,9 @@ fn is_as_recorded(
     ids: &[u8],
     out: &mut [u8],
 ) -> bool {
-    let given = ask(question, image, ids, out);
+    let Some(given) = ask(question, image, ids, out) else {
+        return false;
+    };
     if given.number != word_at(head, 1) || given.length != word_at(head, 2) as u64 {
         return false;
     }

@@ -8,17 +8,10 @@ use sir_capi::{
 };
 use sir_data::pages::word_at;
 
-// What an unknown question gives, or one with another number of ids: a length that no file can state, so that it differs.
-fn unknown() -> Answer {
-    Answer {
-        number: 0,
-        length: 18446744073709551615,
-    }
-}
-
-// The questions without ids: about the image, and for all ids. Where records are written, they are lent in the place of an image.
-fn ask_of_image(question: u32, image: &[u8], out: &mut [u8]) -> Answer {
-    match question {
+// The questions without ids: about the image, and for all ids; none where the number is of no such question, as in the functions below.
+// Where records are written, they are lent in the place of an image.
+fn ask_of_image(question: u32, image: &[u8], out: &mut [u8]) -> Option<Answer> {
+    let answer = match question {
         0 => sir_order(image, out),
         8 => sir_rounds(image, out),
         9 => sir_all_predecessors(image, out),
@@ -31,13 +24,14 @@ fn ask_of_image(question: u32, image: &[u8], out: &mut [u8]) -> Answer {
         18 => sir_records(image, out),
         19 => sir_write(image, out),
         20 => sir_chart(image, out),
-        _ => unknown(),
-    }
+        _ => return None,
+    };
+    Some(answer)
 }
 
 // The questions about one id.
-fn ask_of_one(question: u32, image: &[u8], id: u32, out: &mut [u8]) -> Answer {
-    match question {
+fn ask_of_one(question: u32, image: &[u8], id: u32, out: &mut [u8]) -> Option<Answer> {
+    let answer = match question {
         1 => sir_predecessors(image, id, out),
         2 => sir_entry_set(image, id, out),
         3 => sir_exit_set(image, id, out),
@@ -45,25 +39,33 @@ fn ask_of_one(question: u32, image: &[u8], id: u32, out: &mut [u8]) -> Answer {
         5 => sir_intervals(image, id, out),
         6 => sir_allocation(image, id, out),
         7 => sir_owner(image, id, out),
-        _ => unknown(),
-    }
+        _ => return None,
+    };
+    Some(answer)
 }
 
 // The questions about two ids.
-fn ask_of_two(question: u32, image: &[u8], first: u32, second: u32, out: &mut [u8]) -> Answer {
-    match question {
+fn ask_of_two(
+    question: u32,
+    image: &[u8],
+    first: u32,
+    second: u32,
+    out: &mut [u8],
+) -> Option<Answer> {
+    let answer = match question {
         16 => sir_open(image, first, second, out),
         17 => sir_crossing(image, first, second, out),
-        _ => unknown(),
-    }
+        _ => return None,
+    };
+    Some(answer)
 }
 
-// Puts a question about ids, a word each.
-pub fn ask(question: u32, image: &[u8], ids: &[u8], out: &mut [u8]) -> Answer {
+// Puts a question about ids, a word each; none where there is no question of this number with so many ids.
+pub fn ask(question: u32, image: &[u8], ids: &[u8], out: &mut [u8]) -> Option<Answer> {
     match ids.len() {
         0 => ask_of_image(question, image, out),
         4 => ask_of_one(question, image, word_at(ids, 0), out),
         8 => ask_of_two(question, image, word_at(ids, 0), word_at(ids, 1), out),
-        _ => unknown(),
+        _ => None,
     }
 }

@@ -10,7 +10,7 @@ use borrow.Author.Tests.{ne_eqb}
 use Rattle.plank_core.specs.Lists.{bind, count, one_if}
 use Rattle.sir_data.specs.Pages.{word_at, bytes_of}
 use Rattle.sir_data.specs.laws.Bytes.{word_bytes}
-use Rattle.sir_analyses.specs.Order.{blocks_rpo}
+use Rattle.sir_data.specs.inner.WellFormed.{WellFormed}
 use Rattle.sir_analyses.specs.Liveness.{Interval, intervals}
 use Rattle.sir_analyses.specs.Allocation.{allocs, alloc_at, base, marked, merged}
 use Rattle.sir_analyses.specs.Flags.{flags_word}
@@ -20,8 +20,8 @@ use Rattle.sir_analyses.specs.declared.allocation_words.AllocKind.{AllocKind}
 use Rattle.sir_analyses.specs.laws.Writing.{length_bytes, interval_count}
 use Rattle.plank_core.specs.Text.{ascii}
 use Rattle.report_lines.specs.Lines.{named, interval_text, interval, local_text, allocation_text}
-use Rattle.report_lines.specs.inner.AnswerLines.{Words, interval_at, intervals_at, local_line, mark, allocation_head, allocation_line}
-use Rattle.report_lines.proofs.Fields.{Good, Goods, intervals_good, merged_good, alloc_small, base_small}
+use Rattle.report_lines.specs.inner.AnswerLines.{interval_at, intervals_at, local_line, mark, allocation_head, allocation_line}
+use Rattle.report_lines.proofs.Fields.{Good, Goods, intervals_good, merged_good, alloc_within, base_small}
 
 -- word j after some front
 word_after : {xs : List ℕ} (front ys : List ℕ) (j : ℕ) → xs ≡ front ++ ys → j < length ys → get_or ys j 0 < 4294967296 → word_at (bind xs bytes_of) (length front + j) ≡ get_or ys j 0
@@ -64,7 +64,7 @@ three_words : (k : AllocKind) → kind_words k ≡ get_or (kind_words k) 0 0 ∷
 three_words (AllocKind.Static size id) = refl
 three_words (AllocKind.Dynamic local) = refl
 
-module _ (w : List ℕ) (small : Words w) (seq : Words (blocks_rpo w)) where
+module _ (w : List ℕ) (good : WellFormed w) where
   -- ---- the line of a local
 
   local_count : (v : ℕ) → length (bind (intervals_answer w v) bytes_of) / 12 ≡ length (intervals w v)
@@ -75,7 +75,7 @@ module _ (w : List ℕ) (small : Words w) (seq : Words (blocks_rpo w)) where
   local_as v n =
       let m : ¬ (length (intervals w v) ≡ 0) = λ e. n (omega (arith, interval_count (intervals w v))) in
       ap (λ (n : ℕ). named (ascii "v") v ++ intervals_at (bind (intervals_answer w v) bytes_of) 0 n ++ ascii "\n") (local_count v)
-      ∙ ap (λ (t : List ℕ). named (ascii "v") v ++ t ++ ascii "\n") (texts_from 0 (intervals w v) 0 [] refl (omega arith) (intervals_good w small seq v))
+      ∙ ap (λ (t : List ℕ). named (ascii "v") v ++ t ++ ascii "\n") (texts_from 0 (intervals w v) 0 [] refl (omega arith) (intervals_good w good v))
       ∙ rw (ne_eqb (length (intervals w v)) 0 m) refl
 
   -- ---- the line of an allocation
@@ -112,16 +112,16 @@ module _ (w : List ℕ) (small : Words w) (seq : Words (blocks_rpo w)) where
     answer_as : allocation_line a (bind answer bytes_of) ≡ allocation_text w a
     unfolding allocation_text allocation_head
     answer_as =
-        let x = alloc_small w small seq a l in
-        let b : word_at (bind answer bytes_of) 0 ≡ (alloc_at w a).block = word_bytes answer 0 (omega arith) x.0 in
-        let o : word_at (bind answer bytes_of) 1 ≡ (alloc_at w a).op = word_bytes answer 1 (omega arith) x.1 in
-        let v : word_at (bind answer bytes_of) 2 ≡ base w (alloc_at w a) = word_bytes answer 2 (omega arith) (base_small w small seq (alloc_at w a)) in
+        let x = alloc_within w good a l in
+        let b : word_at (bind answer bytes_of) 0 ≡ (alloc_at w a).block = word_bytes answer 0 (omega arith) (omega (arith, x.0, good.sized.blocks_most)) in
+        let o : word_at (bind answer bytes_of) 1 ≡ (alloc_at w a).op = word_bytes answer 1 (omega arith) (omega (arith, x.1, good.sized.operations_most)) in
+        let v : word_at (bind answer bytes_of) 2 ≡ base w (alloc_at w a) = word_bytes answer 2 (omega arith) (base_small w good (alloc_at w a) x.1) in
         let m : word_at (bind answer bytes_of) 6 ≡ one_if (marked w a) = word_bytes answer 6 (omega arith) (one_small (marked w a)) in
         let h : allocation_head a (bind answer bytes_of) ≡
         named (ascii "a") a ++ named (ascii " b") (alloc_at w a).block ++ named (ascii " op") (alloc_at w a).op ++ named (ascii " v") (base w (alloc_at w a))
         ++ cond (marked w a) (ascii " escaped") (ascii " kept") = rw (b, o, v, m) (rw (mark_as (marked w a)) refl) in
         ap (λ (n : ℕ). allocation_head a (bind answer bytes_of) ++ intervals_at (bind answer bytes_of) 9 n ++ ascii "\n") allocation_count
-        ∙ ap (λ (t : List ℕ). allocation_head a (bind answer bytes_of) ++ t ++ ascii "\n") (texts_from 9 (merged w a) 0 front refl (omega arith) (merged_good w small seq a))
+        ∙ ap (λ (t : List ℕ). allocation_head a (bind answer bytes_of) ++ t ++ ascii "\n") (texts_from 9 (merged w a) 0 front refl (omega arith) (merged_good w good a))
         ∙ ap (λ (t : List ℕ). t ++ bind (merged w a) interval_text ++ ascii "\n") h
 
     pub allocation_as : allocation_line a (bind (allocation_answer w a) bytes_of) ≡ allocation_text w a

@@ -3,21 +3,19 @@ use mathlib.Core.Path.{refl}
 use mathlib.Core.Bool.{Bool, true, false, ◌&&◌, ◌||◌, cond}
 use mathlib.Core.List.Memᴰ
 use mathlib.Core.List.{List, [], ◌∷◌, ◌++◌, map, foldr}
-use Prim.Native.Nat.{ℕ, suc, ◌+◌, ◌*◌, ◌<◌}
+use Prim.Native.Nat.{ℕ, suc, ◌<◌}
 use native.Mathlib.Omega.{arith}
 use lib.ListN.{length, get_or}
 use lib.Dec.{eqb, leb}
-use Rattle.plank_core.specs.Lists.{range, bind, keep, mem, ◌∈◌}
-use Rattle.plank_core.specs.laws.Lists.{mem_range, keep_out, map_each, bind_out, mem_place, get_or_mem}
-use Rattle.sir_data.specs.Records.{blocks_at, block_word, op_word, operands_at, operand, ops, ins, outs, code}
+use Rattle.plank_core.specs.Lists.{bind, keep, mem, ◌∈◌}
+use Rattle.plank_core.specs.laws.Lists.{keep_out, map_each, bind_out, get_or_mem}
+use Rattle.sir_data.specs.Records.{blocks, operations, locals, ops, ins, outs, code}
+use Rattle.sir_data.specs.inner.WellFormed.{WellFormed}
 use Rattle.sir_data.specs.Codes.{is_alloc}
 use Rattle.sir_analyses.specs.Order.{blocks_rpo}
 use Rattle.sir_analyses.specs.Liveness.{Set, has, members, Interval, Scan, close, closing, scan_op, block_end, block_intervals, intervals, exit_set, end_reads}
 use Rattle.sir_analyses.specs.Allocation.{Alloc, no_alloc, allocs, alloc_at, base, before, insert, sort, furthest, join, merge, marked, merged, reach}
-use Rattle.report_lines.specs.inner.AnswerLines.{Words}
-
-pub in_words : {x : ℕ} (xs : List ℕ) → Words xs → x ∈ xs → x < 4294967296
-in_words xs h m = let p = mem_place 0 m in omega (arith, h p.0, p.2)
+use Rattle.sir_analyses.proofs.claims.order.OrderProof.{blocks_below}
 
 pub record Good (i : Interval) : Type 0 where
   pub block_small : i.block < 4294967296
@@ -102,41 +100,43 @@ merge_good : (is : List Interval) → Goods is → Goods (merge is)
 merge_good [] h = tt
 merge_good (i ∷ is) h = join_good i is h.0 h.1
 
-module _ (w : List ℕ) (small : Words w) where
-  op_small : (b o : ℕ) → o ∈ ops w b → suc o < 4294967296
-  op_small b o m = let k = mem_range o (block_word w b 4) (block_word w b 5) m in omega (arith, k.1, small (blocks_at w + 11 * b + 5))
+module _ (w : List ℕ) (good : WellFormed w) where
+  op_small : (b o : ℕ) → b < blocks w → o ∈ ops w b → suc o < 4294967296
+  op_small b o l m = omega (arith, good.in_range.op b o l m, good.sized.operations_most)
 
-  block_good : (exit : Set) (v b : ℕ) → b < 4294967296 → Goods (block_intervals w exit v b)
-  block_good exit v b p = (close_ok b 0 _ p (omega arith) (scans_ok w b v _ (ops w b) p (op_small b) (start (has exit v || mem v (end_reads w b))))).closed_good
+  block_good : (exit : Set) (v b : ℕ) → b < blocks w → Goods (block_intervals w exit v b)
+  block_good exit v b l =
+      let p : b < 4294967296 = omega (arith, good.sized.blocks_most) in
+      (close_ok b 0 _ p (omega arith) (scans_ok w b v _ (ops w b) p (λ o. op_small b o l) (start (has exit v || mem v (end_reads w b))))).closed_good
     where
       start : (t : Bool) → ScanOk (record { open' = cond t block_end 0; closed = [] })
       start true = record { open_small = omega arith; closed_good = tt }
       start false = record { open_small = omega arith; closed_good = tt }
 
-  module _ (seq : Words (blocks_rpo w)) where
-    pub intervals_good : (v : ℕ) → Goods (intervals w v)
-    intervals_good v = goods_bind (λ b. block_intervals w (exit_set w b) v b) (blocks_rpo w) (λ b m. block_good (exit_set w b) v b (in_words (blocks_rpo w) seq m))
+  pub intervals_good : (v : ℕ) → Goods (intervals w v)
+  intervals_good v = goods_bind (λ b. block_intervals w (exit_set w b) v b) (blocks_rpo w) (λ b m. block_good (exit_set w b) v b (blocks_below w good b m))
 
-    pub merged_good : (a : ℕ) → Goods (merged w a)
-    merged_good a = go (marked w a)
-      where
-        go : (t : Bool) → Goods (cond t [] (merge (sort (bind (members (reach w (alloc_at w a))) (intervals w)))))
-        go true = tt
-        go false = merge_good (sort (bind (members (reach w (alloc_at w a))) (intervals w))) (sort_good (bind (members (reach w (alloc_at w a))) (intervals w)) (goods_bind (intervals w) (members (reach w (alloc_at w a))) (λ v m. intervals_good v)))
+  pub merged_good : (a : ℕ) → Goods (merged w a)
+  merged_good a = go (marked w a)
+    where
+      go : (t : Bool) → Goods (cond t [] (merge (sort (bind (members (reach w (alloc_at w a))) (intervals w)))))
+      go true = tt
+      go false = merge_good (sort (bind (members (reach w (alloc_at w a))) (intervals w))) (sort_good (bind (members (reach w (alloc_at w a))) (intervals w)) (goods_bind (intervals w) (members (reach w (alloc_at w a))) (λ v m. intervals_good v)))
 
-    -- ---- an allocation
+  -- ---- an allocation
 
-    pub alloc_small : (a : ℕ) → a < length (allocs w) → ((alloc_at w a).block < 4294967296) × ((alloc_at w a).op < 4294967296)
-    alloc_small a l =
-        let f : ℕ → List Alloc = λ b. map (λ o. record { block = b; op = o }) (keep (λ o. is_alloc (code w o)) (ops w b)) in
-        let r = bind_out f (blocks_rpo w) (get_or_mem (allocs w) a no_alloc l) in
-        map_each (λ (x : Alloc). (x.block < 4294967296) × (x.op < 4294967296)) (λ o. record { block = r.0; op = o }) (keep (λ o. is_alloc (code w o)) (ops w r.0))
-        (λ o m. (in_words (blocks_rpo w) seq r.1, let k = op_small r.0 o (keep_out (λ o. is_alloc (code w o)) (ops w r.0) m).0 in omega arith))
-        (alloc_at w a) r.2
+  pub alloc_within : (a : ℕ) → a < length (allocs w) → ((alloc_at w a).block < blocks w) × ((alloc_at w a).op < operations w)
+  alloc_within a l =
+      let f : ℕ → List Alloc = λ b. map (λ o. record { block = b; op = o }) (keep (λ o. is_alloc (code w o)) (ops w b)) in
+      let r = bind_out f (blocks_rpo w) (get_or_mem (allocs w) a no_alloc l) in
+      let b = blocks_below w good r.0 r.1 in
+      map_each (λ (x : Alloc). (x.block < blocks w) × (x.op < operations w)) (λ o. record { block = r.0; op = o }) (keep (λ o. is_alloc (code w o)) (ops w r.0))
+      (λ o m. (b, good.in_range.op r.0 o b (keep_out (λ o. is_alloc (code w o)) (ops w r.0) m).0))
+      (alloc_at w a) r.2
 
-    pub base_small : (x : Alloc) → base w x < 4294967296
-    base_small x = go (range (op_word w x.op 3) (op_word w x.op 4))
-      where
-        go : (is : List ℕ) → get_or (map (operand w) is) 0 0 < 4294967296
-        go [] = omega arith
-        go (i ∷ is) = small (operands_at w + i)
+  pub base_small : (x : Alloc) → x.op < operations w → base w x < 4294967296
+  base_small x l = go (outs w x.op) (λ v. good.in_range.written x.op v l)
+    where
+      go : (vs : List ℕ) → ((v : ℕ) → v ∈ vs → v < locals w) → get_or vs 0 0 < 4294967296
+      go [] h = omega arith
+      go (v ∷ vs) h = omega (arith, h v (Memᴰ.head refl), good.sized.locals_most)

@@ -6,8 +6,8 @@ use mathlib.Core.List.{List, [], ◌∷◌, ◌++◌, map}
 use Prim.Native.Nat.{ℕ, ◌+◌, ◌*◌, ◌≤◌, ◌<◌}
 use native.Mathlib.Omega.{arith}
 use native.Mathlib.Decide.{dec_lt}
-use lib.ListN.{length, get_or, take, drop, length-map, length-take, get_or-eq_default}
-use lib.Seq.{take_at, get_or-take, get_or-drop}
+use lib.ListN.{length, get_or, take, drop, length-map, length-take}
+use lib.Seq.{take_at}
 use lib.Dec.{eqb, ltb}
 use borrow.Author.Tests.{lt-ltb, le-ltb, ltb-false, ne_eqb}
 use Rattle.plank_core.specs.Lists.{bind, any, range, upto, ◌∈◌}
@@ -18,6 +18,7 @@ use Rattle.plank_core.specs.laws.Members.{members_most}
 use Rattle.plank_core.specs.laws.Loops.{range_all}
 use Rattle.sir_data.specs.Pages.{bytes_of}
 use Rattle.sir_data.specs.Records.{blocks, locals}
+use Rattle.sir_data.specs.inner.WellFormed.{WellFormed}
 use Rattle.sir_analyses.specs.Allocation.{allocs}
 use Rattle.sir_analyses.specs.Answers.{order_answer, entry_answer, exit_answer, intervals_answer, allocation_answer}
 use Rattle.sir_analyses.specs.Calls.{Outcome, made, refused, answered}
@@ -27,10 +28,11 @@ use Rattle.sir_data.specs.declared.refusals.Refusal.{Refusal}
 use Rattle.sir_data.specs.Refusals.{number, refused as code}
 use Rattle.sir_data.specs.laws.Refusals.{not_0}
 use Rattle.sir_analyses.specs.inner.Discovery.{alloc_site, alloc_sites}
-use Rattle.sir_analyses.specs.Order.{blocks_rpo, is_visited}
-use Rattle.sir_analyses.specs.inner.Stages.{part, sites_in, VisitStage, PointerStage}
+use Rattle.sir_analyses.specs.Order.{is_visited}
+use Rattle.sir_analyses.specs.inner.Stages.{part, sites_in, PointerStage}
 use Rattle.sir_analyses.specs.inner.Tables.{LiveRows}
 use Rattle.sir_analyses.specs.inner.Writing.{Puts}
+use Rattle.sir_analyses.proofs.claims.order.OrderLength.{order_most}
 use Rattle.sir_analyses.specs.laws.Writing.{length_bytes, puts_within}
 use Rattle.report_lines.specs.Counting.{too_long, local_too_long, allocation_too_long, some_too_long}
 use Rattle.report_lines.specs.Lines.{visited_blocks}
@@ -152,12 +154,12 @@ module _ {w uses defs exits : List ℕ} (live : LiveRows w uses defs exits) wher
       let k = h b (Memᴰ.head refl) in
       rw (entry_fits b k.0 k.1, exit_fits b k.0) (sets_fit bs (λ c m. h c (Memᴰ.tail m)))
 
-  pub others_fit : length (order_answer w) ≤ 384 → some_too_long w ≡ (local_too_long w || allocation_too_long w)
+  pub others_fit : WellFormed w → some_too_long w ≡ (local_too_long w || allocation_too_long w)
   unfolding some_too_long local_too_long allocation_too_long
-  others_fit h =
+  others_fit good =
       let L : List (List ℕ) = map (intervals_answer w) (upto (locals w)) in
       let A : List (List ℕ) = map (allocation_answer w) (upto (length (allocs w))) in
-      let o : too_long (order_answer w) ≡ false = fits (order_answer w) (omega arith) in
+      let o : too_long (order_answer w) ≡ false = fits (order_answer w) (omega (arith, order_most w good, good.sized.functions_most, good.sized.blocks_most)) in
       let s : any too_long (bind (visited_blocks w) sets) ≡ false =
       sets_fit (visited_blocks w) (λ b m. let k = keep_out (is_visited w) (upto (blocks w)) m in (mem_upto b (blocks w) k.0, k.1)) in
       let S : List (List ℕ) = bind (visited_blocks w) sets in
@@ -166,23 +168,10 @@ module _ {w uses defs exits : List ℕ} (live : LiveRows w uses defs exits) wher
       ∙ ap (λ (t : Bool). t || any too_long A) (any_join too_long S L ∙ ap (λ (t : Bool). t || any too_long L) s ∙ any_map too_long (intervals_answer w) (upto (locals w)))
       ∙ ap (λ (t : Bool). local_too_long w || t) (any_map too_long (allocation_answer w) (upto (length (allocs w))))
 
--- ---- the blocks of the order fit 32 bits, as all of the visit does
-
-part_small : (from n : ℕ) (t : List ℕ) → ((i : ℕ) → get_or t i 0 < 4294967296) → (k : ℕ) → get_or (part from n t) k 0 < 4294967296
-unfolding part
-part_small from n t h k = go (dec_lt k n)
-  where
-    go : Dec (k < n) → get_or (take n (drop from t)) k 0 < 4294967296
-    go (yes l) = rw (get_or-take n (drop from t) k 0 l, get_or-drop from t k 0) (h (from + k))
-    go (no l) = let z : get_or (take n (drop from t)) k 0 ≡ 0 = get_or-eq_default (take n (drop from t)) 0 {n = k} (omega (arith, length-take n (drop from t))) in omega arith
-
-pub rpo_small : {w visit : List ℕ} → VisitStage w visit → ((i : ℕ) → get_or visit i 0 < 4294967296) → (k : ℕ) → get_or (blocks_rpo w) k 0 < 4294967296
-rpo_small {w} {visit} v h k = rw (sym v.rpo_is) (part_small 1 (get_or visit 0 0) visit h k)
-
 -- there are as many sites as allocations
-pub sites_count : {w p : List ℕ} → PointerStage w p → {n : ℕ} → n ≡ length (sites_in p) → n ≡ length (allocs w)
-sites_count {w} S e = e ∙ ap length S.sites_are ∙ sites_long w
+pub sites_count : {w p sites : List ℕ} → PointerStage w p → sites ≡ sites_in p → length sites ≡ length (allocs w)
+sites_count {w} S e = ap length e ∙ ap length S.sites_are ∙ sites_long w
 
-pub sites_most : {w p : List ℕ} → PointerStage w p → length (sites_in p) ≤ 512
+pub sites_most : {w p sites : List ℕ} → PointerStage w p → sites ≡ sites_in p → length sites ≤ 512
 unfolding part
-sites_most {w} {p} S = omega (arith, length-take (get_or p 0 0) (drop 2 p), S.few)
+sites_most {w} {p} S e = omega (arith, ap length e, length-take (get_or p 0 0) (drop 2 p), S.few)

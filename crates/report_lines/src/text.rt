@@ -85,6 +85,7 @@ impl fmt::Display for Interval {
 }
 
 // So many intervals of an answer, from word `first` on.
+// By offsets: without a heap there is no list of intervals, and the contract names each word by its place in the answer's bytes.
 pub fn write_intervals<W: fmt::Write>(
     f: &mut fmt::Formatter<W>,
     answer: &[u8],

@@ -10,7 +10,7 @@ use lib.ListN.{length}
 use lib.Dec.{eqb}
 use borrow.Author.Tests.{eqb-true}
 use Rattle.plank_core.specs.Lists.{◌∈◌}
-use Rattle.plank_core.specs.laws.Lists.{and_true_left, and_true_right, or_cases}
+use Rattle.plank_core.specs.laws.Lists.{and_true_right, or_cases}
 use Rattle.plank_core.specs.laws.Loops.{length_count}
 use Rattle.sir_data.specs.Records.{blocks, operations, locals, outputs, ops, control, successors, returned, code, ins, outs, block_word}
 use Rattle.sir_data.specs.Codes.{arity_ok, is_static_alloc, is_dynamic_alloc, is_alloc}
@@ -31,18 +31,7 @@ alloc_out c i o h k =
     fixed : (n : ℕ) → (eqb i n && eqb o 1) ≡ true → o ≡ 1
     fixed n t = eqb-true o 1 (and_true_right (eqb i n) (eqb o 1) t)
 
--- a dynamic one has one input, its size
-dynamic_in : (c i o : ℕ) → is_dynamic_alloc c ≡ true → arity_ok c i o ≡ true → i ≡ 1
-dynamic_in c i o h k =
-    ⊎_elim (λ (e : eqb c 21 ≡ true). fixed (rw (eqb-true c 21 e) at k)) (λ (e : eqb c 22 ≡ true). fixed (rw (eqb-true c 22 e) at k)) (or_cases (eqb c 21) (eqb c 22) h)
-  where
-    fixed : (eqb i 1 && eqb o 1) ≡ true → i ≡ 1
-    fixed t = eqb-true i 1 (and_true_left (eqb i 1) (eqb o 1) t)
-
 module _ (w : List ℕ) (good : WellFormed w) where
-  pub one_in : {o : ℕ} → o < operations w → is_dynamic_alloc (code w o) ≡ true → length (ins w o) ≡ 1
-  one_in {o} l h = dynamic_in (code w o) (length (ins w o)) (length (outs w o)) h (good.arity_ok_fact o l)
-
   pub one_out : {o : ℕ} → o < operations w → is_alloc (code w o) ≡ true → length (outs w o) ≡ 1
   one_out {o} l h = alloc_out (code w o) (length (ins w o)) (length (outs w o)) h (good.arity_ok_fact o l)
 

@@ -1,6 +1,6 @@
 -- Laws of tables that show sets: rows filled one after the other, and members added step by step.
 use mathlib.Core.Path.{◌≡◌, refl, sym, ap, ◌∙◌}
-use mathlib.Core.Bool.{Bool, false, ◌&&◌, ◌||◌, or-false, or_assoc, and-false}
+use mathlib.Core.Bool.{Bool, false, ◌&&◌, ◌||◌, or-false, or_assoc}
 use mathlib.Core.List.{List, [], ◌∷◌}
 use Prim.Native.Nat.{ℕ, ◌+◌, ◌*◌, ◌≤◌, ◌<◌}
 use native.Mathlib.Omega.{arith}
@@ -49,9 +49,6 @@ adds_none {t} e = record { long = refl; same = λ r i l k. sym (ap (λ (x : Bool
 -- a list of one, and of none
 pub adds_single : (t : List ℕ) (row i : ℕ) (xs : List ℕ) → xs ≡ i ∷ [] → i < 512 → Adds t (λ r n. eqb r row && mem n xs) (added t (512 * row + i))
 adds_single t row i xs e h = adds_as (λ r n l. ap (λ (x : Bool). eqb r row && x) (sym (or-false (eqb n i)) ∙ ap (mem n) (sym e))) (adds_one t row i h)
-
-pub adds_nothing : (t : List ℕ) (row : ℕ) (xs : List ℕ) → xs ≡ [] → Adds t (λ r n. eqb r row && mem n xs) t
-adds_nothing t row xs e = adds_none (λ r n l. ap (λ (ys : List ℕ). eqb r row && mem n ys) e ∙ and-false (eqb r row))
 
 -- ---- rows filled one after the other
 

@@ -1,7 +1,7 @@
 // Allocations: the allocation operations of visited blocks, in the order's sequence; the owners of locals, and what marks each allocation.
-ghost use Rattle.std.specs.Prelude.{◌≡◌, true, List, ◌∷◌, [], ℕ, ◌+◌, ◌*◌, ◌<◌, ◌≤◌, length, get_or, set, replicate};
+ghost use Rattle.std.specs.Prelude.{◌≡◌, true, List, ◌∷◌, [], ℕ, ◌+◌, ◌<◌, ◌≤◌, length, get_or, set, replicate};
 ghost use Rattle.std.specs.Int.Bits.{bit_or};
-ghost use Rattle.sir_data.specs.Records.{blocks, operations, locals, code, outs};
+ghost use Rattle.sir_data.specs.Records.{operations, locals, code, outs};
 ghost use Rattle.sir_data.specs.Codes.{is_alloc};
 ghost use Rattle.sir_data.specs.inner.WellFormed.{WellFormed};
 ghost use Rattle.sir_analyses.specs.Allocation.{rule12, allocs, alloc_at, base, bases};
@@ -9,32 +9,33 @@ ghost use Rattle.sir_analyses.specs.inner.Pointers.{PointerRows};
 ghost use Rattle.sir_analyses.specs.Flags.{found, bit_of};
 ghost use Rattle.sir_analyses.specs.inner.Following.{link_all, follow_local};
 ghost use Rattle.sir_analyses.specs.inner.Discovery.{alloc_sites, block_sites, Capped, Site, links_in, used_in};
-ghost use Rattle.sir_analyses.specs.inner.Stages.{VisitStage, AcceptedStage, PointerStage, PointerRoom, PointerStep, PointersFollowed, SitesStored, owners_in, left_in};
+ghost use Rattle.sir_analyses.specs.inner.Stages.{AcceptedStage, PointerStage, PointerRoom, PointerStep, PointersFollowed, SitesStored, owners_in, left_in};
 
+use crate::staged::Visited;
 use crate::stages::{
-    ALLOCATIONS, ESCAPING, FLAGS, LEFT, OWNERS, RETURNED, SITES, WORK, owner, rpo,
+    ALLOCATIONS, ESCAPING, FLAGS, LEFT, OWNERS, POINTERS, RETURNED, SITES, WORK, owner,
 };
 use plank_core::dense_index_set::list;
 use plank_core::index::{AllocId, BlockId, LocalId, OpIdx};
 use plank_core::rows::{row_add, row_contains, row_of};
 use sir_data::codes::is_alloc;
-use sir_data::records::{block_operations, op_outputs, op_word};
+use sir_data::view::BlockView;
+use sir_data::well_formed::Image;
 
 // The allocations of a block after the first `at` of `sites`, each as one number: 1024 times the block, plus the operation. How many
 // sites there are then, or none where there is no room for all.
-fn block_allocations(words: &[u32], b: BlockId, sites: &mut [u32], at: usize) -> Option<usize>
-    requires well_formed { WellFormed words.now }
-    requires b_bound { (b.0 < blocks words.now) × (at ≤ length sites.old) }
-    ensures { Capped (block_sites words.now b.0) at sites.old sites.new result }
+fn block_allocations(b: BlockView, sites: &mut [u32], at: usize) -> Option<usize>
+    requires at_bound { at ≤ length sites.old }
+    ensures { Capped (block_sites b.entry.image.words.now b.entry.id.0) at sites.old sites.new result }
 {
-    let span = block_operations(words, b);
+    let span = b.operations();
     let mut m = at;
     for o in span.start..span.end {
-        if is_alloc(op_word(words, OpIdx(o), 0)) {
+        if is_alloc(b.image.op_word(OpIdx(o), 0)) {
             if m == sites.len() {
                 return None;
             }
-            sites[m] = 1024 * b.0 + o;
+            sites[m] = 1024 * b.id.0 + o;
             m += 1;
         }
     }
@@ -42,14 +43,17 @@ fn block_allocations(words: &[u32], b: BlockId, sites: &mut [u32], at: usize) ->
 }
 
 // The allocations of all visited blocks, in the order's sequence: how many, or none where there is no room for all.
-pub fn find_allocations(words: &[u32], visit: &[u32], sites: &mut [u32]) -> Option<usize>
-    requires { VisitStage words.now visit.now }
-    ensures { Capped (alloc_sites words.now) 0 sites.old sites.new result }
+pub fn find_allocations(visited: Visited, sites: &mut [u32]) -> Option<usize>
+    ensures { Capped (alloc_sites visited.entry.image.words.now) 0 sites.old sites.new result }
 {
-    let order = rpo(visit);
+    let order = visited.rpo();
     let mut m: usize = 0;
     for &b in order {
-        m = block_allocations(words, BlockId(b), sites, m)?;
+        let block = BlockView {
+            image: visited.image,
+            id: BlockId(b),
+        };
+        m = block_allocations(block, sites, m)?;
     }
     Some(m)
 }
@@ -74,34 +78,31 @@ pub fn site_of(sites: &[u32], a: AllocId) -> AllocSite
 }
 
 // The base local of an allocation operation.
-pub fn base_ptr(words: &[u32], o: OpIdx) -> LocalId
-    requires well_formed { WellFormed words.now }
-    requires o_bound { (o.0 < operations words.now) × (is_alloc (code words.now o.0) ≡ true) }
-    ensures { (result.0 ≡ get_or (outs words.now o.0) 0 0) × (result.0 < locals words.now) }
+pub fn base_ptr(image: Image, o: OpIdx) -> LocalId
+    requires o_bound { (o.0 < operations image.words.now) × (is_alloc (code image.words.now o.0) ≡ true) }
+    ensures { (result.0 ≡ get_or (outs image.entry.words.now o.0) 0 0) × (result.0 < locals image.entry.words.now) }
 {
-    let outputs = op_outputs(words, o);
+    let outputs = image.op_outputs(o);
     LocalId(outputs[0])
 }
 
 // The base local of allocation a.
-fn base_of(words: &[u32], sites: &[u32], a: AllocId) -> LocalId
-    requires well_formed { WellFormed words.now }
-    requires sites_value { (sites.now ≡ alloc_sites words.now) × (a.0 < length sites.now) }
-    ensures { (result.0 ≡ base words.now (alloc_at words.now a.0)) × (result.0 < locals words.now) }
+fn base_of(image: Image, sites: &[u32], a: AllocId) -> LocalId
+    requires sites_value { (sites.now ≡ alloc_sites image.words.now) × (a.0 < length sites.now) }
+    ensures { (result.0 ≡ base image.entry.words.now (alloc_at image.entry.words.now a.0)) × (result.0 < locals image.entry.words.now) }
 {
     let site = site_of(sites, a);
-    base_ptr(words, site.op)
+    base_ptr(image, site.op)
 }
 
 // Rule 12: two of these allocations have one base local.
-pub fn rule_12(words: &[u32], sites: &[u32]) -> bool
-    requires well_formed { WellFormed words.now }
-    requires sites_value { (sites.now ≡ alloc_sites words.now) × (length sites.now ≤ 512) }
-    ensures { result ≡ rule12 words.now }
+pub fn rule_12(image: Image, sites: &[u32]) -> bool
+    requires sites_value { (sites.now ≡ alloc_sites image.words.now) × (length sites.now ≤ 512) }
+    ensures { result ≡ rule12 image.entry.words.now }
 {
     let mut bases = [0u64; 8];
     for a in 0..sites.len() {
-        let base = base_of(words, sites, AllocId(a as u32));
+        let base = base_of(image, sites, AllocId(a as u32));
         if !row_add(&mut bases, 0, base.0) {
             return true;
         }
@@ -110,13 +111,12 @@ pub fn rule_12(words: &[u32], sites: &[u32]) -> bool
 }
 
 // At first each base is owned by its own allocation.
-fn own_bases(words: &[u32], sites: &[u32], owners: &mut [u32])
-    requires well_formed { WellFormed words.now }
-    requires sites_value { (sites.now ≡ alloc_sites words.now) × (length sites.now ≤ 512) × (owners.old ≡ replicate 512 0) }
-    ensures { ((v : ℕ) → v < locals words.now → get_or owners.new v 0 ≡ get_or (bases words.now) v 0) × ((v : ℕ) → get_or owners.new v 0 ≤ length (allocs words.now)) × (length owners.new ≡ 512) }
+fn own_bases(image: Image, sites: &[u32], owners: &mut [u32])
+    requires sites_value { (sites.now ≡ alloc_sites image.words.now) × (length sites.now ≤ 512) × (owners.old ≡ replicate 512 0) }
+    ensures { ((v : ℕ) → v < locals image.entry.words.now → get_or owners.new v 0 ≡ get_or (bases image.entry.words.now) v 0) × ((v : ℕ) → get_or owners.new v 0 ≤ length (allocs image.entry.words.now)) × (length owners.new ≡ 512) }
 {
     for a in 0..sites.len() {
-        let base = base_of(words, sites, AllocId(a as u32));
+        let base = base_of(image, sites, AllocId(a as u32));
         owners[base.0 as usize] = a as u32 + 1;
     }
 }
@@ -151,7 +151,7 @@ pub enum Found {
 }
 
 // A local comes to allocation a, whose number replaces the old owner: tells what was found there.
-fn link_local_to_alloc(pointers: &mut [u32], local: LocalId, a: AllocId) -> Found
+fn link_local_to_alloc(pointers: &mut [u32; POINTERS], local: LocalId, a: AllocId) -> Found
     requires pointer_room { PointerRoom pointers.old }
     requires local_bound { (local.0 < 512) × (a.0 < 512) }
     ensures value { result ≡ found a.0 (get_or (owners_in pointers.old) local.0 0) }
@@ -167,8 +167,8 @@ fn link_local_to_alloc(pointers: &mut [u32], local: LocalId, a: AllocId) -> Foun
 }
 
 // Puts a local on the work list.
-fn push_local(pointers: &mut [u32], local: LocalId)
-    requires { (length pointers.old ≡ 2051) × (left_in pointers.old < 513) }
+fn push_local(pointers: &mut [u32; POINTERS], local: LocalId)
+    requires { left_in pointers.old < 513 }
     ensures { pointers.new ≡ set (set pointers.old (1538 + left_in pointers.old) local.0) 1 (left_in pointers.old + 1) }
 {
     let n = pointers[LEFT];
@@ -177,8 +177,8 @@ fn push_local(pointers: &mut [u32], local: LocalId)
 }
 
 // Sets a flag of allocation a.
-fn set_flag(pointers: &mut [u32], a: AllocId, flag: Flag)
-    requires { (length pointers.old ≡ 2051) × (a.0 < 512) }
+fn set_flag(pointers: &mut [u32; POINTERS], a: AllocId, flag: Flag)
+    requires { a.0 < 512 }
     ensures { pointers.new ≡ set pointers.old (1026 + a.0) (bit_or (get_or pointers.old (1026 + a.0) 0) (bit_of flag)) }
 {
     let at = FLAGS + a.0 as usize;
@@ -187,7 +187,7 @@ fn set_flag(pointers: &mut [u32], a: AllocId, flag: Flag)
 
 // Links a local to allocation a, and acts on what that tells: where the allocation was first there the local goes on the work list, and
 // where it met another both are flagged.
-fn reach_local(pointers: &mut [u32], local: LocalId, a: AllocId)
+fn reach_local(pointers: &mut [u32; POINTERS], local: LocalId, a: AllocId)
     requires pointer_room { PointerRoom pointers.old }
     requires local_bound { (local.0 < 512) × (a.0 < 512) }
     ensures { PointerStep (local.0 ∷ []) a.0 (link_all a.0 (local.0 ∷ [])) pointers.old pointers.new }
@@ -205,7 +205,7 @@ fn reach_local(pointers: &mut [u32], local: LocalId, a: AllocId)
 }
 
 // Flags allocation a by each cause for which a local is used.
-fn flag_uses(causes: &[u64], pointers: &mut [u32], local: LocalId, a: AllocId)
+fn flag_uses(causes: &[u64], pointers: &mut [u32; POINTERS], local: LocalId, a: AllocId)
     requires causes_len { (length causes.now ≡ 16) × PointerRoom pointers.old }
     requires local_bound { (local.0 < 512) × (a.0 < 512) }
     ensures { PointerStep [] a.0 (follow_local [] (used_in causes.now local.0) a.0) pointers.old pointers.new }
@@ -219,7 +219,13 @@ fn flag_uses(causes: &[u64], pointers: &mut [u32], local: LocalId, a: AllocId)
 }
 
 // Follows a local that allocation a was first to reach: links all that it carries on, and flags the allocation by its uses.
-fn follow_local(links: &[u64], causes: &[u64], pointers: &mut [u32], local: LocalId, a: AllocId)
+fn follow_local(
+    links: &[u64],
+    causes: &[u64],
+    pointers: &mut [u32; POINTERS],
+    local: LocalId,
+    a: AllocId,
+)
     requires links_len { (length links.now ≡ 4096) × (length causes.now ≡ 16) }
     requires pointer_room { PointerRoom pointers.old }
     requires local_bound { (local.0 < 512) × (a.0 < 512) }
@@ -237,7 +243,7 @@ fn follow_local(links: &[u64], causes: &[u64], pointers: &mut [u32], local: Loca
 fn propagate_pointers_and_mark_escapes(
     links: &[u64],
     causes: &[u64],
-    pointers: &mut [u32],
+    pointers: &mut [u32; POINTERS],
     base: LocalId,
     a: AllocId,
 )
@@ -257,7 +263,7 @@ fn propagate_pointers_and_mark_escapes(
 }
 
 // The sites of the allocations, to their part of the table.
-fn store_sites(sites: &[u32], pointers: &mut [u32])
+fn store_sites(sites: &[u32], pointers: &mut [u32; POINTERS])
     requires { (length sites.now ≤ 512) × (pointers.old ≡ replicate 2051 0) }
     ensures { SitesStored sites.now pointers.new }
 {
@@ -267,21 +273,21 @@ fn store_sites(sites: &[u32], pointers: &mut [u32])
 
 // Owners and flags: at first each base is owned by its own allocation, then allocations are followed in turn.
 pub fn discover_allocations(
-    words: &[u32],
+    image: Image,
     sites: &[u32],
     links: &[u64],
     causes: &[u64],
-    pointers: &mut [u32],
+    pointers: &mut [u32; POINTERS],
 )
-    requires accepted_stage { AcceptedStage words.now sites.now }
-    requires pointer_rows { PointerRows words.now links.now causes.now × (pointers.old ≡ replicate 2051 0) }
-    ensures { PointerStage words.now pointers.new }
+    requires accepted_stage { AcceptedStage image.words.now sites.now }
+    requires pointer_rows { PointerRows image.words.now links.now causes.now × (pointers.old ≡ replicate 2051 0) }
+    ensures { PointerStage image.entry.words.now pointers.new }
 {
     store_sites(sites, pointers);
-    own_bases(words, sites, &mut pointers[OWNERS..FLAGS]);
+    own_bases(image, sites, &mut pointers[OWNERS..FLAGS]);
     for i in 0..sites.len() {
         let a = AllocId(i as u32);
-        let base = base_of(words, sites, a);
+        let base = base_of(image, sites, a);
         propagate_pointers_and_mark_escapes(links, causes, pointers, base, a);
     }
 }

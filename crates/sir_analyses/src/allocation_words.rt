@@ -1,9 +1,8 @@
 // The first nine words of an allocation's record.
-ghost use Rattle.std.specs.Prelude.{◌≡◌, true, not, ◌≤◌, ◌<◌, length, eqb};
+ghost use Rattle.std.specs.Prelude.{◌≡◌, true, not, ◌<◌, eqb};
 ghost use Rattle.plank_core.specs.Lists.{one_if};
 ghost use Rattle.sir_data.specs.Records.{operations, code};
 ghost use Rattle.sir_data.specs.Codes.{is_alloc};
-ghost use Rattle.sir_data.specs.inner.WellFormed.{WellFormed};
 ghost use Rattle.sir_analyses.specs.inner.Discovery.{head_words};
 ghost use Rattle.sir_analyses.specs.Kinds.{kind_of, kind_words};
 ghost use Rattle.sir_analyses.specs.inner.Writing.{Puts};
@@ -12,7 +11,7 @@ use crate::allocation_liveness::{AllocSite, base_ptr};
 use crate::answers::put_words;
 use plank_core::index::{LocalId, OpIdx};
 use sir_data::codes::is_dynamic_alloc;
-use sir_data::records::{op_inputs, op_word};
+use sir_data::well_formed::Image;
 
 // How an allocation gets its size: given, with a static id, or by a local.
 #[derive(Clone, Copy)]
@@ -22,16 +21,15 @@ pub enum AllocKind {
 }
 
 // The kind of an allocation operation.
-pub fn alloc_kind(words: &[u32], o: OpIdx) -> AllocKind
-    requires well_formed { WellFormed words.now }
-    requires o_bound { (o.0 < operations words.now) × (is_alloc (code words.now o.0) ≡ true) }
-    ensures { result ≡ kind_of words.now o.0 }
+pub fn alloc_kind(image: Image, o: OpIdx) -> AllocKind
+    requires o_bound { (o.0 < operations image.words.now) × (is_alloc (code image.words.now o.0) ≡ true) }
+    ensures { result ≡ kind_of image.entry.words.now o.0 }
 {
-    if is_dynamic_alloc(op_word(words, o, 0)) {
-        let inputs = op_inputs(words, o);
+    if is_dynamic_alloc(image.op_word(o, 0)) {
+        let inputs = image.op_inputs(o);
         AllocKind::Dynamic(LocalId(inputs[0]))
     } else {
-        AllocKind::Static(op_word(words, o, 5), op_word(words, o, 6))
+        AllocKind::Static(image.op_word(o, 5), image.op_word(o, 6))
     }
 }
 
@@ -52,32 +50,23 @@ fn mark_of(flags: u32) -> u32
     u32::from(flags != 0)
 }
 
-// The first nine words of an allocation's record.
-#[derive(Clone, Copy)]
-pub struct AllocHead {
-    pub words: [u32; 9],
-}
-
-pub fn alloc_head(words: &[u32], site: AllocSite, flags: u32, count: u32) -> AllocHead
-    requires well_formed { WellFormed words.now }
-    requires op_bound { (site.op.0 < operations words.now) × (is_alloc (code words.now site.op.0) ≡ true) }
-    ensures { result.words ≡ head_words words.now site.block.0 site.op.0 flags count }
+pub fn alloc_head(image: Image, site: AllocSite, flags: u32, count: u32) -> [u32; 9]
+    requires op_bound { (site.op.0 < operations image.words.now) × (is_alloc (code image.words.now site.op.0) ≡ true) }
+    ensures { result ≡ head_words image.entry.words.now site.block.0 site.op.0 flags count }
 {
     let b = site.block;
     let o = site.op;
-    let base = base_ptr(words, o);
-    let [kind, size, id] = kind_words(alloc_kind(words, o));
+    let base = base_ptr(image, o);
+    let [kind, size, id] = kind_words(alloc_kind(image, o));
     let mark = mark_of(flags);
-    let head = [b.0, o.0, base.0, kind, size, id, mark, flags, count];
-    AllocHead { words: head }
+    [b.0, o.0, base.0, kind, size, id, mark, flags, count]
 }
 
 // The same, put at the front of an answer.
-pub fn put_head(words: &[u32], site: AllocSite, flags: u32, count: u32, out: &mut [u8]) -> usize
-    requires well_formed { WellFormed words.now }
-    requires op_bound { (site.op.0 < operations words.now) × (is_alloc (code words.now site.op.0) ≡ true) }
-    ensures { Puts 0 (head_words words.now site.block.0 site.op.0 flags count) out.old out.new result }
+pub fn put_head(image: Image, site: AllocSite, flags: u32, count: u32, out: &mut [u8]) -> usize
+    requires op_bound { (site.op.0 < operations image.words.now) × (is_alloc (code image.words.now site.op.0) ≡ true) }
+    ensures { Puts 0 (head_words image.entry.words.now site.block.0 site.op.0 flags count) out.old out.new result }
 {
-    let head = alloc_head(words, site, flags, count);
-    put_words(out, 0, &head.words)
+    let head = alloc_head(image, site, flags, count);
+    put_words(out, 0, &head)
 }

@@ -2,18 +2,16 @@
 // condition, its outputs. How often each operation reads the local is counted once, since operations may lie in many blocks.
 ghost use Rattle.std.specs.Prelude.{◌≡◌, ◌+◌, ◌*◌, ◌<◌, ◌≤◌, ◌^◌, length};
 ghost use Rattle.plank_core.specs.Lists.{mem};
-ghost use Rattle.sir_data.specs.Records.{blocks, condition};
-ghost use Rattle.sir_data.specs.inner.WellFormed.{WellFormed};
+ghost use Rattle.sir_data.specs.Records.{condition};
 ghost use Rattle.sir_analyses.specs.Liveness.{positions};
 ghost use Rattle.sir_analyses.specs.inner.Uses.{InputCounts, repeated_uses, operation_uses, condition_uses, output_uses, block_uses, uses_of};
 ghost use Rattle.sir_analyses.specs.inner.Writing.{Puts};
-ghost use Rattle.sir_analyses.specs.inner.Stages.{VisitStage};
 
 use crate::answers::put_triple;
-use crate::stages::rpo;
+use crate::staged::Visited;
 use plank_core::index::{BlockId, LocalId, OpIdx};
-use sir_data::records::{op_inputs, operation_count};
-use sir_data::view::{condition, operations, outputs};
+use sir_data::view::BlockView;
+use sir_data::well_formed::Image;
 
 // How a block uses a local, as the numbers of the answer say it.
 #[derive(Clone, Copy)]
@@ -32,14 +30,13 @@ fn count_local(run: &[u32], local: LocalId) -> u32
 }
 
 // How often each operation reads a local.
-pub fn input_counts(words: &[u32], local: LocalId, counts: &mut [u32])
-    requires well_formed { WellFormed words.now }
+pub fn input_counts(image: Image, local: LocalId, counts: &mut [u32])
     requires counts_len { length counts.old ≡ 1024 }
-    ensures { InputCounts words.now local.0 counts.new }
+    ensures { InputCounts image.entry.words.now local.0 counts.new }
 {
-    let last = operation_count(words);
+    let last = image.operation_count();
     for o in 0..last {
-        counts[o as usize] = count_local(op_inputs(words, OpIdx(o)), local);
+        counts[o as usize] = count_local(image.op_inputs(OpIdx(o)), local);
     }
 }
 
@@ -59,93 +56,75 @@ fn put_repeated(out: &mut [u8], n: usize, b: BlockId, o: OpIdx, times: u32) -> u
 }
 
 // The uses by a block's operations.
-fn put_operation_uses(words: &[u32], counts: &[u32], b: BlockId, n: usize, out: &mut [u8]) -> usize
-    requires well_formed { WellFormed words.now }
-    requires b_bound { (b.0 < blocks words.now) × (length counts.now ≡ 1024) }
-    requires b_bound_2 { n + length (operation_uses words.now counts.now b.0) < 2 ^ 59 }
-    ensures { Puts n (operation_uses words.now counts.now b.0) out.old out.new result }
+fn put_operation_uses(b: BlockView, counts: &[u32], n: usize, out: &mut [u8]) -> usize
+    requires counts_len { length counts.now ≡ 1024 }
+    requires b_bound_2 { n + length (operation_uses b.image.words.now counts.now b.id.0) < 2 ^ 59 }
+    ensures { Puts n (operation_uses b.entry.image.words.now counts.now b.entry.id.0) out.old out.new result }
 {
-    let span = operations(words, b);
+    let span = b.operations();
     let mut m = n;
     for o in span.start..span.end {
-        m = put_repeated(out, m, b, OpIdx(o), counts[o as usize]);
+        m = put_repeated(out, m, b.id, OpIdx(o), counts[o as usize]);
     }
     m
 }
 
 // Whether a local is the condition of a block's branch or switch.
-fn is_condition(words: &[u32], b: BlockId, local: LocalId) -> bool
-    requires well_formed { WellFormed words.now }
-    requires b_bound { b.0 < blocks words.now }
-    ensures { result ≡ mem local.0 (condition words.now b.0) }
+fn is_condition(b: BlockView, local: LocalId) -> bool
+    ensures { result ≡ mem local.0 (condition b.entry.image.words.now b.entry.id.0) }
 {
-    condition(words, b) == Some(local)
+    b.condition() == Some(local)
 }
 
 // The use as a block's condition.
-fn put_condition_use(words: &[u32], b: BlockId, local: LocalId, n: usize, out: &mut [u8]) -> usize
-    requires well_formed { WellFormed words.now }
-    requires b_bound { b.0 < blocks words.now }
+fn put_condition_use(b: BlockView, local: LocalId, n: usize, out: &mut [u8]) -> usize
     requires n_bound { n + 3 < 2 ^ 59 }
-    ensures { Puts n (condition_uses words.now local.0 b.0) out.old out.new result }
+    ensures { Puts n (condition_uses b.entry.image.words.now local.0 b.entry.id.0) out.old out.new result }
 {
-    if is_condition(words, b, local) {
-        return put_triple(out, n, b.0, UseKind::Condition as u32, 0);
+    if is_condition(b, local) {
+        return put_triple(out, n, b.id.0, UseKind::Condition as u32, 0);
     }
     n
 }
 
 // The uses among a block's outputs.
-fn put_output_uses(words: &[u32], b: BlockId, local: LocalId, n: usize, out: &mut [u8]) -> usize
-    requires well_formed { WellFormed words.now }
-    requires b_bound { b.0 < blocks words.now }
-    requires b_bound_2 { n + length (output_uses words.now local.0 b.0) < 2 ^ 59 }
-    ensures { Puts n (output_uses words.now local.0 b.0) out.old out.new result }
+fn put_output_uses(b: BlockView, local: LocalId, n: usize, out: &mut [u8]) -> usize
+    requires b_bound_2 { n + length (output_uses b.image.words.now local.0 b.id.0) < 2 ^ 59 }
+    ensures { Puts n (output_uses b.entry.image.words.now local.0 b.entry.id.0) out.old out.new result }
 {
-    let run = outputs(words, b);
+    let run = b.outputs();
     let mut m = n;
     for (k, v) in run.iter().enumerate() {
         if *v == local.0 {
-            m = put_triple(out, m, b.0, UseKind::Output as u32, k as u32);
+            m = put_triple(out, m, b.id.0, UseKind::Output as u32, k as u32);
         }
     }
     m
 }
 
 // All uses in a block.
-fn put_block_uses(
-    words: &[u32],
-    counts: &[u32],
-    b: BlockId,
-    local: LocalId,
-    n: usize,
-    out: &mut [u8],
-) -> usize
-    requires well_formed { WellFormed words.now }
-    requires b_bound { (b.0 < blocks words.now) × (length counts.now ≡ 1024) }
-    requires b_bound_2 { n + 3 + length (block_uses words.now counts.now local.0 b.0) < 2 ^ 59 }
-    ensures { Puts n (block_uses words.now counts.now local.0 b.0) out.old out.new result }
+fn put_block_uses(b: BlockView, counts: &[u32], local: LocalId, n: usize, out: &mut [u8]) -> usize
+    requires counts_len { length counts.now ≡ 1024 }
+    requires b_bound_2 { n + 3 + length (block_uses b.image.words.now counts.now local.0 b.id.0) < 2 ^ 59 }
+    ensures { Puts n (block_uses b.entry.image.words.now counts.now local.0 b.entry.id.0) out.old out.new result }
 {
-    let m = put_operation_uses(words, counts, b, n, out);
-    let k = put_condition_use(words, b, local, m, out);
-    put_output_uses(words, b, local, k, out)
+    let m = put_operation_uses(b, counts, n, out);
+    let k = put_condition_use(b, local, m, out);
+    put_output_uses(b, local, k, out)
 }
 
 // The uses of a local, from how often each operation reads it; how many words they take.
-pub fn put_uses(
-    words: &[u32],
-    visit: &[u32],
-    counts: &[u32],
-    local: LocalId,
-    out: &mut [u8],
-) -> usize
-    requires visit_stage { VisitStage words.now visit.now }
-    requires counts_len { (length counts.now ≡ 1024) × (3 + length (uses_of words.now counts.now local.0) < 2 ^ 59) }
-    ensures { Puts 0 (uses_of words.now counts.now local.0) out.old out.new result }
+pub fn put_uses(visited: Visited, counts: &[u32], local: LocalId, out: &mut [u8]) -> usize
+    requires counts_len { (length counts.now ≡ 1024) × (3 + length (uses_of visited.image.words.now counts.now local.0) < 2 ^ 59) }
+    ensures { Puts 0 (uses_of visited.entry.image.words.now counts.now local.0) out.old out.new result }
 {
     let mut m: usize = 0;
-    for b in rpo(visit) {
-        m = put_block_uses(words, counts, BlockId(*b), local, m, out);
+    for b in visited.rpo() {
+        let block = BlockView {
+            image: visited.image,
+            id: BlockId(*b),
+        };
+        m = put_block_uses(block, counts, local, m, out);
     }
     m
 }

@@ -14,4 +14,5 @@ pub mod merged_intervals;
 pub mod pointer_links;
 pub mod predecessors;
 pub mod reverse_post_order;
+pub mod staged;
 pub mod stages;

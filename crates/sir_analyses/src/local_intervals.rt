@@ -7,14 +7,14 @@ ghost use Rattle.sir_data.specs.Records.{blocks, locals};
 ghost use Rattle.sir_analyses.specs.Liveness.{end_open};
 ghost use Rattle.sir_analyses.specs.Answers.{interval_words, intervals_answer};
 ghost use Rattle.sir_analyses.specs.inner.Writing.{Puts};
-ghost use Rattle.sir_analyses.specs.inner.Stages.{VisitStage, LivenessStage, reads_in, writes_in, ends_in, exits_in};
+ghost use Rattle.sir_analyses.specs.inner.Stages.{reads_in, writes_in, ends_in, exits_in};
 ghost use Rattle.sir_analyses.specs.inner.Scanning.{end_of, ending, scan_words};
 
 use crate::answers::put_words;
-use crate::stages::{ends, exits, reads, rpo, writes};
+use crate::staged::{Analysed, LiveSets};
+use crate::stages::{LIVE, ends, exits, reads, writes};
 use plank_core::index::{BlockId, LocalId, OpIdx};
 use plank_core::rows::row_contains;
-use sir_data::records::block_operations;
 
 // The end of an interval that runs to the end of its block.
 pub const BLOCK_END: u32 = 4294967295;
@@ -30,8 +30,8 @@ pub struct Scanned {
 }
 
 // Opens an end at an operation that reads v, where none is open.
-fn opened(live: &[u64], v: LocalId, o: OpIdx, till: Option<u32>) -> Option<u32>
-    requires { (length live.now ≡ 24576) × (v.0 < 512) × (o.0 < 1024) }
+fn opened(live: &[u64; LIVE], v: LocalId, o: OpIdx, till: Option<u32>) -> Option<u32>
+    requires { (v.0 < 512) × (o.0 < 1024) }
     ensures { result ≡ option_or till (then_some (contains (reads_in live.now) (512 * o.0 + v.0)) (o.0 + 1)) }
 {
     if till.is_some() {
@@ -41,8 +41,8 @@ fn opened(live: &[u64], v: LocalId, o: OpIdx, till: Option<u32>) -> Option<u32>
 }
 
 // One operation: where it defines v it closes what is open, and where it reads v and nothing is open it opens an end.
-fn scan_op(live: &[u64], v: LocalId, o: OpIdx, till: Option<u32>) -> Scanned
-    requires { (length live.now ≡ 24576) × (v.0 < 512) × (o.0 < 1024) }
+fn scan_op(live: &[u64; LIVE], v: LocalId, o: OpIdx, till: Option<u32>) -> Scanned
+    requires { (v.0 < 512) × (o.0 < 1024) }
     ensures till_value { result.till ≡ option_or (cond (contains (writes_in live.now) (512 * o.0 + v.0)) None till) (then_some (contains (reads_in live.now) (512 * o.0 + v.0)) (o.0 + 1)) }
     ensures closed_value { result.closed ≡ cond (contains (writes_in live.now) (512 * o.0 + v.0)) till None }
 {
@@ -59,8 +59,8 @@ fn scan_op(live: &[u64], v: LocalId, o: OpIdx, till: Option<u32>) -> Scanned
 }
 
 // The end that is open after a block's operations: the block's, where v is live there or read there.
-pub fn open_end(live: &[u64], b: BlockId, v: LocalId) -> Option<u32>
-    requires { (length live.now ≡ 24576) × (b.0 < 256) × (v.0 < 512) }
+pub fn open_end(live: &[u64; LIVE], b: BlockId, v: LocalId) -> Option<u32>
+    requires { (b.0 < 256) × (v.0 < 512) }
     ensures { result ≡ end_of (end_open (contains (exits_in live.now) (512 * b.0 + v.0) || contains (ends_in live.now) (512 * b.0 + v.0))) }
 {
     let row = b.0 as usize;
@@ -86,22 +86,20 @@ fn put_interval(out: &mut [u32], n: usize, b: BlockId, from: u32, to: Option<u32
 
 // The intervals of v in block b from an open end on, three words each, to the front of `run`: how many words.
 pub fn block_intervals(
-    words: &[u32],
-    live: &[u64],
+    sets: LiveSets,
     b: BlockId,
     v: LocalId,
     end: Option<u32>,
     run: &mut [u32],
 ) -> usize
-    requires liveness_stage { LivenessStage words.now live.now }
-    requires b_bound { (b.0 < blocks words.now) × (v.0 < 512) × (length run.old ≡ 3075) }
-    ensures { (result ≤ 3075) × ((e : ℕ) → end ≡ end_of e → (result ≡ length (scan_words words.now b.0 v.0 e)) × (take result run.new ≡ scan_words words.now b.0 v.0 e)) }
+    requires b_bound { (b.0 < blocks sets.image.words.now) × (v.0 < 512) × (length run.old ≡ 3075) }
+    ensures { (result ≤ 3075) × ((e : ℕ) → end ≡ end_of e → (result ≡ length (scan_words sets.entry.image.words.now b.0 v.0 e)) × (take result run.new ≡ scan_words sets.entry.image.words.now b.0 v.0 e)) }
 {
-    let span = block_operations(words, b);
+    let span = sets.image.operations(b);
     let mut till = end;
     let mut n: usize = 0;
     for o in (span.start..span.end).rev() {
-        let s = scan_op(live, v, OpIdx(o), till);
+        let s = scan_op(sets.live, v, OpIdx(o), till);
         n = put_interval(run, n, b, o + 1, s.closed);
         till = s.till;
     }
@@ -109,25 +107,17 @@ pub fn block_intervals(
 }
 
 // The intervals of v in the blocks of the order; how many words they take.
-pub fn compute_intervals(
-    words: &[u32],
-    visit: &[u32],
-    live: &[u64],
-    v: LocalId,
-    out: &mut [u8],
-) -> usize
-    requires visit_stage { VisitStage words.now visit.now }
-    requires liveness_stage { LivenessStage words.now live.now }
-    requires v_bound { v.0 < locals words.now }
-    ensures { (result ≤ 787200) × Puts 0 (intervals_answer words.now v.0) out.old out.new result }
+pub fn compute_intervals(analysed: Analysed, v: LocalId, out: &mut [u8]) -> usize
+    requires v_bound { v.0 < locals analysed.image.words.now }
+    ensures { (result ≤ 787200) × Puts 0 (intervals_answer analysed.entry.image.words.now v.0) out.old out.new result }
 {
-    let order = rpo(visit);
+    let order = analysed.visited().rpo();
     let mut run = [0u32; RUN];
     let mut m: usize = 0;
     for &id in order {
         let b = BlockId(id);
-        let end = open_end(live, b, v);
-        let n = block_intervals(words, live, b, v, end, &mut run);
+        let end = open_end(analysed.live, b, v);
+        let n = block_intervals(analysed.live_sets(), b, v, end, &mut run);
         m = put_words(out, m, &run[..n]);
     }
     m

@@ -7,7 +7,7 @@ ghost use Rattle.plank_core.specs.inner.DenseIndexSet.{contains, meets};
 ghost use Rattle.sir_data.specs.Records.{blocks, locals};
 ghost use Rattle.sir_analyses.specs.Liveness.{Set, end_open};
 ghost use Rattle.sir_analyses.specs.Answers.{interval_words};
-ghost use Rattle.sir_analyses.specs.inner.Stages.{VisitStage, LivenessStage, reads_in, writes_in, ends_in, exits_in};
+ghost use Rattle.sir_analyses.specs.inner.Stages.{reads_in, writes_in, ends_in, exits_in};
 ghost use Rattle.sir_analyses.specs.inner.Writing.{Puts};
 ghost use Rattle.sir_analyses.specs.inner.Tables.{Same};
 ghost use Rattle.sir_analyses.specs.inner.Scanning.{end_of, ending};
@@ -15,11 +15,11 @@ ghost use Rattle.sir_analyses.specs.inner.Sweep.{sweep_block, sweep_from};
 
 use crate::answers::put_words;
 use crate::local_intervals::{BLOCK_END, RUN, Scanned};
-use crate::stages::{ends, exits, is_visited, reads, writes};
+use crate::staged::Analysed;
+use crate::stages::{LIVE, ends, exits, reads, writes};
 use plank_core::dense_index_set::intersects;
 use plank_core::index::{BlockId, OpIdx};
 use plank_core::rows::{row_difference_with, row_of, row_union_with};
-use sir_data::records::{block_count, block_operations};
 
 // One operation is passed: where a local is live before it an end is open, and where none is the open one is closed.
 fn pass_op(live: bool, o: OpIdx, till: Option<u32>) -> Scanned
@@ -54,8 +54,8 @@ fn put_interval_before(run: &mut [u32], n: usize, b: BlockId, from: u32, to: Opt
 }
 
 // The locals that are live after the operations of block b, to an empty set: those live at its exit, and those read there.
-pub fn live_after(live: &[u64], b: BlockId, set: &mut [u64])
-    requires { (length live.now ≡ 24576) × (b.0 < 256) × (set.old ≡ replicate 8 0) }
+pub fn live_after(live: &[u64; LIVE], b: BlockId, set: &mut [u64])
+    requires { (b.0 < 256) × (set.old ≡ replicate 8 0) }
     ensures { (v : ℕ) → v < 512 → contains set.new v ≡ (contains (exits_in live.now) (512 * b.0 + v) || contains (ends_in live.now) (512 * b.0 + v)) }
 {
     let row = b.0 as usize;
@@ -64,8 +64,8 @@ pub fn live_after(live: &[u64], b: BlockId, set: &mut [u64])
 }
 
 // The locals that are live before operation o, from those live after it.
-pub fn live_before(live: &[u64], o: OpIdx, set: &mut [u64])
-    requires { (length live.now ≡ 24576) × (o.0 < 1024) × (length set.old ≡ 8) }
+pub fn live_before(live: &[u64; LIVE], o: OpIdx, set: &mut [u64])
+    requires { (o.0 < 1024) × (length set.old ≡ 8) }
     ensures { (v : ℕ) → v < 512 → contains set.new v ≡ ((contains set.old v && not (contains (writes_in live.now) (512 * o.0 + v))) || contains (reads_in live.now) (512 * o.0 + v)) }
 {
     let row = o.0 as usize;
@@ -83,18 +83,17 @@ fn end_after<'a>(reach: &'a [u64], live: &'a [u64]) -> Option<u32>
 
 // The merged intervals of the reach in one block, three words each, to the end of `run`: where they begin. The source's function of
 // this name sorts and joins a list; this one finds them joined, operation by operation.
-fn merge_intervals(words: &[u32], live: &[u64], reach: &[u64], b: BlockId, run: &mut [u32]) -> usize
-    requires liveness_stage { LivenessStage words.now live.now }
-    requires b_bound { (b.0 < blocks words.now) × (length reach.now ≡ 8) × (length run.old ≡ 3075) }
-    ensures { (result ≤ 3075) × ((s : Set) → length s ≡ locals words.now → Same reach.now s → drop result run.new ≡ interval_words (sweep_block words.now s b.0 [])) }
+fn merge_intervals(analysed: Analysed, reach: &[u64], b: BlockId, run: &mut [u32]) -> usize
+    requires b_bound { (b.0 < blocks analysed.image.words.now) × (length reach.now ≡ 8) × (length run.old ≡ 3075) }
+    ensures { (result ≤ 3075) × ((s : Set) → length s ≡ locals analysed.entry.image.words.now → Same reach.now s → drop result run.new ≡ interval_words (sweep_block analysed.entry.image.words.now s b.0 [])) }
 {
     let mut set = [0u64; 8];
-    live_after(live, b, &mut set);
-    let span = block_operations(words, b);
+    live_after(analysed.live, b, &mut set);
+    let span = analysed.image.operations(b);
     let mut till = end_after(reach, &set);
     let mut n: usize = RUN;
     for o in (span.start..span.end).rev() {
-        live_before(live, OpIdx(o), &mut set);
+        live_before(analysed.live, OpIdx(o), &mut set);
         let p = pass_op(intersects(reach, &set), OpIdx(o), till);
         n = put_interval_before(run, n, b, o + 1, p.closed);
         till = p.till;
@@ -104,24 +103,20 @@ fn merge_intervals(words: &[u32], live: &[u64], reach: &[u64], b: BlockId, run: 
 
 // The intervals of the visited blocks, by id, after the first n words of an answer: the next number.
 pub fn populate_intervals_from_local_liveness(
-    words: &[u32],
-    visit: &[u32],
-    live: &[u64],
+    analysed: Analysed,
     reach: &[u64],
     n: usize,
     out: &mut [u8],
 ) -> usize
-    requires visit_stage { VisitStage words.now visit.now }
-    requires liveness_stage { LivenessStage words.now live.now }
     requires reach_len { (length reach.now ≡ 8) × (n ≤ 9) }
-    ensures { (result ≤ n + 787200) × ((s : Set) → length s ≡ locals words.now → Same reach.now s → Puts n (interval_words (sweep_from words.now s (upto (blocks words.now)))) out.old out.new result) }
+    ensures { (result ≤ n + 787200) × ((s : Set) → length s ≡ locals analysed.entry.image.words.now → Same reach.now s → Puts n (interval_words (sweep_from analysed.entry.image.words.now s (upto (blocks analysed.entry.image.words.now)))) out.old out.new result) }
 {
-    let count = block_count(words);
+    let count = analysed.image.block_count();
     let mut run = [0u32; RUN];
     let mut m = n;
     for b in 0..count {
-        if is_visited(visit, BlockId(b)) {
-            let from = merge_intervals(words, live, reach, BlockId(b), &mut run);
+        if analysed.visited().is_visited(BlockId(b)) {
+            let from = merge_intervals(analysed, reach, BlockId(b), &mut run);
             m = put_words(out, m, &run[from..]);
         }
     }

@@ -1,44 +1,41 @@
 // Predecessors of a block: visited blocks by id, each successor in turn, repeats kept.
 ghost use Rattle.std.specs.Prelude.{◌+◌, ◌<◌, ◌^◌, length};
-ghost use Rattle.sir_data.specs.Records.{blocks};
-ghost use Rattle.sir_data.specs.inner.WellFormed.{WellFormed};
 ghost use Rattle.sir_analyses.specs.Order.{edges_from, predecessors};
-ghost use Rattle.sir_analyses.specs.inner.Stages.{VisitStage};
 ghost use Rattle.sir_analyses.specs.inner.Writing.{Puts};
 
 use crate::answers::put_word;
-use crate::stages::is_visited;
+use crate::staged::Visited;
 use plank_core::index::BlockId;
-use sir_data::records::block_count;
-use sir_data::view::{successor, successor_count};
+use sir_data::view::BlockView;
 
 // Block p, once for each of its edges to b.
-fn put_edges(words: &[u32], p: BlockId, b: BlockId, n: usize, out: &mut [u8]) -> usize
-    requires well_formed { WellFormed words.now }
-    requires p_bound { p.0 < blocks words.now }
-    requires b_bound { n + length (edges_from words.now p.0 b.0) < 2 ^ 60 }
-    ensures { Puts n (edges_from words.now p.0 b.0) out.old out.new result }
+fn put_edges(p: BlockView, b: BlockId, n: usize, out: &mut [u8]) -> usize
+    requires b_bound { n + length (edges_from p.image.words.now p.id.0 b.0) < 2 ^ 60 }
+    ensures { Puts n (edges_from p.entry.image.words.now p.entry.id.0 b.0) out.old out.new result }
 {
-    let count = successor_count(words, p);
+    let count = p.successor_count();
     let mut m = n;
     for i in 0..count {
-        if successor(words, p, i) == b {
-            m = put_word(out, m, p.0);
+        if p.successor(i) == b {
+            m = put_word(out, m, p.id.0);
         }
     }
     m
 }
 
 // The predecessors of b; how many they are.
-pub fn put_predecessors(words: &[u32], visit: &[u32], b: BlockId, out: &mut [u8]) -> usize
-    requires { VisitStage words.now visit.now }
-    ensures { Puts 0 (predecessors words.now b.0) out.old out.new result }
+pub fn put_predecessors(visited: Visited, b: BlockId, out: &mut [u8]) -> usize
+    ensures { Puts 0 (predecessors visited.entry.image.words.now b.0) out.old out.new result }
 {
-    let count = block_count(words);
+    let count = visited.image.block_count();
     let mut m: usize = 0;
     for p in 0..count {
-        if is_visited(visit, BlockId(p)) {
-            m = put_edges(words, BlockId(p), b, m, out);
+        if visited.is_visited(BlockId(p)) {
+            let block = BlockView {
+                image: visited.image,
+                id: BlockId(p),
+            };
+            m = put_edges(block, b, m, out);
         }
     }
     m

@@ -4,7 +4,6 @@ ghost use Rattle.plank_core.specs.Lists.{bind, one_if};
 ghost use Rattle.plank_core.specs.inner.DenseIndexSet.{contains};
 ghost use Rattle.sir_data.specs.Records.{functions, blocks, operations, callees};
 ghost use Rattle.sir_data.specs.inner.Cases.{function_ids};
-ghost use Rattle.sir_data.specs.inner.WellFormed.{WellFormed};
 ghost use Rattle.sir_analyses.specs.Order.{visit_function, visit_block};
 ghost use Rattle.sir_analyses.specs.inner.Stages.{OrderStage, VisitStage};
 ghost use Rattle.sir_analyses.specs.inner.Visiting.{Held, VisitStep, VisitedAll, blocks_of, blocks_in, entry_of, order_in, function_of, Listed, EachListed};
@@ -12,10 +11,7 @@ ghost use Rattle.sir_analyses.specs.inner.Visiting.{Held, VisitStep, VisitedAll,
 use crate::stages::{RPO, VISIT, VISITED};
 use plank_core::index::{BlockId, FunctionId, OpIdx};
 use plank_core::rows::{row_add, row_contains};
-use sir_data::records::{
-    block_count, block_operations, entry_block, init_function, main_function, op_word, successor,
-    successor_count,
-};
+use sir_data::well_formed::Image;
 
 // The rows of a table of what was seen.
 const SEEN_FUNCTIONS: usize = 0;
@@ -23,13 +19,12 @@ const SEEN_FUNCTIONS: usize = 0;
 const SEEN_BLOCKS: usize = 1;
 
 // The function that an operation calls, if it calls one.
-fn callee(words: &[u32], o: OpIdx) -> Option<FunctionId>
-    requires well_formed { WellFormed words.now }
-    requires o_bound { o.0 < operations words.now }
-    ensures { function_ids result ≡ callees words.now o.0 }
+fn callee(image: Image, o: OpIdx) -> Option<FunctionId>
+    requires o_bound { o.0 < operations image.words.now }
+    ensures { function_ids result ≡ callees image.entry.words.now o.0 }
 {
-    if sir_data::codes::is_call(op_word(words, o, 0)) {
-        Some(FunctionId(op_word(words, o, 5)))
+    if sir_data::codes::is_call(image.op_word(o, 0)) {
+        Some(FunctionId(image.op_word(o, 5)))
     } else {
         None
     }
@@ -48,66 +43,63 @@ fn push(postorder: &mut [u32], n: usize, key: u32) -> usize
 // Visits a function that was not seen: its entry block, then the function is finished.
 #[cycle(visit_block_visit_function)]
 pub fn visit_function(
-    words: &[u32],
+    image: Image,
     f: FunctionId,
     seen: &mut [u64],
     postorder: &mut [u32],
     n: usize,
 ) -> usize
-    requires well_formed { WellFormed words.now }
-    requires f_bound { f.0 < functions words.now }
-    requires held { Held words.now seen.old postorder.old n }
-    ensures { VisitStep words.now (visit_function (functions words.now + blocks words.now) words.now f.0) seen.old postorder.old n seen.new postorder.new result }
+    requires f_bound { f.0 < functions image.words.now }
+    requires held { Held image.words.now seen.old postorder.old n }
+    ensures { VisitStep image.entry.words.now (visit_function (functions image.entry.words.now + blocks image.entry.words.now) image.entry.words.now f.0) seen.old postorder.old n seen.new postorder.new result }
 {
     if !row_add(seen, SEEN_FUNCTIONS, f.0) {
         return n;
     }
-    let m = visit_block(words, f, entry_block(words, f), seen, postorder, n);
+    let m = visit_block(image, f, image.entry_block(f), seen, postorder, n);
     push(postorder, m, f.0)
 }
 
 // Visits a block that was not seen, on behalf of f: what it calls, then its successors, then the block is finished.
 #[cycle(visit_block_visit_function)]
 pub fn visit_block(
-    words: &[u32],
+    image: Image,
     f: FunctionId,
     b: BlockId,
     seen: &mut [u64],
     postorder: &mut [u32],
     n: usize,
 ) -> usize
-    requires well_formed { WellFormed words.now }
-    requires f_bound { f.0 < functions words.now }
-    requires b_bound { b.0 < blocks words.now }
-    requires held { Held words.now seen.old postorder.old n }
-    ensures { VisitStep words.now (visit_block (functions words.now + blocks words.now) words.now f.0 b.0) seen.old postorder.old n seen.new postorder.new result }
+    requires f_bound { f.0 < functions image.words.now }
+    requires b_bound { b.0 < blocks image.words.now }
+    requires held { Held image.words.now seen.old postorder.old n }
+    ensures { VisitStep image.entry.words.now (visit_block (functions image.entry.words.now + blocks image.entry.words.now) image.entry.words.now f.0 b.0) seen.old postorder.old n seen.new postorder.new result }
 {
     if !row_add(seen, SEEN_BLOCKS, b.0) {
         return n;
     }
-    let span = block_operations(words, b);
+    let span = image.operations(b);
     let mut m = n;
     'calls: for o in span.start..span.end {
-        if let Some(g) = callee(words, OpIdx(o)) {
-            m = visit_function(words, g, seen, postorder, m);
+        if let Some(g) = callee(image, OpIdx(o)) {
+            m = visit_function(image, g, seen, postorder, m);
         }
     }
-    let count = successor_count(words, b);
+    let count = image.successor_count(b);
     'successors: for i in 0..count {
-        m = visit_block(words, f, successor(words, b, i), seen, postorder, m);
+        m = visit_block(image, f, image.successor(b, i), seen, postorder, m);
     }
     push(postorder, m, 256 * (f.0 + 1) + b.0)
 }
 
 // The whole visit: init, then main if any. How many keys are in `postorder`.
-pub fn visit(words: &[u32], seen: &mut [u64], postorder: &mut [u32]) -> usize
-    requires well_formed { WellFormed words.now }
+pub fn visit(image: Image, seen: &mut [u64], postorder: &mut [u32]) -> usize
     requires seen_value { (seen.old ≡ replicate 16 0) × (length postorder.old ≡ 320) }
-    ensures { VisitedAll words.now seen.new postorder.new result }
+    ensures { VisitedAll image.entry.words.now seen.new postorder.new result }
 {
-    let n = visit_function(words, init_function(words), seen, postorder, 0);
-    match main_function(words) {
-        Some(main) => visit_function(words, main, seen, postorder, n),
+    let n = visit_function(image, image.init_function(), seen, postorder, 0);
+    match image.main_function() {
+        Some(main) => visit_function(image, main, seen, postorder, n),
         None => n,
     }
 }
@@ -183,12 +175,11 @@ pub fn order_words(postorder: &[u32], out: &mut [u32]) -> usize
 }
 
 // For each block whether it was seen, to an array that is empty at first.
-fn flag_visited(words: &[u32], seen: &[u64], flags: &mut [u32])
-    requires well_formed { WellFormed words.now }
+fn flag_visited(image: Image, seen: &[u64], flags: &mut [u32])
     requires seen_len { (length seen.now ≡ 16) × (flags.old ≡ replicate 256 0) }
-    ensures { (length flags.new ≡ 256) × ((b : ℕ) → b < blocks words.now → get_or flags.new b 0 ≡ one_if (contains seen.now (512 + b))) }
+    ensures { (length flags.new ≡ 256) × ((b : ℕ) → b < blocks image.entry.words.now → get_or flags.new b 0 ≡ one_if (contains seen.now (512 + b))) }
 {
-    let count = block_count(words);
+    let count = image.block_count();
     for b in 0..count {
         if row_contains(seen, SEEN_BLOCKS, b) {
             flags[b as usize] = 1;
@@ -198,15 +189,14 @@ fn flag_visited(words: &[u32], seen: &[u64], flags: &mut [u32])
 
 // The visit, to an array that is empty at first: how many blocks, their ids in the order's sequence, and which were visited. The keys
 // of what is finished go to `postorder`: how many.
-pub fn compute_visit(words: &[u32], postorder: &mut [u32], table: &mut [u32]) -> usize
-    requires well_formed { WellFormed words.now }
+pub fn compute_visit(image: Image, postorder: &mut [u32], table: &mut [u32]) -> usize
     requires postorder_len { (length postorder.old ≡ 320) × (table.old ≡ replicate 513 0) }
-    ensures { (result ≤ length postorder.new) × OrderStage words.now (take result postorder.new) × VisitStage words.now table.new }
+    ensures { (result ≤ length postorder.new) × OrderStage image.entry.words.now (take result postorder.new) × VisitStage image.entry.words.now table.new }
 {
     let mut seen = [0u64; 16];
-    let finished = visit(words, &mut seen, postorder);
+    let finished = visit(image, &mut seen, postorder);
     let count = blocks_rpo(&postorder[..finished], &mut table[RPO..VISITED]);
-    flag_visited(words, &seen, &mut table[VISITED..VISIT]);
+    flag_visited(image, &seen, &mut table[VISITED..VISIT]);
     table[0] = count as u32;
     finished
 }

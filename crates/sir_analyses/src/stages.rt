@@ -18,8 +18,8 @@ pub const VISITED: usize = 257;
 pub const VISIT: usize = 513;
 
 // The blocks in the order's sequence.
-pub fn rpo(visit: &[u32]) -> &[u32]
-    requires { (length visit.now ≡ 513) × (get_or visit.now 0 0 ≤ 256) }
+pub fn rpo(visit: &[u32; VISIT]) -> &[u32]
+    requires { get_or visit.now 0 0 ≤ 256 }
     ensures { result.now ≡ rpo_in visit.now }
 {
     let end = visit[0] as usize + 1;
@@ -27,8 +27,8 @@ pub fn rpo(visit: &[u32]) -> &[u32]
 }
 
 // Whether block b was visited.
-pub fn is_visited(visit: &[u32], b: BlockId) -> bool
-    requires { (length visit.now ≡ 513) × (b.0 < 256) }
+pub fn is_visited(visit: &[u32; VISIT], b: BlockId) -> bool
+    requires { b.0 < 256 }
     ensures { result ≡ visited_in visit.now b.0 }
 {
     visit[VISITED + b.0 as usize] != 0
@@ -52,48 +52,42 @@ pub const LIVE: usize = 24576;
 // A function for each part: with the bounds as constants of one generic function each call would name both, which is no plainer.
 
 // What each operation reads.
-pub fn reads(live: &[u64]) -> &[u64]
-    requires { length live.now ≡ 24576 }
+pub fn reads(live: &[u64; LIVE]) -> &[u64]
     ensures { result.now ≡ reads_in live.now }
 {
     &live[READS..WRITES]
 }
 
 // What each operation writes.
-pub fn writes(live: &[u64]) -> &[u64]
-    requires { length live.now ≡ 24576 }
+pub fn writes(live: &[u64; LIVE]) -> &[u64]
     ensures { result.now ≡ writes_in live.now }
 {
     &live[WRITES..USES]
 }
 
 // The use set of each block.
-pub fn uses(live: &[u64]) -> &[u64]
-    requires { length live.now ≡ 24576 }
+pub fn uses(live: &[u64; LIVE]) -> &[u64]
     ensures { result.now ≡ uses_in live.now }
 {
     &live[USES..DEFS]
 }
 
 // The def set of each block.
-pub fn defs(live: &[u64]) -> &[u64]
-    requires { length live.now ≡ 24576 }
+pub fn defs(live: &[u64; LIVE]) -> &[u64]
     ensures { result.now ≡ defs_in live.now }
 {
     &live[DEFS..ENDS]
 }
 
 // What is read after the operations of each block.
-pub fn ends(live: &[u64]) -> &[u64]
-    requires { length live.now ≡ 24576 }
+pub fn ends(live: &[u64; LIVE]) -> &[u64]
     ensures { result.now ≡ ends_in live.now }
 {
     &live[ENDS..EXITS]
 }
 
 // The exit set of each block.
-pub fn exits(live: &[u64]) -> &[u64]
-    requires { length live.now ≡ 24576 }
+pub fn exits(live: &[u64; LIVE]) -> &[u64]
     ensures { result.now ≡ exits_in live.now }
 {
     &live[EXITS..LIVE]
@@ -126,8 +120,8 @@ pub const WORK: usize = 1538;
 pub const POINTERS: usize = 2051;
 
 // The sites of all allocations.
-pub fn alloc_sites(pointers: &[u32]) -> &[u32]
-    requires { (length pointers.now ≡ 2051) × (get_or pointers.now 0 0 ≤ 512) }
+pub fn alloc_sites(pointers: &[u32; POINTERS]) -> &[u32]
+    requires { get_or pointers.now 0 0 ≤ 512 }
     ensures { result.now ≡ sites_in pointers.now }
 {
     let end = pointers[ALLOCATIONS] as usize + SITES;
@@ -135,16 +129,16 @@ pub fn alloc_sites(pointers: &[u32]) -> &[u32]
 }
 
 // The owner of local v, as answers give it: its allocation + 1, or 0.
-pub fn owner_of(pointers: &[u32], v: LocalId) -> u32
-    requires { (length pointers.now ≡ 2051) × (v.0 < 512) }
+pub fn owner_of(pointers: &[u32; POINTERS], v: LocalId) -> u32
+    requires { v.0 < 512 }
     ensures { result ≡ get_or (owners_in pointers.now) v.0 0 }
 {
     pointers[OWNERS + v.0 as usize]
 }
 
 // The allocation that owns local v.
-pub fn owner(pointers: &[u32], v: LocalId) -> Option<AllocId>
-    requires { (length pointers.now ≡ 2051) × (v.0 < 512) }
+pub fn owner(pointers: &[u32; POINTERS], v: LocalId) -> Option<AllocId>
+    requires { v.0 < 512 }
     ensures { result ≡ owner_named (get_or (owners_in pointers.now) v.0 0) }
 {
     match owner_of(pointers, v) {
@@ -154,16 +148,16 @@ pub fn owner(pointers: &[u32], v: LocalId) -> Option<AllocId>
 }
 
 // The flags of allocation a.
-pub fn flags_of(pointers: &[u32], a: AllocId) -> u32
-    requires { (length pointers.now ≡ 2051) × (a.0 < 512) }
+pub fn flags_of(pointers: &[u32; POINTERS], a: AllocId) -> u32
+    requires { a.0 < 512 }
     ensures { result ≡ get_or (flags_in pointers.now) a.0 0 }
 {
     pointers[FLAGS + a.0 as usize]
 }
 
 // Whether allocation a is marked: some flag is set.
-pub fn is_marked(pointers: &[u32], a: AllocId) -> bool
-    requires { (length pointers.now ≡ 2051) × (a.0 < 512) }
+pub fn is_marked(pointers: &[u32; POINTERS], a: AllocId) -> bool
+    requires { a.0 < 512 }
     ensures { result ≡ not (eqb (get_or (flags_in pointers.now) a.0 0) 0) }
 {
     flags_of(pointers, a) != 0

@@ -10,7 +10,7 @@ use crate::owned_tables::unmarked_owner;
 use plank_core::dense_index_set::{DenseIndexSet, list};
 use plank_core::index::{AllocId, LocalId};
 use plank_core::rows::{row_add, row_difference_with, row_union_with};
-use sir_analyses::stages::{alloc_sites, is_marked};
+use sir_analyses::stages::{POINTERS, alloc_sites, is_marked};
 
 // How many allocations a series has.
 pub const SERIES: usize = 64;
@@ -28,7 +28,7 @@ fn in_series(series: usize, owner: Option<AllocId>) -> bool
 }
 
 // The locals that no unmarked allocation of a series owns, to an empty set.
-pub fn other_locals(pointers: &[u32], series: usize, others: &mut [u64])
+pub fn other_locals(pointers: &[u32; POINTERS], series: usize, others: &mut [u64])
     requires by_index { (w : List ℕ) × PointerStage w pointers.now }
     requires series_bound { (series < 8) × (others.old ≡ replicate 8 0) }
     ensures { OtherLocals pointers.now series others.new }
@@ -53,7 +53,7 @@ pub fn of_series<'a>(set: &'a [u64], others: &'a [u64]) -> DenseIndexSet
 }
 
 // The column of allocation a where it is not open.
-fn closed_column(pointers: &[u32], a: usize) -> u8
+fn closed_column(pointers: &[u32; POINTERS], a: usize) -> u8
     requires { (w : List ℕ) × PointerStage w pointers.now }
     ensures { result ≡ cond (marked_in pointers.now a) 42 46 }
 {
@@ -67,7 +67,7 @@ fn closed_column(pointers: &[u32], a: usize) -> u8
 }
 
 // The columns of a series where none of its allocations is open.
-pub fn closed_columns(pointers: &[u32], series: usize, columns: &mut [u8])
+pub fn closed_columns(pointers: &[u32; POINTERS], series: usize, columns: &mut [u8])
     requires by_index { (w : List ℕ) × PointerStage w pointers.now }
     requires series_bound { (series < 8) × (length columns.old ≡ 64) }
     ensures { Columns pointers.now series (replicate 8 0) columns.new }
@@ -78,7 +78,7 @@ pub fn closed_columns(pointers: &[u32], series: usize, columns: &mut [u8])
 }
 
 // The owners of some locals, which are of a series, are open in it.
-fn open_columns(pointers: &[u32], series: usize, ids: &[u32], columns: &mut [u8])
+fn open_columns(pointers: &[u32; POINTERS], series: usize, ids: &[u32], columns: &mut [u8])
     requires by_index { (w : List ℕ) × PointerStage w pointers.now }
     requires by_index_2 { (v : ℕ) → v ∈ ids.now → (v < 512) × (in_series series (unmarked_owner pointers.now v) ≡ true) }
     requires series_bound { (series < 8) × (length columns.old ≡ 64) }
@@ -93,7 +93,7 @@ fn open_columns(pointers: &[u32], series: usize, ids: &[u32], columns: &mut [u8]
 }
 
 // The columns of a series where the owners of the members of a set are open.
-fn columns_of(pointers: &[u32], series: usize, set: &[u64], columns: &mut [u8])
+fn columns_of(pointers: &[u32; POINTERS], series: usize, set: &[u64], columns: &mut [u8])
     requires by_index { (w : List ℕ) × PointerStage w pointers.now }
     requires series_bound { (series < 8) × (length set.now ≡ 8) × (length columns.old ≡ 64) }
     requires by_index_2 { (v : ℕ) → v < 512 → contains set.now v ≡ true → in_series series (unmarked_owner pointers.now v) ≡ true }
@@ -108,7 +108,7 @@ fn columns_of(pointers: &[u32], series: usize, set: &[u64], columns: &mut [u8])
 // Updates columns from those of the set `kept` to those of another one, and answers that. They are made anew only where it differs: what is
 // live changes at few operations.
 pub fn update_columns(
-    pointers: &[u32],
+    pointers: &[u32; POINTERS],
     series: usize,
     set: DenseIndexSet,
     kept: DenseIndexSet,

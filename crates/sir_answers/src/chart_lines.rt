@@ -4,14 +4,13 @@ ghost use Rattle.std.specs.Prelude.{◌≡◌, cond, ◌++◌, ◌∷◌, [], �
 ghost use Rattle.plank_core.specs.inner.Putting.{Put};
 ghost use Rattle.sir_data.specs.Codes.{is_call};
 ghost use Rattle.sir_data.specs.Records.{operations};
-ghost use Rattle.sir_data.specs.inner.WellFormed.{WellFormed};
 ghost use Rattle.sir_analyses.specs.Chart.{spaces, heading, blank_line, index, text_of};
 ghost use Rattle.sir_answers.specs.inner.Columns.{digit_for, line_with};
 
 use plank_core::index::{BlockId, OpIdx};
 use plank_core::text::{put_byte, put_number, put_text};
 use sir_data::codes::is_call;
-use sir_data::records::op_word;
+use sir_data::well_formed::Image;
 
 // The bytes of a line, its line feed among them.
 pub const LINE: usize = 73;
@@ -62,16 +61,15 @@ fn call_column(code: u32) -> u8
 }
 
 // The line of operation o, with the columns of a series.
-pub fn put_op_line(words: &[u32], o: OpIdx, columns: &[u8], line: &mut [u8])
-    requires well_formed { WellFormed words.now }
-    requires o_bound { (o.0 < operations words.now) × (length columns.now ≡ 64) × (length line.old ≡ 73) }
-    ensures { line.new ≡ line_with words.now o.0 columns.now ++ (10 ∷ []) }
+pub fn put_op_line(image: Image, o: OpIdx, columns: &[u8], line: &mut [u8])
+    requires o_bound { (o.0 < operations image.words.now) × (length columns.now ≡ 64) × (length line.old ≡ 73) }
+    ensures { line.new ≡ line_with image.entry.words.now o.0 columns.now ++ (10 ∷ []) }
 {
     let a = put_index(line, 0, o);
     let b = put_byte(line, a, b'|');
     let c = put_text(line, b, columns);
     let d = put_byte(line, c, b'|');
-    let e = put_byte(line, d, call_column(op_word(words, o, 0)));
+    let e = put_byte(line, d, call_column(image.op_word(o, 0)));
     put_byte(line, e, b'\n');
 }
 

@@ -8,7 +8,7 @@ ghost use Rattle.sir_analyses.specs.Order.{is_visited};
 ghost use Rattle.sir_analyses.specs.Calls.{answered};
 ghost use Rattle.sir_analyses.specs.inner.Outcomes.{outcome};
 ghost use Rattle.sir_analyses.specs.Open.{open_at};
-ghost use Rattle.sir_analyses.specs.inner.Stages.{VisitStage, LivenessStage, PointerStage, reads_in};
+ghost use Rattle.sir_analyses.specs.inner.Stages.{PointerStage, reads_in};
 ghost use Rattle.sir_analyses.specs.inner.Tables.{Adds};
 ghost use Rattle.sir_answers.specs.inner.AllocationPieces.{unmarked_owner};
 ghost use Rattle.sir_answers.specs.inner.LiveAround.{LiveAround, UnmarkedOwners};
@@ -20,35 +20,34 @@ use plank_core::rows::{row_add, row_of, row_union_with};
 use sir_analyses::answers::words_answer;
 use sir_analyses::local_liveness::compute_liveness;
 use sir_analyses::merged_intervals::{live_after, live_before};
-use sir_analyses::stages::{LIVE, is_visited, reads};
-use sir_data::records::block_operations;
+use sir_analyses::staged::{Followed, LiveSets};
+use sir_analyses::stages::{LIVE, POINTERS, reads};
 use sir_data::refusals::Refusal;
 
 // The locals that are live before operation o or after it, from those live after it.
-pub fn live_around(live: &[u64], o: OpIdx, set: &mut [u64])
-    requires { (length live.now ≡ 24576) × (o.0 < 1024) × (length set.old ≡ 8) }
+pub fn live_around(live: &[u64; LIVE], o: OpIdx, set: &mut [u64])
+    requires { (o.0 < 1024) × (length set.old ≡ 8) }
     ensures { (v : ℕ) → v < 512 → contains set.new v ≡ (contains set.old v || contains (reads_in live.now) (512 * o.0 + v)) }
 {
     row_union_with(set, 0, row_of(reads(live), o.0 as usize));
 }
 
 // The same for operation o of block b, to an empty set: backwards from the block's end.
-fn scan_to(words: &[u32], live: &[u64], b: BlockId, o: OpIdx, set: &mut [u64])
-    requires liveness_stage { LivenessStage words.now live.now }
-    requires b_bound { (b.0 < blocks words.now) × (o.0 ∈ ops words.now b.0) × (set.old ≡ replicate 8 0) }
-    ensures { LiveAround words.now b.0 o.0 set.new }
+fn scan_to(sets: LiveSets, b: BlockId, o: OpIdx, set: &mut [u64])
+    requires b_bound { (b.0 < blocks sets.image.words.now) × (o.0 ∈ ops sets.image.words.now b.0) × (set.old ≡ replicate 8 0) }
+    ensures { LiveAround sets.entry.image.words.now b.0 o.0 set.new }
 {
-    live_after(live, b, set);
-    let span = block_operations(words, b);
+    live_after(sets.live, b, set);
+    let span = sets.image.operations(b);
     let last = o.0 + 1;
     for p in (last..span.end).rev() {
-        live_before(live, OpIdx(p), set);
+        live_before(sets.live, OpIdx(p), set);
     }
-    live_around(live, o, set);
+    live_around(sets.live, o, set);
 }
 
 // Adds the owners of some locals to a set, but those that are marked.
-fn add_owners(pointers: &[u32], ids: &[u32], owners: &mut [u64])
+fn add_owners(pointers: &[u32; POINTERS], ids: &[u32], owners: &mut [u64])
     requires by_index { (w : List ℕ) × PointerStage w pointers.now }
     requires by_index_2 { (v : ℕ) → v ∈ ids.now → v < 512 }
     requires owners_len { length owners.old ≡ 8 }
@@ -62,7 +61,7 @@ fn add_owners(pointers: &[u32], ids: &[u32], owners: &mut [u64])
 }
 
 // The owners of the locals of a set, but those that are marked, ascending, to the front of `ids`: how many.
-fn owners_of(pointers: &[u32], set: &[u64], ids: &mut [u32]) -> usize
+fn owners_of(pointers: &[u32; POINTERS], set: &[u64], ids: &mut [u32]) -> usize
     requires by_index { (w : List ℕ) × PointerStage w pointers.now }
     requires set_len { (length set.now ≡ 8) × (length ids.old ≡ 512) }
     ensures { (result ≤ 512) × UnmarkedOwners pointers.now set.now (take result ids.new) }
@@ -75,20 +74,18 @@ fn owners_of(pointers: &[u32], set: &[u64], ids: &mut [u32]) -> usize
 
 // The allocations that are open at operation o of block b, which is visited.
 fn open_in_visited(
-    words: &[u32],
-    live: &[u64],
-    pointers: &[u32],
+    sets: LiveSets,
+    pointers: &[u32; POINTERS],
     b: BlockId,
     o: OpIdx,
     out: &mut [u8],
 ) -> Result<usize, Refusal>
-    requires liveness_stage { LivenessStage words.now live.now }
-    requires pointer_stage { PointerStage words.now pointers.now }
-    requires b_bound { (b.0 < blocks words.now) × (o.0 ∈ ops words.now b.0) × (is_visited words.now b.0 ≡ true) }
-    ensures { outcome result out.new ≡ answered (bind (open_at words.now b.0 o.0) bytes_of) out.old }
+    requires pointer_stage { PointerStage sets.image.words.now pointers.now }
+    requires b_bound { (b.0 < blocks sets.image.words.now) × (o.0 ∈ ops sets.image.words.now b.0) × (is_visited sets.image.words.now b.0 ≡ true) }
+    ensures { outcome result out.new ≡ answered (bind (open_at sets.entry.image.words.now b.0 o.0) bytes_of) out.old }
 {
     let mut set = [0u64; 8];
-    scan_to(words, live, b, o, &mut set);
+    scan_to(sets, b, o, &mut set);
     let mut ids = [0u32; 512];
     let n = owners_of(pointers, &set, &mut ids);
     words_answer(&ids[..n], out)
@@ -96,22 +93,27 @@ fn open_in_visited(
 
 // The allocations that are open at operation o of block b; in a block that was not visited none is.
 pub fn open_answer(
-    words: &[u32],
-    visit: &[u32],
-    pointers: &[u32],
+    followed: Followed,
     b: BlockId,
     o: OpIdx,
     out: &mut [u8],
 ) -> Result<usize, Refusal>
-    requires visit_stage { VisitStage words.now visit.now }
-    requires pointer_stage { PointerStage words.now pointers.now }
-    requires b_bound { (b.0 < blocks words.now) × (o.0 ∈ ops words.now b.0) }
-    ensures { outcome result out.new ≡ answered (bind (open_at words.now b.0 o.0) bytes_of) out.old }
+    requires b_bound { (b.0 < blocks followed.image.words.now) × (o.0 ∈ ops followed.image.words.now b.0) }
+    ensures { outcome result out.new ≡ answered (bind (open_at followed.entry.image.words.now b.0 o.0) bytes_of) out.old }
 {
-    if !is_visited(visit, b) {
+    if !followed.visited().is_visited(b) {
         return words_answer(&[], out);
     }
     let mut live = [0u64; LIVE];
-    compute_liveness(words, visit, &mut live);
-    open_in_visited(words, &live, pointers, b, o, out)
+    compute_liveness(followed.visited(), &mut live);
+    open_in_visited(
+        LiveSets {
+            image: followed.image,
+            live: &live,
+        },
+        followed.pointers,
+        b,
+        o,
+        out,
+    )
 }

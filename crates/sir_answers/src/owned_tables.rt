@@ -4,7 +4,7 @@ ghost use Rattle.std.specs.Prelude.{◌≡◌, true, ◌&&◌, cond, List, ℕ, 
 ghost use Rattle.plank_core.specs.Lists.{◌∈◌};
 ghost use Rattle.plank_core.specs.inner.DenseIndexSet.{contains};
 ghost use Rattle.sir_data.specs.Records.{locals};
-ghost use Rattle.sir_analyses.specs.inner.Stages.{PointerStage, owners_in};
+ghost use Rattle.sir_analyses.specs.inner.Stages.{owners_in};
 ghost use Rattle.sir_answers.specs.inner.Scatter.{number_at};
 ghost use Rattle.sir_analyses.specs.inner.Tables.{Adds};
 ghost use Rattle.sir_answers.specs.inner.AllocationPieces.{own_rows_in, owner_number, unmarked_owner, OwnedTables, OwnedListed, owns_one, side};
@@ -12,8 +12,8 @@ ghost use Rattle.sir_answers.specs.inner.AllocationPieces.{own_rows_in, owner_nu
 use plank_core::dense_index_set::{intersects, list};
 use plank_core::index::{AllocId, LocalId};
 use plank_core::rows::{row_add, row_contains, row_difference_with, row_of, row_union_with};
-use sir_analyses::stages::{is_marked, owner};
-use sir_data::records::local_count;
+use sir_analyses::staged::Pointed;
+use sir_analyses::stages::{POINTERS, is_marked, owner};
 
 // Where the parts stand.
 pub const UNOWNED: usize = 0;
@@ -25,8 +25,8 @@ pub const OWN_WORDS: usize = 4104;
 pub const OWNED: usize = 4616;
 
 // The allocation that owns local v, unless it is marked.
-pub fn unmarked_owner(pointers: &[u32], v: LocalId) -> Option<AllocId>
-    requires { (length pointers.now ≡ 2051) × (v.0 < 512) × (get_or (owners_in pointers.now) v.0 0 ≤ 512) }
+pub fn unmarked_owner(pointers: &[u32; POINTERS], v: LocalId) -> Option<AllocId>
+    requires { (v.0 < 512) × (get_or (owners_in pointers.now) v.0 0 ≤ 512) }
     ensures { (owner_number result ≡ unmarked_owner pointers.now v.0) × (owner_number result ≤ 512) }
 {
     let a = owner(pointers, v)?;
@@ -48,38 +48,36 @@ fn owner_row(owner: Option<AllocId>) -> u32
 }
 
 // Adds each local to the row of its owner: row 0 is for those that have none, row a + 1 for those of allocation a.
-fn own_rows(words: &[u32], pointers: &[u32], rows: &mut [u64])
-    requires pointer_stage { PointerStage words.now pointers.now }
+fn own_rows(pointed: Pointed, rows: &mut [u64])
     requires rows_len { length rows.old ≡ 4104 }
-    ensures { Adds rows.old (λ r v. ltb v (locals words.now) && eqb (unmarked_owner pointers.now v) r) rows.new }
+    ensures { Adds rows.old (λ r v. ltb v (locals pointed.entry.image.words.now) && eqb (unmarked_owner pointed.entry.pointers.now v) r) rows.new }
 {
-    let count = local_count(words);
+    let count = pointed.image.local_count();
     for v in 0..count {
-        let row = owner_row(unmarked_owner(pointers, LocalId(v)));
+        let row = owner_row(unmarked_owner(pointed.pointers, LocalId(v)));
         row_add(rows, row as usize, v);
     }
 }
 
-// Stores the row of each local.
-fn own_words(words: &[u32], pointers: &[u32], owners: &mut [u64])
-    requires pointer_stage { PointerStage words.now pointers.now }
+// Stores the row of each local. A loop of its own: one for this and `own_rows` would take what is done with a row as a closure, whose contract
+// says as much as both.
+fn own_words(pointed: Pointed, owners: &mut [u64])
     requires owners_len { length owners.old ≡ 512 }
-    ensures { (v : ℕ) → number_at owners.new v ≡ cond (ltb v (locals words.now)) (unmarked_owner pointers.now v) (number_at owners.old v) }
+    ensures { (v : ℕ) → number_at owners.new v ≡ cond (ltb v (locals pointed.entry.image.words.now)) (unmarked_owner pointed.entry.pointers.now v) (number_at owners.old v) }
 {
-    let count = local_count(words);
+    let count = pointed.image.local_count();
     for v in 0..count {
-        owners[v as usize] = owner_row(unmarked_owner(pointers, LocalId(v))) as u64;
+        owners[v as usize] = owner_row(unmarked_owner(pointed.pointers, LocalId(v))) as u64;
     }
 }
 
 // Both, to an array that is empty at first.
-pub fn owned_tables(words: &[u32], pointers: &[u32], owned: &mut [u64])
-    requires pointer_stage { PointerStage words.now pointers.now }
+pub fn owned_tables(pointed: Pointed, owned: &mut [u64])
     requires owned_value { owned.old ≡ replicate 4616 0 }
-    ensures { OwnedTables words.now owned.new }
+    ensures { OwnedTables pointed.entry.image.words.now owned.new }
 {
-    own_rows(words, pointers, &mut owned[UNOWNED..OWN_WORDS]);
-    own_words(words, pointers, &mut owned[OWN_WORDS..OWNED]);
+    own_rows(pointed, &mut owned[UNOWNED..OWN_WORDS]);
+    own_words(pointed, &mut owned[OWN_WORDS..OWNED]);
 }
 
 // The members of a set that have an owner, ascending, to the front of `ids`: how many.

@@ -5,12 +5,11 @@ ghost use Rattle.plank_core.specs.Lists.{bind};
 ghost use Rattle.sir_data.specs.Pages.{bytes_of};
 ghost use Rattle.sir_data.specs.Rules.{first};
 ghost use Rattle.sir_analyses.specs.All.{all};
-ghost use Rattle.sir_analyses.specs.Allocation.{allocs, marked};
+ghost use Rattle.sir_analyses.specs.Allocation.{allocs};
 ghost use Rattle.sir_analyses.specs.Answers.{allocation_answer};
 ghost use Rattle.sir_analyses.specs.Calls.{answered};
 ghost use Rattle.sir_analyses.specs.inner.Outcomes.{outcome};
 ghost use Rattle.sir_answers.specs.inner.Questions.{own_rules, answer_bytes};
-ghost use Rattle.sir_analyses.specs.inner.Stages.{VisitStage, AcceptedStage, PointerStage};
 ghost use Rattle.sir_answers.specs.declared.questions.Question.{Question};
 
 use crate::all_allocations::all_allocations_answer;
@@ -23,68 +22,77 @@ use sir_analyses::allocation_answers::{allocation_answer, compute_pointers, mark
 use sir_analyses::allocation_liveness::site_of;
 use sir_analyses::answers::words_answer;
 use sir_analyses::local_liveness::compute_liveness;
-use sir_analyses::stages::{LIVE, POINTERS, alloc_sites, flags_of, is_marked, owner_of};
+use sir_analyses::staged::{Accepted, Followed, Pointed, Tables};
+use sir_analyses::stages::{LIVE, POINTERS};
 use sir_data::refusals::Refusal;
 
 // The record of allocation a: the tables of liveness are made here where it is not marked, and a marked one needs none.
-fn one_allocation(
-    words: &[u32],
-    visit: &[u32],
-    pointers: &[u32],
-    a: AllocId,
-    out: &mut [u8],
-) -> Result<usize, Refusal>
-    requires visit_stage { VisitStage words.now visit.now }
-    requires pointer_stage { PointerStage words.now pointers.now × (a.0 < length (allocs words.now)) }
-    ensures { outcome result out.new ≡ answered (bind (allocation_answer words.now a.0) bytes_of) out.old }
+fn one_allocation(followed: Followed, a: AllocId, out: &mut [u8]) -> Result<usize, Refusal>
+    requires a_bound { a.0 < length (allocs followed.image.words.now) }
+    ensures { outcome result out.new ≡ answered (bind (allocation_answer followed.entry.image.words.now a.0) bytes_of) out.old }
 {
-    if is_marked(pointers, a) {
-        let site = site_of(alloc_sites(pointers), a);
-        return marked_answer(words, site, flags_of(pointers, a), out);
+    let pointed = followed.pointed();
+    if pointed.is_marked(a) {
+        let site = site_of(pointed.sites(), a);
+        return marked_answer(followed.image, site, pointed.flags_of(a), out);
     }
     let mut live = [0u64; LIVE];
-    compute_liveness(words, visit, &mut live);
-    allocation_answer(words, visit, &live, pointers, a, out)
+    compute_liveness(followed.visited(), &mut live);
+    allocation_answer(
+        Tables {
+            image: followed.image,
+            visit: followed.visit,
+            live: &live,
+            pointers: followed.pointers,
+        },
+        a,
+        out,
+    )
 }
 
 // The records of all allocations, with the tables of liveness made here.
-fn every_allocation(
-    words: &[u32],
-    visit: &[u32],
-    pointers: &[u32],
-    out: &mut [u8],
-) -> Result<usize, Refusal>
-    requires visit_stage { VisitStage words.now visit.now }
-    requires pointer_stage { PointerStage words.now pointers.now }
-    ensures { outcome result out.new ≡ answered (bind (all (λ w. length (allocs w)) allocation_answer words.now) bytes_of) out.old }
+fn every_allocation(followed: Followed, out: &mut [u8]) -> Result<usize, Refusal>
+    ensures { outcome result out.new ≡ answered (bind (all (λ w. length (allocs w)) allocation_answer followed.entry.image.words.now) bytes_of) out.old }
 {
     let mut live = [0u64; LIVE];
-    compute_liveness(words, visit, &mut live);
-    all_allocations_answer(words, visit, &live, pointers, out)
+    compute_liveness(followed.visited(), &mut live);
+    all_allocations_answer(
+        Tables {
+            image: followed.image,
+            visit: followed.visit,
+            live: &live,
+            pointers: followed.pointers,
+        },
+        out,
+    )
 }
 
 // The answer to a question on pointers: follows them, and answers from their tables.
 pub fn pointer_answer(
-    words: &[u32],
-    visit: &[u32],
-    sites: &[u32],
+    accepted: Accepted,
     question: PointerQuestion,
     out: &mut [u8],
 ) -> Result<usize, Refusal>
-    requires visit_stage { VisitStage words.now visit.now }
-    requires accepted_stage { AcceptedStage words.now sites.now × (first (own_rules (Question.OfPointers question) words.now) ≡ 0) }
-    ensures { outcome result out.new ≡ answered (answer_bytes (Question.OfPointers question) words.now) out.old }
+    requires rules_value { first (own_rules (Question.OfPointers question) accepted.image.words.now) ≡ 0 }
+    ensures { outcome result out.new ≡ answered (answer_bytes (Question.OfPointers question) accepted.entry.image.words.now) out.old }
 {
     let mut pointers = [0u32; POINTERS];
-    compute_pointers(words, visit, sites, &mut pointers);
+    compute_pointers(accepted, &mut pointers);
+    let followed = Followed {
+        image: accepted.image,
+        visit: accepted.visit,
+        pointers: &pointers,
+    };
+    let pointed = Pointed {
+        image: accepted.image,
+        pointers: &pointers,
+    };
     match question {
-        PointerQuestion::Allocation(a) => one_allocation(words, visit, &pointers, a, out),
-        PointerQuestion::Owner(v) => words_answer(&[owner_of(&pointers, v)], out),
-        PointerQuestion::AllAllocations => every_allocation(words, visit, &pointers, out),
-        PointerQuestion::AllOwners => all_owners_answer(words, &pointers, out),
-        PointerQuestion::Open(b, o) => open_answer(words, visit, &pointers, b, o, out),
-        PointerQuestion::Crossing(one, other) => {
-            crossing_answer(words, visit, &pointers, one, other, out)
-        }
+        PointerQuestion::Allocation(a) => one_allocation(followed, a, out),
+        PointerQuestion::Owner(v) => words_answer(&[pointed.owner_of(v)], out),
+        PointerQuestion::AllAllocations => every_allocation(followed, out),
+        PointerQuestion::AllOwners => all_owners_answer(pointed, out),
+        PointerQuestion::Open(b, o) => open_answer(followed, b, o, out),
+        PointerQuestion::Crossing(one, other) => { crossing_answer(followed, one, other, out) }
     }
 }

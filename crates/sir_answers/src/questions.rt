@@ -3,14 +3,13 @@
 ghost use Rattle.std.specs.Prelude.{◌≡◌, not, cond, [], ◌∷◌, ◌≤◌, ltb, length};
 ghost use Rattle.sir_data.specs.Refusals.{refused};
 ghost use Rattle.sir_data.specs.Rules.{first};
-ghost use Rattle.sir_data.specs.inner.WellFormed.{WellFormed};
 ghost use Rattle.sir_analyses.specs.Open.{open_rules};
 ghost use Rattle.sir_analyses.specs.inner.Discovery.{alloc_sites};
 ghost use Rattle.sir_answers.specs.inner.Questions.{own_rules};
 
 use plank_core::index::{AllocId, BlockId, LocalId, OpIdx};
-use sir_data::records::{block_count, block_operations, local_count, operation_count};
 use sir_data::refusals::Refusal;
+use sir_data::well_formed::Image;
 
 #[derive(Clone, Copy)]
 pub enum OrderQuestion {
@@ -61,13 +60,12 @@ fn id_refusal(id: u32, count: u32) -> Result<(), Refusal>
 }
 
 // Refuses a block or an operation that is not below its count, then an operation that the block does not hold.
-fn open_refusal(words: &[u32], b: BlockId, o: OpIdx) -> Result<(), Refusal>
-    requires { WellFormed words.now }
-    ensures { refused result ≡ first (open_rules b.0 o.0 words.now) }
+fn open_refusal(image: Image, b: BlockId, o: OpIdx) -> Result<(), Refusal>
+    ensures { refused result ≡ first (open_rules b.0 o.0 image.entry.words.now) }
 {
-    id_refusal(b.0, block_count(words))?;
-    id_refusal(o.0, operation_count(words))?;
-    let span = block_operations(words, b);
+    id_refusal(b.0, image.block_count())?;
+    id_refusal(o.0, image.operation_count())?;
+    let span = image.operations(b);
     if o.0 < span.start || span.end <= o.0 {
         return Err(Refusal::NotInBlock);
     }
@@ -83,23 +81,23 @@ fn crossing_refusal(one: AllocId, other: AllocId, count: u32) -> Result<(), Refu
 }
 
 // The first of a question's own rules that applies, if one does.
-pub fn own_refusal(words: &[u32], sites: &[u32], question: Question) -> Result<(), Refusal>
-    requires well_formed { WellFormed words.now }
-    requires sites_value { (sites.now ≡ alloc_sites words.now) × (length sites.now ≤ 512) }
-    ensures { refused result ≡ first (own_rules question words.now) }
+pub fn own_refusal(image: Image, sites: &[u32], question: Question) -> Result<(), Refusal>
+    requires sites_value { (sites.now ≡ alloc_sites image.words.now) × (length sites.now ≤ 512) }
+    ensures { refused result ≡ first (own_rules question image.entry.words.now) }
 {
+    // A match, one line for each question: as closures these would be as many, each with the count that it asks.
     match question {
         Question::OfOrder(q) => match q {
             OrderQuestion::Order => Ok(()),
-            OrderQuestion::Predecessors(b) => id_refusal(b.0, block_count(words)),
-            OrderQuestion::Uses(v) => id_refusal(v.0, local_count(words)),
+            OrderQuestion::Predecessors(b) => id_refusal(b.0, image.block_count()),
+            OrderQuestion::Uses(v) => id_refusal(v.0, image.local_count()),
             OrderQuestion::AllPredecessors => Ok(()),
             OrderQuestion::AllUses => Ok(()),
         },
         Question::OfLiveness(q) => match q {
-            LiveQuestion::EntrySet(b) => id_refusal(b.0, block_count(words)),
-            LiveQuestion::ExitSet(b) => id_refusal(b.0, block_count(words)),
-            LiveQuestion::Intervals(v) => id_refusal(v.0, local_count(words)),
+            LiveQuestion::EntrySet(b) => id_refusal(b.0, image.block_count()),
+            LiveQuestion::ExitSet(b) => id_refusal(b.0, image.block_count()),
+            LiveQuestion::Intervals(v) => id_refusal(v.0, image.local_count()),
             LiveQuestion::Rounds => Ok(()),
             LiveQuestion::AllEntrySets => Ok(()),
             LiveQuestion::AllExitSets => Ok(()),
@@ -107,10 +105,10 @@ pub fn own_refusal(words: &[u32], sites: &[u32], question: Question) -> Result<(
         },
         Question::OfPointers(q) => match q {
             PointerQuestion::Allocation(a) => id_refusal(a.0, sites.len() as u32),
-            PointerQuestion::Owner(v) => id_refusal(v.0, local_count(words)),
+            PointerQuestion::Owner(v) => id_refusal(v.0, image.local_count()),
             PointerQuestion::AllAllocations => Ok(()),
             PointerQuestion::AllOwners => Ok(()),
-            PointerQuestion::Open(b, o) => open_refusal(words, b, o),
+            PointerQuestion::Open(b, o) => open_refusal(image, b, o),
             PointerQuestion::Crossing(one, other) => {
                 crossing_refusal(one, other, sites.len() as u32)
             }

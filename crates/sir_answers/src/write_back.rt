@@ -1,8 +1,7 @@
 // An image taken apart into its records, and put together from lent ones.
-ghost use Rattle.std.specs.Prelude.{◌≡◌, cond, [], ◌∷◌, ◌*◌, ◌≤◌, length};
+ghost use Rattle.std.specs.Prelude.{◌≡◌, [], ◌∷◌, ◌*◌, ◌≤◌, length};
 ghost use Rattle.sir_data.specs.Pages.{pages_for};
 ghost use Rattle.sir_data.specs.Paging.{records_of, pages_of};
-ghost use Rattle.sir_data.specs.inner.WellFormed.{WellFormed};
 ghost use Rattle.sir_analyses.specs.Allocation.{rule12};
 ghost use Rattle.sir_analyses.specs.Calls.{made, call, asked, refusal, no_rules, in_words};
 ghost use Rattle.sir_analyses.specs.inner.Outcomes.{outcome};
@@ -15,6 +14,7 @@ use sir_analyses::stages::{POSTORDER, VISIT, WORDS};
 use sir_data::lent_records::read_records;
 use sir_data::refusals::Refusal;
 use sir_data::rules::word_count;
+use sir_data::well_formed::Image;
 
 // The records of an image: its payload words without padding.
 fn try_records(image: &[u8], out: &mut [u8]) -> Result<usize, Refusal>
@@ -39,16 +39,15 @@ pub fn records(image: &[u8], out: &mut [u8]) -> Answer
 }
 
 // 12, or the pages of words that break no rule before it and stand with their padding.
-fn write_words(words: &[u32], out: &mut [u8]) -> Result<usize, Refusal>
-    requires well_formed { WellFormed words.now }
-    requires words_len { (length words.now ≡ 126 * pages_for (length words.now)) × (length words.now ≤ 14742) }
-    ensures { outcome result out.new ≡ call ((12, rule12 words.now) ∷ []) (pages_of words.now) out.old }
+fn write_words(image: Image, out: &mut [u8]) -> Result<usize, Refusal>
+    requires words_len { (length image.words.now ≡ 126 * pages_for (length image.words.now)) × (length image.words.now ≤ 14742) }
+    ensures { outcome result out.new ≡ call ((12, rule12 image.entry.words.now) ∷ []) (pages_of image.entry.words.now) out.old }
 {
     let mut postorder = [0u32; POSTORDER];
     let mut visit = [0u32; VISIT];
     let mut found = [0u32; 512];
-    load_visit(words, &mut postorder, &mut visit, &mut found)?;
-    pages_answer(words, out)
+    load_visit(image, &mut postorder, &mut visit, &mut found)?;
+    pages_answer(image.words, out)
 }
 
 // The pages of lent records.
@@ -57,7 +56,7 @@ fn try_write(records: &[u8], out: &mut [u8]) -> Result<usize, Refusal>
 {
     let mut lent = [0u32; WORDS];
     let n = read_records(records, &mut lent)?;
-    write_words(&lent[..n], out)
+    write_words(Image { words: &lent[..n] }, out)
 }
 
 // The same as C takes it; and what reading these pages gives back.

@@ -2,20 +2,13 @@
 ghost use Rattle.std.specs.Prelude.{◌≡◌, ◌+◌, ◌≤◌, length, nat_lt};
 ghost use Rattle.plank_core.specs.Lists.{all, upto};
 ghost use Rattle.sir_data.specs.Records.{word};
-ghost use Rattle.sir_data.specs.Rules.{range_ok, optional_below};
+ghost use Rattle.sir_data.specs.Rules.{range_ok};
 
 // Is this a range of a list of n?
 pub fn range_ok(start: u32, end: u32, n: u32) -> bool
     ensures { result ≡ range_ok start end n }
 {
     start <= end && end <= n
-}
-
-// Is an id that is given plus one, or left out as 0, below n?
-pub fn optional_below(k: u32, n: u32) -> bool
-    ensures { result ≡ optional_below k n }
-{
-    k <= n
 }
 
 // Is each of the `count` words from `start` on below n?

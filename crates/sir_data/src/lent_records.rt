@@ -1,24 +1,14 @@
 // Lent records: the payload words of an image without padding, as bytes, and refusals 4 to 11 of them.
-ghost use Rattle.std.specs.Prelude.{◌≡◌, ◌/◌, ◌≤◌, ◌++◌, length, drop, replicate, ◌*◌, IfOk};
+ghost use Rattle.std.specs.Prelude.{◌≡◌, ◌/◌, length, replicate, ◌*◌, IfOk};
 ghost use Rattle.sir_data.specs.Pages.{pages_for};
 ghost use Rattle.sir_data.specs.Rules.{first};
 ghost use Rattle.sir_data.specs.Refusals.{refused};
-ghost use Rattle.sir_data.specs.Paging.{words_of};
 ghost use Rattle.sir_data.specs.inner.LentRecords.{fit_rules, Lent};
 
-use crate::pages::{pages_for, word_at};
+use crate::pages::{copy_words, pages_for};
+use crate::records::Records;
 use crate::refusals::Refusal;
 use crate::rules::{check_head, check_sized, word_count};
-
-// The words of some bytes, to the front of `words`.
-fn copy_words(bytes: &[u8], words: &mut [u32])
-    requires { length bytes.now / 4 ≤ length words.old }
-    ensures { words.new ≡ words_of bytes.now ++ drop (length bytes.now / 4) words.old }
-{
-    for i in 0..bytes.len() / 4 {
-        words[i] = word_at(bytes, i);
-    }
-}
 
 // The first rule that refuses lent records by their length and their head, if one does: 6 outright, 4, 5, or 6 in its turn.
 fn check_fit(records: &[u8]) -> Result<(), Refusal>
@@ -49,6 +39,6 @@ pub fn read_records(records: &[u8], words: &mut [u32]) -> Result<usize, Refusal>
     check_fit(records)?;
     copy_words(records, words);
     let n = 126 * pages_for(records.len() / 4);
-    check_sized(&words[..n])?;
+    check_sized(Records { words: &words[..n] })?;
     Ok(n)
 }

@@ -14,5 +14,6 @@ pub mod records;
 pub mod refusals;
 pub mod rules;
 pub mod view;
+pub mod well_formed;
 
 pub use image::refusal;

@@ -1,7 +1,8 @@
 // An image's pages: 512 bytes each, word 0 the page number, words 1 to 126 payload, word 127 the check.
-ghost use Rattle.std.specs.Prelude.{◌≡◌, ◌+◌, ◌*◌, ◌^◌, ◌<◌, ◌≤◌, ◌++◌, map, length, drop};
+ghost use Rattle.std.specs.Prelude.{◌≡◌, ◌+◌, ◌*◌, ◌/◌, ◌^◌, ◌<◌, ◌≤◌, ◌++◌, map, length, drop};
 ghost use Rattle.plank_core.specs.Lists.{upto};
 ghost use Rattle.sir_data.specs.Pages.{word_at, pages, pages_for, page_word, check_of, payload, bad_length, bad_number, bad_check};
+ghost use Rattle.sir_data.specs.Paging.{words_of};
 ghost use Rattle.sir_data.specs.Rules.{first, page_rules};
 ghost use Rattle.sir_data.specs.Refusals.{refused};
 
@@ -14,6 +15,16 @@ pub fn word_at(bytes: &[u8], i: usize) -> u32
 {
     let at = 4 * i;
     u32::from_le_bytes([bytes[at], bytes[at + 1], bytes[at + 2], bytes[at + 3]])
+}
+
+// The words of some bytes, to the front of `words`.
+pub fn copy_words(bytes: &[u8], words: &mut [u32])
+    requires { length bytes.now / 4 ≤ length words.old }
+    ensures { words.new ≡ words_of bytes.now ++ drop (length bytes.now / 4) words.old }
+{
+    for i in 0..bytes.len() / 4 {
+        words[i] = word_at(bytes, i);
+    }
 }
 
 // The check of a page by two running sums: twice the sum of the sums so far, less the sum, weighs the words 253, 251, .., 1.
@@ -81,9 +92,7 @@ fn read_page(image: &[u8], page: usize, words: &mut [u32])
     requires in_bounds { 126 ≤ length words.old }
     ensures { words.new ≡ map (λ k. page_word image.now page (1 + k)) (upto 126) ++ drop 126 words.old }
 {
-    for k in 0..126 {
-        words[k] = word_at(image, 128 * page + (1 + k));
-    }
+    copy_words(&image[512 * page + 4..512 * page + 508], words);
 }
 
 // The payload of all pages, to the front of `words`; how many words that is.

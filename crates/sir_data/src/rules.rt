@@ -4,15 +4,14 @@ ghost use Rattle.plank_core.specs.Lists.{all, any, upto};
 ghost use Rattle.sir_data.specs.Records.{functions, blocks, operand_words, case_targets, locals, init_function, main_plus_one, word_count, entry_block, operand, target};
 ghost use Rattle.sir_data.specs.Rules.{rule4, rule5, rule6, rule7, rule8, optional_below, first, head_rules, field_rules, operand_rules, record_rules};
 ghost use Rattle.sir_data.specs.Refusals.{refused};
-ghost use Rattle.sir_data.specs.inner.WellFormed.{Sized, InRange};
 
 use crate::block_rules::{each_block_fields_ok, each_block_ids_ok, rule_10, rule_11};
 use crate::bounds::all_below;
 use crate::operation_rules::{each_op_fields_ok, each_op_ids_ok, rule_9};
 use crate::pages::pages_for;
 use crate::records::{
-    block_count, function_count, local_count, main_function, operand_count, operands_at,
-    operation_count, target_count, targets_at,
+    Ranged, Records, block_count, function_count, local_count, main_function, operand_count,
+    operation_count, target_count,
 };
 use crate::refusals::Refusal;
 
@@ -92,75 +91,70 @@ fn rule_6(words: &[u32]) -> bool
 }
 
 // Rule 7: a code or a control kind is unknown, or an unused field is not 0.
-fn rule_7(words: &[u32]) -> bool
-    requires { Sized words.now }
-    ensures { result ≡ rule7 words.now }
+fn rule_7(records: Records) -> bool
+    ensures { result ≡ rule7 records.entry.words.now }
 {
-    if !each_block_fields_ok(words) {
+    if !each_block_fields_ok(records) {
         return true;
     }
-    !each_op_fields_ok(words)
+    !each_op_fields_ok(records)
 }
 
 // Are init and main functions, and is each function's entry a block?
-fn functions_ok(words: &[u32]) -> bool
-    requires { Sized words.now }
-    ensures { result ≡ (nat_lt (init_function words.now) (functions words.now) && optional_below (main_plus_one words.now) (functions words.now) && all (λ f. ltb (entry_block words.now f) (blocks words.now)) (upto (functions words.now))) }
+fn functions_ok(records: Records) -> bool
+    ensures { result ≡ (nat_lt (init_function records.entry.words.now) (functions records.entry.words.now) && optional_below (main_plus_one records.entry.words.now) (functions records.entry.words.now) && all (λ f. ltb (entry_block records.entry.words.now f) (blocks records.entry.words.now)) (upto (functions records.entry.words.now))) }
 {
-    let n = function_count(words);
-    if words[7] >= n {
+    let n = function_count(records.words);
+    if records.words[7] >= n {
         return false;
     }
-    if !main_function(words).is_none_or(|main| main.0 < n) {
+    if !main_function(records.words).is_none_or(|main| main.0 < n) {
         return false;
     }
-    all_below(words, 9, n, block_count(words))
+    all_below(records.words, 9, n, block_count(records.words))
 }
 
 // Is each operand a local?
-fn operands_ok(words: &[u32]) -> bool
-    requires { Sized words.now }
-    ensures { result ≡ all (λ i. ltb (operand words.now i) (locals words.now)) (upto (operand_words words.now)) }
+fn operands_ok(records: Records) -> bool
+    ensures { result ≡ all (λ i. ltb (operand records.entry.words.now i) (locals records.entry.words.now)) (upto (operand_words records.entry.words.now)) }
 {
     all_below(
-        words,
-        operands_at(words),
-        operand_count(words),
-        local_count(words),
+        records.words,
+        records.operands_at(),
+        operand_count(records.words),
+        local_count(records.words),
     )
 }
 
 // Is each case target a block?
-fn targets_ok(words: &[u32]) -> bool
-    requires { Sized words.now }
-    ensures { result ≡ all (λ i. ltb (target words.now i) (blocks words.now)) (upto (case_targets words.now)) }
+fn targets_ok(records: Records) -> bool
+    ensures { result ≡ all (λ i. ltb (target records.entry.words.now i) (blocks records.entry.words.now)) (upto (case_targets records.entry.words.now)) }
 {
     all_below(
-        words,
-        targets_at(words),
-        target_count(words),
-        block_count(words),
+        records.words,
+        records.targets_at(),
+        target_count(records.words),
+        block_count(records.words),
     )
 }
 
 // Rule 8: a range is not within its list, an id is not below its count, or a static id is one that the source cannot hold.
-fn rule_8(words: &[u32]) -> bool
-    requires { Sized words.now }
-    ensures { result ≡ rule8 words.now }
+fn rule_8(records: Records) -> bool
+    ensures { result ≡ rule8 records.entry.words.now }
 {
-    if !functions_ok(words) {
+    if !functions_ok(records) {
         return true;
     }
-    if !each_block_ids_ok(words) {
+    if !each_block_ids_ok(records) {
         return true;
     }
-    if !each_op_ids_ok(words) {
+    if !each_op_ids_ok(records) {
         return true;
     }
-    if !operands_ok(words) {
+    if !operands_ok(records) {
         return true;
     }
-    !targets_ok(words)
+    !targets_ok(records)
 }
 
 // The first of the head's rules that applies, if one does.
@@ -178,44 +172,40 @@ pub fn check_head(words: &[u32]) -> Result<(), Refusal>
 }
 
 // The first of the rules on kinds, codes, fields, ranges and ids that applies, if one does.
-fn check_fields(words: &[u32]) -> Result<(), Refusal>
-    requires { Sized words.now }
-    ensures { refused result ≡ first (field_rules words.now) }
+fn check_fields(records: Records) -> Result<(), Refusal>
+    ensures { refused result ≡ first (field_rules records.entry.words.now) }
 {
-    if rule_7(words) {
+    if rule_7(records) {
         return Err(Refusal::Unknown);
     }
-    if rule_8(words) {
+    if rule_8(records) {
         return Err(Refusal::Range);
     }
     Ok(())
 }
 
 // The first of the rules on operands and edges that applies, if one does, where ranges and ids are in order.
-fn check_operands(words: &[u32]) -> Result<(), Refusal>
-    requires sized { Sized words.now }
-    requires in_range { InRange words.now }
-    ensures { refused result ≡ first (operand_rules words.now) }
+fn check_operands(ranged: Ranged) -> Result<(), Refusal>
+    ensures { refused result ≡ first (operand_rules ranged.entry.records.words.now) }
 {
-    if rule_9(words) {
+    if rule_9(ranged) {
         return Err(Refusal::OperandCount);
     }
-    if rule_10(words) {
+    if rule_10(ranged) {
         return Err(Refusal::OutputCount);
     }
-    if rule_11(words) {
+    if rule_11(ranged) {
         return Err(Refusal::RepeatedInput);
     }
     Ok(())
 }
 
 // The first of the rules after the fit that applies, if one does, where the counts are in order and their words are there.
-pub fn check_sized(words: &[u32]) -> Result<(), Refusal>
-    requires { Sized words.now }
-    ensures { refused result ≡ first (field_rules words.now ++ operand_rules words.now) }
+pub fn check_sized(records: Records) -> Result<(), Refusal>
+    ensures { refused result ≡ first (field_rules records.entry.words.now ++ operand_rules records.entry.words.now) }
 {
-    check_fields(words)?;
-    check_operands(words)
+    check_fields(records)?;
+    check_operands(Ranged { records })
 }
 
 // The first of the record rules that applies, if one does. A rule is looked at only where none before it applies.
@@ -227,5 +217,5 @@ pub fn check_records(words: &[u32]) -> Result<(), Refusal>
     if rule_6(words) {
         return Err(Refusal::PageCount);
     }
-    check_sized(words)
+    check_sized(Records { words })
 }

@@ -9,7 +9,7 @@ use borrow.Author.Tests.{not-true, not-false}
 use lib.ListN.{length, get_or, drop, set, replicate, length-set, length-replicate, length-map, get_or-map}
 use Rattle.plank_core.specs.Lists.{foldl, range, bind, keep, upto, distinct, ◌∈◌}
 use Rattle.plank_core.specs.laws.Lists.{map_each, foldl_keeps, mem_place, get_d_any, zero_at}
-use Rattle.plank_core.specs.laws.Loops.{upto_suc, range_next, range_none, map_append, distinct_few}
+use Rattle.plank_core.specs.laws.Loops.{upto_suc, range_next, map_append, distinct_few}
 use Rattle.plank_core.specs.inner.DenseIndexSet.{contains, word_of, set_of, empty_set, added, fresh}
 use Rattle.plank_core.specs.laws.Distinct.{fresh_all, fresh_step, fresh_stop, fresh_end}
 use Rattle.plank_core.specs.laws.DenseIndexSet.{length_added}
@@ -35,9 +35,6 @@ module _ (w : List ℕ) (b o last : ℕ) where
 
   pub site_skip : o < last → is_alloc (code w o) ≡ false → sites_of w b (range o last) ≡ sites_of w b (range (o + 1) last)
   site_skip h t = ap (sites_of w b) (range_next o last h) ∙ rw t
-
-  pub site_end : last ≤ o → sites_of w b (range o last) ≡ []
-  site_end h = rw (range_none o last h)
 
 pub block_sites_lem : (w : List ℕ) (b s e : ℕ) → s ≡ block_word w b 4 → e ≡ block_word w b 5 → block_sites w b ≡ sites_of w b (range s e)
 unfolding block_sites

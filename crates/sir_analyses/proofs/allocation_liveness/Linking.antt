@@ -7,13 +7,12 @@ use Prim.Native.Nat.{ℕ, suc, ◌+◌, ◌-◌, ◌≤◌, ◌<◌}
 use native.Mathlib.Omega.{arith}
 use native.Mathlib.Numerals.{add-one}
 use native.Mathlib.Decide.{ℕ_discrete, dec_lt}
-use lib.ListN.{length, get_or, set, take, length-set, get_or-eq_default, get_or-append}
+use lib.ListN.{length, get_or, set, take, length-set, get_or-eq_default}
 use lib.Seq.{get_or-set_same, get_or-set_other, take-suc, take_all}
 use lib.Dec.{eqb}
 use lib.Bits.{bit_or}
 use borrow.Author.Tests.{eq-eqb, ne_eqb}
 use Rattle.plank_core.specs.Lists.{foldl}
-use Rattle.plank_core.specs.inner.DenseIndexSet.{members}
 use Rattle.plank_core.specs.laws.Loops.{reverse_snoc}
 use Rattle.sir_analyses.specs.Liveness.{Set, has, add_all}
 use Rattle.sir_analyses.specs.Propagation.{State, link_local, mark}
@@ -233,9 +232,6 @@ links_width a [] s = record { owner_wide = refl; marks_wide = refl }
 links_width a (x ∷ xs) s = width_then (link_width a s x) (links_width a xs (link_local a s x))
 
 module _ {a : ℕ} {owner flags work : List ℕ} {n : ℕ} where
-  pub none_linked : Room owner flags work n → StepTaken [] a (link_all a []) owner flags work n owner flags work n
-  none_linked R = record { room = R; same = λ m h l S. S; cost = omega arith }
-
   -- one more of a list
   pub linked_more : {owner' flags' work' owner'' flags'' work'' : List ℕ} {k r : ℕ} (xs : List ℕ) (i : ℕ) → i < length xs
       → StepTaken (take i xs) a (link_all a (take i xs)) owner flags work n owner' flags' work' k
@@ -302,7 +298,3 @@ module _ {owner flags work : List ℕ} {n a : ℕ} (R : Room owner flags work n)
           let e : ℕ → Bool = λ c. m.flagged 0 c || (eqb c a && used 0) in
           raised_if_lem (raised_if (used 0) a 1 flags) (used 1) 2 (λ c r. flag_bits (e c) r (met c)) (m.flagged 1) (room_by (used 0) 1 R).flags_long (λ r. return_bit (e a) r (met a))
           (raised_if_lem flags (used 0) 1 (λ c e. flag_bits e (m.flagged 1 c) (met c)) (m.flagged 0) R.flags_long (λ e. escape_bit e (m.flagged 1 a) (met a)) shows)
-
--- what a walk of a set left in an array
-pub found_at : {found row row' : List ℕ} (rest : List ℕ) → found ≡ members row ++ rest → row ≡ row' → (k : ℕ) → k < length (members row') → get_or found k 0 ≡ get_or (members row') k 0
-found_at {found} {row} {row'} rest e f k h = rw (e, f) (get_or-append (members row') rest 0 k h)

@@ -21,7 +21,7 @@ use Rattle.sir_analyses.specs.inner.Stages.{part, sites_in, owners_in, flags_in,
 use Rattle.sir_analyses.proofs.stages.Parts.{part_most, part_get, part_shorter, part_drop, part_set, part_set_low, part_set_high, put_back, put_part, put_before, put_long, put_low, put_high}
 use Rattle.sir_analyses.proofs.local_liveness.LivenessTables.{cleared_part, cleared_drop}
 use Rattle.sir_analyses.proofs.claims.flags.Found.{told_is, meets_another}
-use Rattle.sir_analyses.proofs.allocation_liveness.Linking.{raised, push_room, link_new, link_same, link_other, none_linked, linked_more, linked_all, then_flagged, raised_if, flags_raised}
+use Rattle.sir_analyses.proofs.allocation_liveness.Linking.{raised, push_room, link_new, link_same, link_other, linked_more, linked_all, then_flagged, raised_if, flags_raised}
 use Rattle.sir_analyses.proofs.allocation_liveness.Following.{room_less, room_base, AllGoing, going_starts, going_on, going_ends}
 use Rattle.sir_analyses.proofs.allocation_liveness.Discovery.{sites_long}
 use Rattle.sir_analyses.proofs.allocation_liveness.Turns.{Turned, turned_starts, turned_more, turned_ends}
@@ -152,9 +152,6 @@ module _ {p : List ℕ} (R : PointerRoom p) {v a : ℕ} (hv : v < 512) (ha : a <
 module _ {a : ℕ} {p : List ℕ} where
   pub room_after : {vs : List ℕ} {step : Machine → Machine} {p' : List ℕ} → PointerStep vs a step p p' → PointerRoom p'
   room_after S = record { long = S.long; room = S.taken.room }
-
-  pub links_none : PointerRoom p → PointerStep [] a (link_all a []) p p
-  links_none R = record { long = R.long; taken = none_linked R.room; count = refl; sites = refl }
 
   pub links_more : {p' p'' : List ℕ} (xs : List ℕ) (i : ℕ) → i < length xs → PointerStep (take i xs) a (link_all a (take i xs)) p p'
       → PointerStep (get_or xs i 0 ∷ []) a (link_all a (get_or xs i 0 ∷ [])) p' p'' → PointerStep (take (i + 1) xs) a (link_all a (take (i + 1) xs)) p p''
@@ -366,9 +363,6 @@ module _ {w sites links causes : List ℕ} (A : AcceptedStage w sites) (rows : P
     sites_are = T.sites_are ∙ A.sites_are;
     discovered = turned_ends w A.well_formed A.bases_differ rows e T.turned;
   }
-
-  pub room_turned : {p : List ℕ} {i : ℕ} → TurnedTo w sites links causes p i → PointerRoom p
-  room_turned T = record { long = T.long; room = rw T.none_left T.turned.room }
 
 -- before the bases are owned
 pub owners_empty : {sites p : List ℕ} → SitesStored sites p → owners_in p ≡ replicate 512 0

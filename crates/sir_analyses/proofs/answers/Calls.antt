@@ -4,7 +4,7 @@ use mathlib.Core.Bool.{Bool, true, false, not, cond}
 use Prim.Native.Nat.{ℕ, ◌*◌, ◌≤◌, ◌<◌}
 use native.Mathlib.Omega.{arith}
 use mathlib.Core.List.{List, [], ◌∷◌, ◌++◌, append-nil}
-use lib.ListN.{length, take, drop, length-append, drop_of_length-le}
+use lib.ListN.{length, take, drop, drop_of_length-le}
 use lib.Seq.{length-take-le, take_at, drop_at}
 use lib.Dec.{eqb, ltb}
 use borrow.Author.Tests.{eq-eqb, ne_eqb, ltb-true, ltb-false}
@@ -122,6 +122,3 @@ module _ (xs out : List ℕ) where
 -- two calls in turn on the front of a slice: the second sees what the first left
 pub front_twice : (len : ℕ) (out head : List ℕ) → len ≤ length out → length head ≡ length (take len out) → (take len (head ++ drop len out) ≡ head) × (drop len (head ++ drop len out) ≡ drop len out)
 front_twice len out head h e = let l : length head ≡ len = e ∙ length-take-le len out h in (take_at head (drop len out) len l, drop_at head (drop len out) len l)
-
-pub front_fits : (len : ℕ) (out head : List ℕ) → len ≤ length out → length head ≡ length (take len out) → len ≤ length (head ++ drop len out)
-front_fits len out head h e = omega (arith, length-append head (drop len out), e ∙ length-take-le len out h)

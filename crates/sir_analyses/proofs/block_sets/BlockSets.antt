@@ -1,7 +1,7 @@
 -- What the tables of operands, of use and def sets and of predecessors hold, step by step.
 use mathlib.Core.Path.{◌≡◌, refl, sym, ap, ◌∙◌}
 use mathlib.Core.Logic.{⊎_elim}
-use mathlib.Core.Bool.{Bool, true, false, not, ◌&&◌, ◌||◌, or-true, or-false, or_comm, and-true, and_comm, and-or_distrib_left, and-false}
+use mathlib.Core.Bool.{Bool, true, false, not, ◌&&◌, ◌||◌, or-true, or-false, or_comm, and-true, and_comm, and-false}
 use mathlib.Core.List.Memᴰ
 use mathlib.Core.List.{List, [], ◌∷◌}
 use Prim.Native.Nat.{ℕ, ◌+◌, ◌*◌, ◌≤◌, ◌<◌}
@@ -10,15 +10,15 @@ use lib.ListN.{length, replicate}
 use lib.Dec.{eqb, ltb}
 use borrow.Author.Tests.{eqb-true, lt-ltb, ltb-true}
 use Rattle.plank_core.specs.Lists.{mem, ◌∈◌}
-use Rattle.plank_core.specs.laws.Lists.{split, mem_in, in_mem, mem_not, mem_append, same_tests, both_true, and_true_left, and_true_right}
+use Rattle.plank_core.specs.laws.Lists.{split, mem_in, in_mem, mem_not, same_tests, both_true, and_true_left, and_true_right}
 use Rattle.plank_core.specs.inner.DenseIndexSet.{contains, row_of, row_union, row_difference}
 use Rattle.plank_core.specs.laws.DenseIndexSet.{contains_cleared, contains_union, contains_difference, contains_row, set_union, set_difference, length_union, length_difference}
-use Rattle.sir_data.specs.Records.{blocks, operations, locals, ops, successors, condition, returned, ins, outs}
+use Rattle.sir_data.specs.Records.{blocks, operations, locals, ops, successors, condition, ins, outs}
 use Rattle.sir_data.specs.inner.WellFormed.{WellFormed}
 use Rattle.sir_analyses.specs.Order.{is_visited, predecessors}
 use Rattle.sir_analyses.specs.Liveness.{has, end_reads, read_first, use_set, def_set}
 use Rattle.sir_analyses.specs.inner.Tables.{Adds, OperandRows, RangeSets}
-use Rattle.sir_analyses.proofs.Tables.{cleared_long, adds_as, adds_then, adds_union}
+use Rattle.sir_analyses.proofs.Tables.{cleared_long, adds_as, adds_union}
 use Rattle.sir_analyses.proofs.claims.liveness.GenKill.{defined, read_after, beyond, use_length, def_length, has_use, has_def}
 use Rattle.sir_analyses.proofs.claims.order.OrderProof.{blocks_seen, blocks_below, predecessors_in, predecessors_out}
 use Rattle.sir_analyses.proofs.Accepted.{returned_below}
@@ -76,12 +76,6 @@ module _ {w : List ℕ} (good : WellFormed w) where
       let r = predecessors_out w p b (mem_in p (predecessors w b) t) in
       both_true (ltb p (blocks w)) (is_visited w p && mem b (successors w p)) (lt-ltb p (blocks w) (blocks_below w good p ((blocks_seen w p).1 r.0)))
       (both_true (is_visited w p) (mem b (successors w p)) r.0 (in_mem b r.1)))
-
--- the two kinds of what is read after the operations
-pub ends_both : (w : List ℕ) (b : ℕ) {u u₁ u₂ : List ℕ} → Adds u (λ r v. eqb r b && mem v (condition w b)) u₁ → Adds u₁ (λ r v. eqb r b && mem v (returned w b)) u₂
-    → Adds u (λ r v. eqb r b && mem v (end_reads w b)) u₂
-ends_both w b a₁ a₂ =
-    adds_as (λ r v h. sym (and-or_distrib_left (eqb r b) (mem v (condition w b)) (mem v (returned w b))) ∙ ap (λ (t : Bool). eqb r b && t) (sym (mem_append v (condition w b) (returned w b)))) (adds_then a₁ a₂)
 
 -- ---- a run of operations backwards: `os` are done
 

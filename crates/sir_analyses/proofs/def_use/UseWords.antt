@@ -135,9 +135,6 @@ condition_one w b = go (eqb (control w b) 3 || eqb (control w b) 4)
     go false = omega arith
 
 module _ (w : List ℕ) (v b : ℕ) where
-  pub condition_use_lem : mem v (condition w b) ≡ true → condition_uses w v b ≡ b ∷ 1 ∷ 0 ∷ []
-  condition_use_lem e = single v (condition w b) (λ k. b ∷ 1 ∷ 0 ∷ []) (condition_one w b) true e
-
   pub no_condition_use : mem v (condition w b) ≡ false → condition_uses w v b ≡ []
   no_condition_use e = single v (condition w b) (λ k. b ∷ 1 ∷ 0 ∷ []) (condition_one w b) false e
 

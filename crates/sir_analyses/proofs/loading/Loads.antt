@@ -1,6 +1,6 @@
 -- What reading an image and the visit of its blocks give every question.
 use mathlib.Core.Path.{◌≡◌, refl, sym, ap, ◌∙◌, subst}
-use mathlib.Core.Bool.{Bool, true, false, cond}
+use mathlib.Core.Bool.{false, cond}
 use mathlib.Core.List.{List, [], ◌∷◌, ◌++◌}
 use Prim.Native.Nat.{ℕ, ◌≤◌}
 use native.Mathlib.Omega.{arith}
@@ -27,19 +27,7 @@ use Rattle.sir_analyses.proofs.allocation_liveness.Discovery.{sites_long, sites_
 use Rattle.sir_analyses.proofs.reverse_post_order.Postorder.{blocks_rpo_lem, order_answer_lem}
 use Rattle.sir_analyses.proofs.claims.order.OrderLength.{blocks_most, order_most}
 
--- an earlier rule decides
-decided : (xs ys : List (ℕ × Bool)) → (first xs ≡ 0 → ⊥) → first (xs ++ ys) ≡ first xs
-decided [] ys n = absurd (n refl)
-decided (r ∷ xs) ys n = go r.1 refl (decided xs ys)
-  where
-    go : (t : Bool) → r.1 ≡ t → ((first xs ≡ 0 → ⊥) → first (xs ++ ys) ≡ first xs) → first (r ∷ xs ++ ys) ≡ first (r ∷ xs)
-    go true e rest = rw e
-    go false e rest = rw e (rest (λ z. n (rw e z)))
-
 module _ {s old new : List ℕ} {r : ℕ} (k : Read s old new r) where
-  pub refused_early : (r ≡ 0 → ⊥) → r ≡ refusal s
-  refused_early n = k.number ∙ sym (decided (page_rules s ++ record_rules (payload s)) ((12, rule12 (payload s)) ∷ []) (λ z. n (k.number ∙ z)))
-
   module _ (z : r ≡ 0) {n : ℕ} (long : n ≡ length (payload s)) where
     none_broken : first (page_rules s ++ record_rules (payload s)) ≡ 0
     none_broken = sym k.number ∙ z
@@ -92,18 +80,11 @@ module _ {w seen postorder : List ℕ} {n : ℕ} (good : WellFormed w) (v : Visi
   pub finished_fit : n ≤ length postorder
   finished_fit = let h = v.held in omega (arith, h.room, h.long, good.sized.functions_most, good.sized.blocks_most)
 
-pub front_length : {A : Type 0} (n : ℕ) (xs : List A) → n ≤ length xs → n ≡ length (take n xs)
-front_length n xs h = sym (length-take-le n xs h)
-
 -- the words of the order
 pub order_stage : {w seen postorder : List ℕ} {n : ℕ} → WellFormed w → VisitedAll w seen postorder n → OrderStage w (take n postorder)
 order_stage {w} {postorder = postorder} {n = n} good v =
     let e : order_in (take n postorder) ≡ order_answer w = sym (order_answer_lem w v.shows) in
     record { order_is = e; order_fits = omega (arith, ap length e, order_most w good, good.sized.functions_most, good.sized.blocks_most) }
-
--- the sites that were found fit, and are few
-pub found_few : (w : List ℕ) {old new : List ℕ} {r : ℕ} → length old ≡ 512 → r ≤ length new → Listed (alloc_sites w) 0 old new r → (take r new ≡ alloc_sites w) × (length (take r new) ≤ 512)
-found_few w h l k = (k.list, omega (arith, ap length k.list, k.next, k.long))
 
 pub accepted_stage : {w old sites : List ℕ} {a : ℕ} → WellFormed w → Listed (alloc_sites w) 0 old sites a → rule12 w ≡ false → AcceptedStage w (take a sites)
 accepted_stage {w} good found differ = record {

@@ -1,15 +1,14 @@
 -- A block's intervals of one local, as the step over its operations finds them.
 use mathlib.Core.Path.{◌≡◌, refl, sym, ap, ap₂, ◌∙◌}
 use mathlib.Core.Bool.{Bool, true, false, ◌&&◌, cond, ◌||◌}
-use mathlib.Core.List.{List, [], ◌∷◌, ◌++◌, foldr, append-nil, append_assoc}
+use mathlib.Core.List.{List, [], ◌∷◌, ◌++◌, foldr, append-nil}
 use Rattle.std.specs.Prelude.{Option, Some, None}
 use Rattle.std.specs.Bool.{then_some}
 use Rattle.std.specs.Option.{option_or}
 use Prim.Native.Nat.{ℕ, zero, suc, ◌+◌, ◌*◌, ◌≤◌, ◌<◌}
 use native.Mathlib.Omega.{arith}
 use native.Mathlib.Numerals.{add-one}
-use lib.ListN.{length, take, set, length-append, length-set}
-use lib.Seq.{take-suc-set}
+use lib.ListN.{length, take, length-append}
 use lib.Dec.{eqb}
 use borrow.Author.Tests.{ne_eqb}
 use Rattle.plank_core.specs.Lists.{mem}
@@ -28,11 +27,6 @@ end_either true true = refl
 end_either true false = refl
 end_either false true = refl
 end_either false false = refl
-
--- the same as an option
-pub then_end : (t : Bool) → then_some t block_end ≡ end_of (end_open t)
-then_end true = refl
-then_end false = refl
 
 -- ---- ends as options
 
@@ -101,17 +95,6 @@ closing_few b from to = go (eqb to 0)
     go true = omega arith
     go false = omega arith
 
-pub put_three : (out : List ℕ) (n x y z : ℕ) → n + 3 ≤ length out → take (n + 3) (set (set (set out n x) (n + 1) y) (n + 2) z) ≡ take n out ++ (x ∷ y ∷ z ∷ [])
-put_three out n x y z h =
-    let p : n + 3 ≡ suc (n + 2) = omega arith in
-    let q : n + 2 ≡ suc (n + 1) = omega arith in
-    let l₁ : length (set out n x) ≡ length out = length-set out n x in
-    let l₂ : length (set (set out n x) (n + 1) y) ≡ length out = length-set (set out n x) (n + 1) y ∙ l₁ in
-    ap (λ (k : ℕ). take k (set (set (set out n x) (n + 1) y) (n + 2) z)) p ∙ take-suc-set (set (set out n x) (n + 1) y) (n + 2) z (omega arith)
-    ∙ ap (λ (xs : List ℕ). xs ++ (z ∷ [])) (ap (λ (k : ℕ). take k (set (set out n x) (n + 1) y)) q ∙ take-suc-set (set out n x) (n + 1) y (omega arith))
-    ∙ ap (λ (xs : List ℕ). (xs ++ (y ∷ [])) ++ (z ∷ [])) (ap (λ (k : ℕ). take k (set out n x)) (add-one n) ∙ take-suc-set out n x (omega arith))
-    ∙ append_assoc (take n out ++ (x ∷ [])) (y ∷ []) (z ∷ []) ∙ append_assoc (take n out) (x ∷ []) (y ∷ z ∷ [])
-
 -- ---- a block's operations backwards: `os` are done
 
 abbrev scanned : List ℕ → ℕ → ℕ → ℕ → List ℕ → Scan
@@ -122,9 +105,6 @@ pub record Scanning (w : List ℕ) (b v end : ℕ) (os out : List ℕ) (till : O
   pub opened : till ≡ end_of (scanned w b v end os).open'
   pub count : n ≡ length (interval_words (scanned w b v end os).closed)
   pub written : take n out ≡ interval_words (scanned w b v end os).closed
-
-pub scanning_starts : {w : List ℕ} {b v end : ℕ} {os out : List ℕ} → os ≡ [] → Scanning w b v end os out (end_of end) 0
-scanning_starts e = rw e (record { opened = refl; count = refl; written = refl })
 
 module _ {w : List ℕ} {b v end : ℕ} {os out : List ℕ} {till : Option ℕ} {n : ℕ} (g : Scanning w b v end os out till n) where
   -- an interval, if one is closed, is written after the others

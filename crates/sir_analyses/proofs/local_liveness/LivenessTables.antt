@@ -2,7 +2,7 @@
 use mathlib.Core.Path.{◌≡◌, refl, sym, ap, ap₂, ◌∙◌, subst}
 use mathlib.Core.Bool.{Bool, true, false, ◌&&◌, ◌||◌}
 use mathlib.Core.List.{List, ◌++◌}
-use Prim.Native.Nat.{ℕ, ◌+◌, ◌-◌, ◌*◌, ◌≤◌, ◌<◌}
+use Prim.Native.Nat.{ℕ, ◌+◌, ◌-◌, ◌≤◌, ◌<◌}
 use native.Mathlib.Omega.{arith}
 use lib.ListN.{length, take, drop, replicate, length-replicate, replicate-append-replicate}
 use lib.Seq.{take_at, drop_at, drop-drop, take-take}
@@ -73,10 +73,6 @@ operands_none w live e = record {
   empty = cleared_drop 16384 24576 live (omega arith) e;
 }
 
--- row o is in a table of 1024 rows
-pub operation_fits : {w : List ℕ} → WellFormed w → {o : ℕ} → o < operations w → (t : List ℕ) → length t ≡ 8192 → 8 * o + 8 ≤ length t
-operation_fits good l t h = omega (arith, good.sized.operations_most)
-
 pub reads_part : (live : List ℕ) → length live ≡ 24576 → length (reads_in live) ≡ 8192
 reads_part live h = length_part 0 8192 live (omega arith)
 
@@ -93,9 +89,6 @@ module _ (w live : List ℕ) (o : ℕ) (long : length live ≡ 24576) {r : List 
 
   pub one_long : length one ≡ 24576
   one_long = put_long 0 8192 live r r_long (omega (arith, long)) ∙ long
-
-  pub one_end : 16384 ≤ length one
-  one_end = omega (arith, one_long)
 
   pub operands_added : {x : List ℕ} → Adds (writes_in one) (λ q v. eqb q o && mem v (outs w o)) x → OperandsAdded w o live (put_back 8192 8192 one x)
   operands_added {x} b =
@@ -243,11 +236,6 @@ module _ {w preds live sent : List ℕ} (P : Passing w preds live sent) where
   pub exits_part : length (exits_in live) ≡ 2048
   exits_part = length_part 22528 2048 live (omega (arith, P.long))
 
-  -- the exits as they are lent
-  pub exits_lent : length (take 2048 (drop 22528 live)) ≡ 2048
-  unfolding part
-  exits_lent = exits_part
-
   pub pass_none : PassStep w (λ e. e) live live sent false
   pass_none = record { stepped = stepped_none exits_part P.sent_long P.sent_on; long = refl; before = refl }
 
@@ -297,10 +285,6 @@ ended {w} {live₀} {live} {ends} A B X =
       ends = subst (EndRows w) (sym (put_part 20480 2048 live ends n fits)) X;
       emptied = record { long = put_long 20480 2048 live ends n fits ∙ E.long; empty = put_after 20480 2048 live ends n fits ∙ empty_from 20480 22528 live E (omega arith) (omega arith) };
     }
-
--- the part of the end sets is there, and empty
-pub ends_end : {live : List ℕ} → Emptied 20480 live → 22528 ≤ length live
-ends_end E = omega (arith, E.long)
 
 pub ends_empty : {live : List ℕ} → Emptied 20480 live → take 2048 (drop 20480 live) ≡ replicate 2048 0
 unfolding part

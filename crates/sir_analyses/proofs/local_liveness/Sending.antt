@@ -52,9 +52,6 @@ pub record TakingInputs (xs ws₀ moved₀ ws moved : List ℕ) (n i : ℕ) : Ty
   pub left : (v : ℕ) → v < 512 → contains ws v ≡ (contains ws₀ v && not (mem v (take i xs)))
   pub found : take n moved ≡ keep (wanted xs ws₀) (upto i)
 
-pub taking_starts : (xs ws moved : List ℕ) → TakingInputs xs ws moved ws moved 0 0
-taking_starts xs ws moved = record { few = omega arith; here = omega arith; set_long = refl; moved_long = refl; left = λ v h. sym (and-true (contains ws v)); found = refl }
-
 module _ {xs ws₀ moved₀ ws moved : List ℕ} {n i : ℕ} (once : distinct xs ≡ true) (wide : length ws₀ ≡ 8) (h : i < length xs) (small : get_or xs i 0 < 512) (g : TakingInputs xs ws₀ moved₀ ws moved n i) where
   abbrev v : ℕ
   v = get_or xs i 0

@@ -4,12 +4,11 @@ use mathlib.Core.Bool.{Bool, false, ◌||◌}
 use mathlib.Core.List.{List, [], ◌++◌, append-nil}
 use Prim.Native.Nat.{ℕ, zero, suc, ◌+◌, ◌-◌, ◌*◌, ◌≤◌, ◌<◌}
 use native.Mathlib.Omega.{arith}
-use lib.ListN.{length, take, drop, replicate, length-replicate}
+use lib.ListN.{length, take, drop, replicate}
 use lib.Seq.{take_at}
 use Rattle.plank_core.specs.Lists.{count, upto, keep}
 use Rattle.plank_core.specs.laws.Lists.{keep_alike, mem_upto}
 use Rattle.plank_core.specs.laws.Loops.{count_add, keep_append}
-use Rattle.plank_core.specs.laws.Members.{members_most}
 use Rattle.plank_core.specs.inner.DenseIndexSet.{contains}
 use Rattle.plank_core.specs.inner.DenseIndexSet as Words
 use Rattle.plank_core.specs.laws.DenseIndexSet.{contains_row, contains_cleared, length_row}
@@ -60,18 +59,10 @@ module _ {w : List ℕ} (good : WellFormed w) (b : ℕ) (l : b < blocks w) (exit
       → scan_words w b v (end_open (contains exits (512 * b + v) || contains ends (512 * b + v))) ≡ interval_words (block_intervals w (exit_set w b) v b)
   interval_words_lem v {ends} h e = rw (rows b v l h, e.ended b v l h)
 
--- ---- what the questions on sets put
-
-pub members_fit : (s ids : List ℕ) {r : ℕ} → r ≡ length (Words.members s) → length ids ≡ length (replicate {A = ℕ} 512 0) → r ≤ length ids
-members_fit s ids l h = omega (arith, members_most s, length-replicate {A = ℕ} 512 0)
-
 pub front_members : (s out : List ℕ) {out' : List ℕ} {n : ℕ} → n ≡ length (Words.members s) → out' ≡ Words.members s ++ drop n out → take n out' ≡ Words.members s
 front_members s out {n = n} l e = ap (take n) e ∙ take_at (Words.members s) (drop n out) n (sym l)
 
 module _ {w : List ℕ} (good : WellFormed w) {uses defs exits : List ℕ} (t : LiveRows w uses defs exits) {b : ℕ} (l : b < blocks w) where
-  pub exit_row_fits : {table : List ℕ} → table ≡ exits → 8 * b + 8 ≤ length table
-  exit_row_fits e = omega (arith, ap length e, t.exits_long, good.sized.blocks_most)
-
   pub row_answer : {set : List ℕ} → set ≡ Words.row_of exits b → (length set ≡ 8) × (Words.members set ≡ exit_answer w b)
   row_answer e = (ap length e ∙ length_row exits b (omega (arith, t.exits_long, good.sized.blocks_most)), ap Words.members e ∙ t.exit_is b l)
 

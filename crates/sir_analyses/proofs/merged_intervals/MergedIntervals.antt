@@ -1,7 +1,7 @@
 -- The sweep over words: the live set is kept whole, and met with the reach at each operation.
 use mathlib.Core.Path.{◌≡◌, refl, sym, ap, ap₂, ◌∙◌}
 use mathlib.Core.Bool.{Bool, true, false, not, ◌&&◌, ◌||◌, cond}
-use mathlib.Core.List.{List, [], ◌∷◌, ◌++◌, foldr, append_assoc}
+use mathlib.Core.List.{List, [], ◌∷◌, ◌++◌, foldr}
 use Rattle.std.specs.Prelude.{Option, Some, None}
 use Rattle.std.specs.Option.{option_or}
 use borrow.Author.Tests.{ne_eqb}
@@ -10,8 +10,7 @@ use Rattle.sir_analyses.proofs.local_intervals.Scanning.{ending_is}
 use Prim.Native.Nat.{ℕ, zero, suc, ◌+◌, ◌-◌, ◌*◌, ◌≤◌, ◌<◌}
 use native.Mathlib.Omega.{arith}
 use native.Mathlib.Numerals.{add-one}
-use lib.ListN.{length, take, drop, set, replicate, length-take, length-drop, drop_of_length-le}
-use lib.Seq.{sets-eq, drop_at, length-take-le}
+use lib.ListN.{length, take, drop, replicate, length-take, length-drop, drop_of_length-le}
 use lib.Dec.{eqb}
 use Rattle.plank_core.specs.Lists.{bind, keep, range, upto, mem, any}
 use Rattle.plank_core.specs.laws.Lists.{and_true_left, and_true_right, both_true, same_tests, any_some, any_find}
@@ -34,21 +33,6 @@ use Rattle.sir_analyses.proofs.claims.lifetimes.Scans.{live_in}
 use Rattle.sir_analyses.proofs.claims.liveness.LivenessProof.{exit_size}
 use Rattle.sir_analyses.proofs.merged_intervals.SweepProof.{has_meet, nonempty_has, has_nonempty, sweep_live, sweep_listed}
 use Rattle.sir_analyses.proofs.predecessors.Edges.{visited_step, unvisited_step, visited_end}
-
--- ---- words
-
--- three stores in front of word n
-pub three_before : (run : List ℕ) (n x y z : ℕ) → 3 ≤ n → n ≤ length run → drop (n - 3) (set (set (set run (n - 3) x) (n - 2) y) (n - 1) z) ≡ (x ∷ y ∷ z ∷ []) ++ drop n run
-three_before run n x y z l h =
-    let e₂ : n - 2 ≡ suc (n - 3) = omega arith in
-    let e₁ : n - 1 ≡ suc (suc (n - 3)) = omega arith in
-    let e₀ : n - 3 + 3 ≡ n = omega arith in
-    let t = take (n - 3) run in
-    let d = drop (n - 3 + 3) run in
-    let k : length t ≡ n - 3 = length-take-le (n - 3) run (omega arith) in
-    rw (e₂, e₁)
-    (ap (drop (n - 3)) (sets-eq (x ∷ y ∷ z ∷ []) run (n - 3) (omega arith) ∙ append_assoc t (x ∷ y ∷ z ∷ []) d) ∙ drop_at t ((x ∷ y ∷ z ∷ []) ++ d) (n - 3) k
-    ∙ ap (λ (i : ℕ). (x ∷ y ∷ z ∷ []) ++ drop i run) e₀)
 
 -- ---- live sets in words
 

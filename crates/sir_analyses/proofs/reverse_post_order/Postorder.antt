@@ -2,14 +2,14 @@
 use mathlib.Core.Path.{◌≡◌, refl, sym, ap, ap₂, ◌∙◌}
 use mathlib.Core.Bool.{Bool, true, false, cond}
 use mathlib.Core.List.{List, [], ◌∷◌, ◌++◌, map, reverse, reverse-append, reverse-cons, append-nil}
-use Prim.Native.Nat.{ℕ, suc, ◌+◌, ◌-◌, ◌/◌, ◌%◌, ◌≤◌, ◌<◌}
+use Prim.Native.Nat.{ℕ, ◌+◌, ◌-◌, ◌/◌, ◌%◌, ◌≤◌, ◌<◌}
 use native.Mathlib.Omega.{arith}
-use lib.ListN.{length, get_or, take}
-use lib.Seq.{take-suc, take_all}
+use lib.ListN.{length, take}
+use lib.Seq.{take_all}
 use lib.Dec.{eqb, leb}
 use borrow.Author.Tests.{eqb-true, eqb-false, eq-eqb, ne_eqb, leb-true, leb-false, le-ltb, lt-ltb}
 use Rattle.plank_core.specs.Lists.{bind, keep}
-use Rattle.plank_core.specs.laws.Loops.{map_append, keep_append, bind_bind, bind_same, bind_snoc, reverse_snoc}
+use Rattle.plank_core.specs.laws.Loops.{map_append, keep_append, bind_bind, bind_same, bind_snoc}
 use Rattle.sir_analyses.specs.Order.{visited, functions_rpo, function_blocks, blocks_rpo}
 use Rattle.sir_analyses.specs.Answers.{order_answer}
 use Rattle.sir_analyses.specs.inner.Visiting.{Shows, keyed_block, keyed_function, block_of, blocks_of, function_of, blocks_in, entry_of, order_in}
@@ -19,16 +19,6 @@ use Rattle.sir_analyses.specs.inner.Visiting.{Shows, keyed_block, keyed_function
 module _ (g : ℕ → List ℕ) (ks : List ℕ) where
   pub back_start : bind (reverse ks) g ≡ bind (reverse (take (length ks) ks)) g
   back_start = ap (λ (l : List ℕ). bind (reverse l) g) (sym (take_all (length ks) ks (omega arith)))
-
-  pub back_next : (i : ℕ) → 0 < i → i ≤ length ks → bind (reverse (take i ks)) g ≡ g (get_or ks (i - 1) 0) ++ bind (reverse (take (i - 1) ks)) g
-  back_next i h l =
-      let e : i ≡ suc (i - 1) = omega arith in
-      ap (λ (n : ℕ). bind (reverse (take n ks)) g) e
-      ∙ ap (λ (x : List ℕ). bind (reverse x) g) (take-suc ks (i - 1) 0 (omega arith))
-      ∙ ap (λ (x : List ℕ). bind x g) (reverse_snoc (take (i - 1) ks) (get_or ks (i - 1) 0))
-
-  pub back_end : (i : ℕ) → i ≤ 0 → bind (reverse (take i ks)) g ≡ []
-  back_end i h = let e : i ≡ 0 = omega arith in rw e
 
 -- ---- the order is what the keys say
 

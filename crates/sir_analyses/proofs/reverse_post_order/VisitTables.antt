@@ -1,12 +1,11 @@
 -- The visit in its flat array: the order's sequence, and which blocks were visited.
 use mathlib.Core.Path.{◌≡◌, sym, ap, ◌∙◌}
-use mathlib.Core.Bool.{true, false, not}
+use mathlib.Core.Bool.{not}
 use mathlib.Core.List.{List}
 use Prim.Native.Nat.{ℕ, ◌+◌, ◌≤◌, ◌<◌}
 use native.Mathlib.Omega.{arith}
-use native.Mathlib.Decide.{ℕ_discrete}
 use lib.ListN.{length, get_or, set, take, replicate, length-set, length-replicate, get_or-replicate}
-use lib.Seq.{get_or-set_same, get_or-set_other}
+use lib.Seq.{get_or-set_same}
 use lib.Dec.{eqb}
 use Rattle.plank_core.specs.Lists.{one_if}
 use Rattle.plank_core.specs.inner.DenseIndexSet.{contains}
@@ -33,32 +32,6 @@ flags_none seen flags e = record {
   told = λ i h. absurd (omega arith);
   empty = λ i h l. ap (λ (t : List ℕ). get_or t i 0) e ∙ get_or-replicate 256 i 0 0 l;
 }
-
-module _ {seen flags : List ℕ} {b : ℕ} (F : FlagsTo seen flags b) (h : b < 256) where
-  pub flags_seen : contains seen (512 + b) ≡ true → FlagsTo seen (set flags b 1) (b + 1)
-  flags_seen t = record {
-    long = length-set flags b 1 ∙ F.long;
-    told = λ i l. here i l (ℕ_discrete i b);
-    empty = λ i l m. get_or-set_other flags b i 1 0 (λ q. omega arith) ∙ F.empty i (omega arith) m;
-  }
-    where
-      here : (i : ℕ) → i < b + 1 → Dec (i ≡ b) → get_or (set flags b 1) i 0 ≡ one_if (contains seen (512 + i))
-      here i l (yes q) = rw q (get_or-set_same flags b 1 0 (omega (arith, F.long)) ∙ sym (ap one_if t))
-      here i l (no q) = get_or-set_other flags b i 1 0 q ∙ F.told i (omega arith)
-
-  pub flags_unseen : contains seen (512 + b) ≡ false → FlagsTo seen flags (b + 1)
-  flags_unseen t = record {
-    long = F.long;
-    told = λ i l. here i l (ℕ_discrete i b);
-    empty = λ i l m. F.empty i (omega arith) m;
-  }
-    where
-      here : (i : ℕ) → i < b + 1 → Dec (i ≡ b) → get_or flags i 0 ≡ one_if (contains seen (512 + i))
-      here i l (yes q) = rw q (F.empty b (omega arith) h ∙ sym (ap one_if t))
-      here i l (no q) = F.told i (omega arith)
-
-pub flags_all : {seen flags : List ℕ} {b n : ℕ} → FlagsTo seen flags b → n ≤ b → (length flags ≡ 256) × ((i : ℕ) → i < n → get_or flags i 0 ≡ one_if (contains seen (512 + i)))
-flags_all F h = (F.long, λ i l. F.told i (omega arith))
 
 -- ---- the whole visit
 

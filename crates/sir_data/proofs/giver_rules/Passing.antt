@@ -1,8 +1,8 @@
 -- One pass over some locals with a set of those passed: what holds between two steps, and what a step does to it.
-use Rattle.std.proofs.Common.{◌≡◌, ℕ, ◌+◌, ◌<◌, ◌≤◌, true, false, ◌&&◌, List, [], ◌++◌, length, sym, refl, ◌∙◌, arith}
+use Rattle.std.proofs.Common.{◌≡◌, ℕ, ◌+◌, ◌<◌, ◌≤◌, true, false, ◌&&◌, List, ◌++◌, length, sym, ◌∙◌, arith}
 use Rattle.plank_core.specs.Lists.{range, upto, bind, ◌∈◌}
 use Rattle.plank_core.specs.laws.Lists.{mem_range, bind_out}
-use Rattle.plank_core.specs.laws.Loops.{range_all, range_next, range_none}
+use Rattle.plank_core.specs.laws.Loops.{range_next}
 use Rattle.plank_core.specs.inner.DenseIndexSet.{added, added_all, fresh}
 use Rattle.plank_core.specs.laws.Folds.{foldl_append}
 use Rattle.plank_core.specs.laws.Distinct.{fresh_append, length_added_all}
@@ -16,44 +16,29 @@ pub record Passing (before xs now left : List ℕ) : Type 0 where
 abbrev pub Locals : List ℕ → Type 0
 Locals xs = (v : ℕ) → v ∈ xs → v < 512
 
-module _ {before xs : List ℕ} where
-  -- nothing is passed yet
-  pub start : length before ≡ 8 → Passing before xs before xs
-  start wide = record { wide = wide; new = refl; adds = refl }
+module _ {before xs now : List ℕ} (ys left : List ℕ) (fit : Locals (ys ++ left)) (p : Passing before xs now (ys ++ left)) where
+  -- those to come now, and then those left
+  parted : fresh now (ys ++ left) ≡ (fresh now ys && fresh (added_all now ys) left)
+  parted = fresh_append now ys left (λ v m. omega (arith, fit v m, p.wide))
 
-  -- nothing is left
-  pub end : {now : List ℕ} → Passing before xs now [] → (true ≡ fresh before xs) × (now ≡ added_all before xs)
-  end p = (p.new, p.adds)
+  -- they are new, and go into the set
+  pub step : {next : List ℕ} → fresh now ys ≡ true → next ≡ added_all now ys → Passing before xs next left
+  step e more =
+      record {
+        wide = rw more (length_added_all now ys ∙ p.wide);
+        new = rw more (sym (parted ∙ rw e)) ∙ p.new;
+        adds = rw more (sym (foldl_append added now ys left)) ∙ p.adds;
+      }
 
-  module _ {now : List ℕ} (ys left : List ℕ) (fit : Locals (ys ++ left)) (p : Passing before xs now (ys ++ left)) where
-    -- those to come now, and then those left
-    parted : fresh now (ys ++ left) ≡ (fresh now ys && fresh (added_all now ys) left)
-    parted = fresh_append now ys left (λ v m. omega (arith, fit v m, p.wide))
-
-    -- they are new, and go into the set
-    pub step : {next : List ℕ} → fresh now ys ≡ true → next ≡ added_all now ys → Passing before xs next left
-    step e more =
-        record {
-          wide = rw more (length_added_all now ys ∙ p.wide);
-          new = rw more (sym (parted ∙ rw e)) ∙ p.new;
-          adds = rw more (sym (foldl_append added now ys left)) ∙ p.adds;
-        }
-
-    -- one of them is not
-    pub stop : fresh now ys ≡ false → false ≡ fresh before xs
-    stop e = sym (parted ∙ rw e) ∙ p.new
+  -- one of them is not
+  pub stop : fresh now ys ≡ false → false ≡ fresh before xs
+  stop e = sym (parted ∙ rw e) ∙ p.new
 
 -- ---- the runs that f has for 0, .., n - 1: those from i on are left
 
 module _ (before : List ℕ) (f : ℕ → List ℕ) (n : ℕ) where
   abbrev pub PassingRuns : List ℕ → ℕ → Type 0
   PassingRuns now i = (i ≤ n) × Passing before (bind (upto n) f) now (bind (range i n) f)
-
-  pub start_runs : length before ≡ 8 → PassingRuns before 0
-  start_runs wide = (omega arith, rw range_all (start wide))
-
-  pub end_runs : {now : List ℕ} {i : ℕ} → n ≤ i → PassingRuns now i → (true ≡ fresh before (bind (upto n) f)) × (now ≡ added_all before (bind (upto n) f))
-  end_runs {i = i} h p = end (rw (range_none i n h) at p.1)
 
   module _ {now : List ℕ} {i : ℕ} (small : (j : ℕ) → j < n → Locals (f j)) (h : i < n) (p : PassingRuns now i) where
     abbrev rest : List ℕ

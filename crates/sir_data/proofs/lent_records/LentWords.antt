@@ -1,5 +1,5 @@
 -- Lent records read into words: their head, and all of them.
-use Rattle.std.proofs.Common.{◌≡◌, ℕ, zero, suc, ◌+◌, ◌-◌, ◌*◌, ◌/◌, ◌%◌, ◌≤◌, Bool, false, cond, List, [], ◌∷◌, ◌++◌, length, take, drop, replicate, sym, refl, ap, ◌∙◌, subst, arith, length-append, length-drop, length-take-le, get_or-take, ext_get_or, le-ltb, eq-eqb}
+use Rattle.std.proofs.Common.{◌≡◌, ℕ, zero, suc, ◌-◌, ◌*◌, ◌/◌, ◌%◌, ◌≤◌, Bool, false, cond, List, [], ◌∷◌, ◌++◌, length, take, drop, replicate, sym, refl, ap, ◌∙◌, subst, arith, length-append, length-drop, length-take-le, get_or-take, ext_get_or, le-ltb, eq-eqb}
 use lib.ListN.{length-replicate, get_or-append}
 use Rattle.sir_data.specs.Pages.{word_at, pages_for}
 use Rattle.sir_data.specs.Records.{word, word_count}
@@ -8,7 +8,7 @@ use Rattle.sir_data.specs.Paging.{words_of, bad_records, unfit, padded}
 use Rattle.sir_data.specs.inner.WellFormed.{Sized}
 use Rattle.sir_data.specs.inner.LentRecords.{fit_rules, Lent}
 use Rattle.sir_data.specs.laws.Rules.{by_later, by_earlier}
-use Rattle.sir_data.specs.laws.Bytes.{length_words, words_at}
+use Rattle.sir_data.specs.laws.Bytes.{length_words, words_at, word_part}
 use Rattle.sir_data.specs.laws.Paging.{zeros_after, padded_word, padded_length}
 use Rattle.sir_data.specs.laws.LentRecords as L
 
@@ -23,7 +23,7 @@ module _ (r : List ℕ) (some : 36 ≤ length r) where
 
   -- a word of the first nine
   front_word : (i : ℕ) → i ≤ 8 → word_at front i ≡ word_at r i
-  front_word i h = rw (get_or-take 36 r (4 * i) 0 (omega arith), get_or-take 36 r (4 * i + 1) 0 (omega arith), get_or-take 36 r (4 * i + 2) 0 (omega arith), get_or-take 36 r (4 * i + 3) 0 (omega arith))
+  front_word i h = word_part r 0 36 i (omega arith) ∙ ap (word_at r) (omega arith)
 
   module _ {head : List ℕ} (copied : head ≡ words_of front ++ drop (length front / 4) (replicate 9 0)) where
     head_word : (i : ℕ) → i ≤ 8 → word head i ≡ word (padded (words_of r)) i

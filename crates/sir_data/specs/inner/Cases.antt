@@ -2,6 +2,7 @@
 use Rattle.std.specs.Prelude.{◌≡◌, ℕ, ◌<◌, List, [], ◌∷◌, Option, Some, None, Result, MatchResult}
 use Rattle.plank_core.specs.declared.index.LocalId.{LocalId}
 use Rattle.plank_core.specs.declared.index.FunctionId.{FunctionId}
+use Rattle.plank_core.specs.declared.index.BlockId.{BlockId}
 use Rattle.sir_data.specs.declared.control.Control.{Control}
 use Rattle.sir_data.specs.declared.control.Control.TheVariants.{LastOpTerminates, InternalReturn, ContinuesTo, Branches, Switch}
 use Rattle.sir_data.specs.declared.control.UnknownControl.{UnknownControl}
@@ -15,6 +16,11 @@ tested_locals None = []
 abbrev pub function_ids : Option FunctionId → List ℕ
 function_ids (Some f) = f.0 ∷ []
 function_ids None = []
+
+-- one block or none
+abbrev pub block_ids : Option BlockId → List ℕ
+block_ids (Some b) = b.0 ∷ []
+block_ids None = []
 
 -- the control kind of a block's record
 abbrev pub kind_of : Control → ℕ

@@ -1,9 +1,9 @@
 -- Words as bytes, and bytes as words.
-use Rattle.std.specs.Prelude.{◌≡◌, ℕ, zero, suc, ◌+◌, ◌*◌, ◌/◌, ◌%◌, ◌^◌, ◌<◌, ◌≤◌, List, [], ◌∷◌, length, slice_index, refl}
-use Rattle.std.proofs.Common.{sym, ap, ◌∙◌, arith, mod-eq_of_lt, ext_get_or}
+use Rattle.std.specs.Prelude.{◌≡◌, ℕ, zero, suc, ◌+◌, ◌*◌, ◌/◌, ◌%◌, ◌^◌, ◌<◌, ◌≤◌, List, [], ◌∷◌, map, length, take, drop, slice_index, refl}
+use Rattle.std.proofs.Common.{sym, ap, ◌∙◌, arith, mod-eq_of_lt, ext_get_or, get_or-take, get_or-drop, length-drop, length-take-le}
 use Rattle.std.proofs.Math.Nat.{div-div-eq-div-mul}
-use Rattle.plank_core.specs.Lists.{bind}
-use Rattle.plank_core.specs.laws.Loops.{length_map_upto, get_or_map_upto}
+use Rattle.plank_core.specs.Lists.{bind, upto}
+use Rattle.plank_core.specs.laws.Loops.{length_map_upto, get_or_map_upto, map_same}
 use Rattle.plank_core.specs.laws.Folds.{bind_long, bind_at}
 use Rattle.sir_data.specs.Pages.{word_at, bytes_of}
 use Rattle.sir_data.specs.Paging.{words_of}
@@ -46,6 +46,23 @@ length_words s = length_map_upto (word_at s) (length s / 4)
 pub words_at : (s : List ℕ) (i : ℕ) → i < length s / 4 → slice_index (words_of s) i ≡ word_at s i
 unfolding words_of
 words_at s i l = get_or_map_upto (word_at s) (length s / 4) i 0 l
+
+-- word i of n bytes from word a on
+pub word_part : (s : List ℕ) (a n i : ℕ) → 4 * i + 4 ≤ n → word_at (take n (drop (4 * a) s)) i ≡ word_at s (a + i)
+word_part s a n i h =
+    let byte : (k : ℕ) → k < 4 → slice_index (take n (drop (4 * a) s)) (4 * i + k) ≡ slice_index s (4 * (a + i) + k) =
+    λ k l. get_or-take n (drop (4 * a) s) (4 * i + k) 0 (omega arith) ∙ get_or-drop (4 * a) s (4 * i + k) 0 ∙ ap (λ (j : ℕ). slice_index s j) (omega arith) in
+    let e : 4 * i + 0 ≡ 4 * i = omega arith in
+    let f : 4 * (a + i) + 0 ≡ 4 * (a + i) = omega arith in
+    let first = rw (e, f) at (byte 0 (omega arith)) in
+    rw (first, byte 1 (omega arith), byte 2 (omega arith), byte 3 (omega arith))
+
+-- n words from word a on
+pub words_part : (s : List ℕ) (a n : ℕ) → 4 * a + 4 * n ≤ length s → words_of (take (4 * n) (drop (4 * a) s)) ≡ map (λ i. word_at s (a + i)) (upto n)
+unfolding words_of
+words_part s a n h =
+    let l : length (take (4 * n) (drop (4 * a) s)) / 4 ≡ n = omega (arith, length-take-le (4 * n) (drop (4 * a) s), length-drop (4 * a) s) in
+    rw l (map_same (word_at (take (4 * n) (drop (4 * a) s))) (λ i. word_at s (a + i)) n (λ i k. word_part s a (4 * n) i (omega arith)))
 
 pub words_back : (ws : List ℕ) → Words ws → words_of (bind ws bytes_of) ≡ ws
 words_back ws h =

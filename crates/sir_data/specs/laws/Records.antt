@@ -1,10 +1,13 @@
 -- What the readers of records share: runs as parts of the words, and successors by place.
-use Rattle.std.specs.Prelude.{◌≡◌, ℕ, zero, suc, ◌+◌, ◌-◌, ◌<◌, ◌≤◌, Bool, true, false, List, [], ◌∷◌, ◌++◌, map, length, take, drop, ◌==◌, slice_index, refl}
-use Rattle.std.proofs.Common.{sym, ap, ◌∙◌, arith, add-suc, length-append, drop-cons, get_or-append-add, eqb-true, ne_eqb}
+use Rattle.std.specs.Prelude.{◌≡◌, ℕ, zero, suc, ◌+◌, ◌-◌, ◌<◌, ◌≤◌, Bool, true, false, List, [], ◌∷◌, ◌++◌, map, length, take, drop, ◌==◌, slice_index, refl, Option, Some, None}
+use Rattle.std.proofs.Common.{sym, ap, ◌∙◌, arith, rules, get_or, add-suc, length-append, drop-cons, get_or-append-add, eqb-true, ne_eqb}
 use Rattle.std.proofs.Math.ListN.{get_or-append}
+use Rattle.std.specs.Option.{IsSome}
+use Rattle.plank_core.specs.declared.index.BlockId.{BlockId}
 use Rattle.plank_core.specs.Lists.{count}
 use Rattle.plank_core.specs.laws.Loops.{length_map_count, get_or_map_count}
 use Rattle.sir_data.specs.Records.{operands_at, operand_words, target, run, control, field, optional, successors}
+use Rattle.sir_data.specs.inner.Cases.{block_ids}
 use Rattle.sir_data.specs.inner.WellFormed.{Sized}
 
 -- ---- runs
@@ -33,6 +36,18 @@ optional_one (suc n) f e = ap suc (sym (ap (λ (l : List ℕ). slice_index l 0) 
 pub optional_some : (k : ℕ) → ¬ (k ≡ 0) → length (optional k) ≡ 1
 optional_some zero h = absurd (h refl)
 optional_some (suc k) h = refl
+
+-- a block that is named as one or none is there where the number is not 0, and it is one less
+pub block_some : (r : Option BlockId) (k : ℕ) → block_ids r ≡ optional k → 0 < k → IsSome r
+block_some (Some b) k e h = search rules
+block_some None zero e h = absurd (omega (arith, h))
+block_some None (suc k) e h = absurd (omega (arith, ap length e))
+
+pub block_named : (b : BlockId) (k : ℕ) → block_ids (Some b) ≡ optional k → 0 < k → b.0 ≡ k - 1
+block_named b zero e h = absurd (omega (arith, h))
+block_named b (suc k) e h =
+    let same : b.0 ≡ k = ap (λ (l : List ℕ). get_or l 0 0) e in
+    omega (arith, same)
 
 -- past the others: the one more
 pub optional_last : (xs : List ℕ) (k i : ℕ) → length xs ≤ i → i < length (xs ++ optional k) → (0 < k) × (slice_index (xs ++ optional k) i ≡ k - 1)

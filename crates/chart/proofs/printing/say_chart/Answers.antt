@@ -7,13 +7,9 @@ use Rattle.sir_analyses.proofs.claims.chart.ChartProof.{series_most}
 use Rattle.sir_answers.proofs.chart_columns.ColumnLaws.{sites_few}
 use Rattle.chart.proofs.printing.say_chart.Goals as goal
 
-pub alloc_sites-requires : goal.alloc_sites-requires
-alloc_sites-requires g c =
-    (c.requires.pointer_stage.long, c.requires.pointer_stage.few)
-
 pub series_count-count-requires : goal.series_count-count-requires
 series_count-count-requires g c =
-    omega (arith, ap length c.alloc_sites.ensures, sites_few c.requires.pointer_stage)
+    omega (arith, ap length (rw c.pointed.ensures.1 at c.sites.ensures), sites_few c.args.tables.pointer_stage)
 
 pub loop-series-init : goal.loop-series-init
 loop-series-init g c = length-replicate {A = ℕ} 74825 0
@@ -24,8 +20,8 @@ slice_bounds-say_blocks-end g c =
 
 pub say_blocks-requires : goal.say_blocks-requires
 say_blocks-requires g c =
-    let eight : c.series_count-count.result ≤ 8 = rw c.series_count-count.ensures (series_most (length c.alloc_sites.result.now) (omega (arith, ap length c.alloc_sites.ensures, sites_few c.requires.pointer_stage))) in
-    record { visit_stage = c.requires.visit_stage; liveness_stage = c.requires.liveness_stage; pointer_stage = (c.requires.pointer_stage, omega (arith, eight, c.loop-series-test.true), c.loop-series.invariant) }
+    let eight : c.series_count-count.result ≤ 8 = rw c.series_count-count.ensures (series_most (length c.sites.result.now) (omega (arith, ap length (rw c.pointed.ensures.1 at c.sites.ensures), sites_few c.args.tables.pointer_stage))) in
+    record { series_bound = omega (arith, eight, c.loop-series-test.true); out_len = c.loop-series.invariant }
 
 pub slice_bounds-say_filling-end : goal.slice_bounds-say_filling-end
 slice_bounds-say_filling-end g c =
@@ -33,7 +29,7 @@ slice_bounds-say_filling-end g c =
 
 pub say_filling-requires : goal.say_filling-requires
 say_filling-requires g c =
-    record { visit_stage = c.requires.visit_stage; out_len = omega (arith, c.say_blocks.auto, c.loop-series.invariant) }
+    record { out_len = omega (arith, c.say_blocks.auto, c.loop-series.invariant) }
 
 pub loop-series-preserved : goal.loop-series-preserved
 loop-series-preserved g c =

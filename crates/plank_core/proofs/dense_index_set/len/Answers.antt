@@ -10,9 +10,6 @@ use Rattle.plank_core.proofs.dense_index_set.len.Goals as goal
 pub loop-word-init : goal.loop-word-init
 loop-word-init c = (omega arith, zero-add _ ∙ ap length (from_start _))
 
-pub overflow_cast-n : goal.overflow_cast-n
-overflow_cast-n c = omega (arith, ones-le 64 _ (c.type_inv.set c.loop-word.word-index).fits)
-
 pub overflow_add-n : goal.overflow_add-n
 overflow_add-n c = let l = c.loop-word in omega (arith, members_most c.args.set.now, l.invariant.1, ones-le 64 _ (c.type_inv.set l.word-index).fits)
 

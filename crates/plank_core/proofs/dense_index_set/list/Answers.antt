@@ -3,7 +3,7 @@ use mathlib.Core.Path.{◌≡◌}
 use mathlib.Core.List.{◌∷◌, ◌++◌}
 use Prim.Native.Nat.{◌+◌, ◌*◌, ◌-◌}
 use lib.Bits.{bit_and}
-use lib.Count.{count_trailing_zeros, trailing_le}
+use lib.Count.{count_trailing_zeros}
 use Rattle.plank_core.specs.laws.Bits.{cleared_less}
 use Rattle.plank_core.specs.laws.Members.{digits_from, from, from_word, left_none, left_lowest, Walked, walk_starts, walk_on, walk_part, walk_join, walk_room, walk_step, walk_done}
 use native.Mathlib.Omega.{arith}
@@ -23,23 +23,14 @@ next : (c : goal.In-loop-w)
     ++ from c.args.set.now (c.loop-at.at + 1)))
 next c = walk_on (left_lowest _ _ _ c.loop-w-test.true c.loop-w.invariant.0) c.loop-w.invariant.3
 
-pub overflow_add-out : goal.overflow_add-out
-overflow_add-out c = omega (arith, trailing_le 64 c.loop-w.w)
-
 pub bounds-out-n : goal.bounds-out-n
 bounds-out-n c = omega (arith, walk_room c.loop-w.invariant.1 (next c), c.loop-w.invariant.3.long, c.loop-w.invariant.3.room)
-
-pub loop-w-smaller : goal.loop-w-smaller
-loop-w-smaller c = cleared_less _ c.loop-w-test.true
 
 pub loop-w-preserved : goal.loop-w-preserved
 loop-w-preserved c = (omega (arith, cleared_less _ c.loop-w-test.true), omega (arith, walk_room c.loop-w.invariant.1 (next c)), omega arith, walk_step c.loop-w.invariant.1 (next c))
 
 pub loop-at-preserved : goal.loop-at-preserved
 loop-at-preserved c = (omega arith, c.loop-w.invariant.1, walk_join c.loop-w.invariant.2 c.loop-at.invariant.2 (walk_on (left_none _ _ _ c.loop-w-test.false) c.loop-w.invariant.3))
-
-pub shape_of-out : goal.shape_of-out
-shape_of-out c = c.loop-at.invariant.2.long
 
 pub returns : goal.returns
 returns c = let e : c.loop-at.at ≡ 8 = omega arith in walk_done c.loop-at.invariant.1 (rw e at c.loop-at.invariant.2)

@@ -18,9 +18,6 @@ loop-k-preserved c = let l = c.loop-k in
       λ h. row_to_fit minus a.table.now a.row a.set.now l.k l.invariant.2 l.invariant.3 (λ j. (c.slice_known-1.given j).fits) (λ j. (c.type_inv.set j).fits),
     )
 
-pub shape_of-table : goal.shape_of-table
-shape_of-table c = c.loop-k.invariant.1
-
 pub returns : goal.returns
 returns c = let e : c.loop-k.k ≡ 8 = omega arith in
     let a = c.args in

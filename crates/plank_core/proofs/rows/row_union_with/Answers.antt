@@ -23,9 +23,6 @@ loop-k-preserved c = let l = c.loop-k in
       elim c.if-new-old.branch [ then-new-old w ↦ w.grew-is ∙ changes_next a.table.now a.row a.set.now l.k false l.invariant.2 l.invariant.4 (ne_eqb _ _ w.if-new-old.true) | else-new-old w ↦ w.grew-is ∙ changes_next a.table.now a.row a.set.now l.k true l.invariant.2 l.invariant.4 (eq-eqb _ _ w.if-new-old.false) ],
     )
 
-pub shape_of-table : goal.shape_of-table
-shape_of-table c = c.loop-k.invariant.1
-
 pub returns : goal.returns
 returns c = let e : c.loop-k.k ≡ 8 = omega arith in
     let a = c.args in

@@ -1,5 +1,5 @@
 -- `allocation_too_long` meets its contract.
-use mathlib.Core.Path.{refl, sym, ap, ◌∙◌}
+use mathlib.Core.Path.{refl, sym, ◌∙◌}
 use Prim.Native.Nat.{◌<◌}
 use native.Mathlib.Omega.{arith}
 use lib.ListN.{length}
@@ -11,33 +11,33 @@ use Rattle.report_lines.proofs.counting.allocation_too_long.Goals as goal
 
 pub loop-a-init : goal.loop-a-init
 loop-a-init c =
-    (refl, allocations_start c.args.words.now)
+    (refl, allocations_start c.args.tables.image.words.now)
 
 pub overflow_cast-a : goal.overflow_cast-a
 overflow_cast-a c =
-    omega (arith, c.loop-a-test.true, ap length c.alloc_sites-count.ensures, sites_most c.requires.pointer_stage.0)
+    omega (arith, c.loop-a-test.true, sites_most c.args.tables.pointer_stage (rw c.pointed.ensures.1 at c.sites-count.ensures))
 
-pub allocation_answer-requires-clause-pointer_stage : goal.allocation_answer-requires-clause-pointer_stage
-allocation_answer-requires-clause-pointer_stage c =
-    (c.requires.pointer_stage.0, omega (arith, c.loop-a-test.true, sites_count c.requires.pointer_stage.0 (ap length c.alloc_sites-count.ensures)))
+pub allocation_answer-requires : goal.allocation_answer-requires
+allocation_answer-requires c =
+    omega (arith, c.loop-a-test.true, sites_count c.args.tables.pointer_stage (rw c.pointed.ensures.1 at c.sites-count.ensures))
 
 pub returns-then-is_err : goal.returns-then-is_err
 returns-then-is_err c =
-    let w = c.args.words.now in
+    let w = c.args.tables.image.words.now in
     let L = c.loop-a in
-    let l : L.a < length (allocs w) = omega (arith, c.loop-a-test.true, sites_count c.requires.pointer_stage.0 (ap length c.alloc_sites-count.ensures)) in
-    let long = sym (refused_long (allocation_answer w L.a) L.out c.allocation_answer.result (L.invariant.0 ∙ c.requires.pointer_stage.1) c.allocation_answer.ensures) ∙ sym c.is_err.ensures.value ∙ c.if-is_err.true in
+    let l : L.a < length (allocs w) = omega (arith, c.loop-a-test.true, sites_count c.args.tables.pointer_stage (rw c.pointed.ensures.1 at c.sites-count.ensures)) in
+    let long = sym (refused_long (allocation_answer w L.a) L.out c.allocation_answer.result (L.invariant.0 ∙ c.requires.out_len) c.allocation_answer.ensures) ∙ sym c.is_err.ensures.value ∙ c.if-is_err.true in
     sym (any_stop (long_allocation w) L.a (length (allocs w)) l long) ∙ L.invariant.1
 
 pub loop-a-preserved : goal.loop-a-preserved
 loop-a-preserved c =
-    let w = c.args.words.now in
+    let w = c.args.tables.image.words.now in
     let L = c.loop-a in
-    let l : L.a < length (allocs w) = omega (arith, c.loop-a-test.true, sites_count c.requires.pointer_stage.0 (ap length c.alloc_sites-count.ensures)) in
-    let short = sym (refused_long (allocation_answer w L.a) L.out c.allocation_answer.result (L.invariant.0 ∙ c.requires.pointer_stage.1) c.allocation_answer.ensures) ∙ sym c.is_err.ensures.value ∙ c.if-is_err.false in
+    let l : L.a < length (allocs w) = omega (arith, c.loop-a-test.true, sites_count c.args.tables.pointer_stage (rw c.pointed.ensures.1 at c.sites-count.ensures)) in
+    let short = sym (refused_long (allocation_answer w L.a) L.out c.allocation_answer.result (L.invariant.0 ∙ c.requires.out_len) c.allocation_answer.ensures) ∙ sym c.is_err.ensures.value ∙ c.if-is_err.false in
     (omega (arith, c.allocation_answer.auto, L.invariant.0), any_step (long_allocation w) L.a (length (allocs w)) l short ∙ L.invariant.1)
 
 pub returns : goal.returns
 returns c =
-    let w = c.args.words.now in
-    sym (any_end (long_allocation w) c.loop-a.a (length (allocs w)) (omega (arith, c.loop-a-test.false, sites_count c.requires.pointer_stage.0 (ap length c.alloc_sites-count.ensures)))) ∙ c.loop-a.invariant.1
+    let w = c.args.tables.image.words.now in
+    sym (any_end (long_allocation w) c.loop-a.a (length (allocs w)) (omega (arith, c.loop-a-test.false, sites_count c.args.tables.pointer_stage (rw c.pointed.ensures.1 at c.sites-count.ensures)))) ∙ c.loop-a.invariant.1

@@ -8,4 +8,4 @@ use Rattle.report_lines.proofs.TooLong.{long_allocation}
 use Rattle.report_lines.proofs.counting.allocation_too_long.Given as goal
 
 abbrev pub invariant-loop-a : goal.invariant-loop-a
-invariant-loop-a l = (length l.out ≡ length l.initial.out) × (any (long_allocation l.words) (range l.a (length (allocs l.words))) ≡ allocation_too_long l.words)
+invariant-loop-a l = (length l.out ≡ length l.initial.out) × (any (long_allocation l.tables.image.words.now) (range l.a (length (allocs l.tables.image.words.now))) ≡ allocation_too_long l.tables.image.words.now)

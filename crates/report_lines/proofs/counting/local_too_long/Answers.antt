@@ -11,5 +11,5 @@ use Rattle.report_lines.proofs.counting.local_too_long.Goals as goal
 pub returns : goal.returns
 unfolding local_too_long
 returns c =
-    let w = c.args.words.now in
+    let w = c.args.analysed.image.words.now in
     any_range (long_local w) 0 c.local_count.result (locals w) (omega (arith, c.local_count.ensures)) c.any.result c.any.ensures.ran (λ x t q k. search (rules, tests, long_is))

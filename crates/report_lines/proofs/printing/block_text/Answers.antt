@@ -13,13 +13,13 @@ pub invariant_of-result : goal.invariant_of-result
 invariant_of-result c = record {
   exit_long =
       ap length c.row_of.ensures
-      ∙ length_row c.exits.result.now c.args.b.0 (omega (arith, ap length c.exits.ensures ∙ c.requires.liveness_stage.sets.exits_long, c.requires.b_bound.0, c.requires.liveness_stage.well_formed.sized.blocks_most));
+      ∙ length_row c.exits.result.now c.args.b.0 (omega (arith, ap length c.exits.ensures ∙ c.args.sets.liveness_stage.sets.exits_long, c.requires.b_bound.0, c.args.sets.liveness_stage.well_formed.sized.blocks_most));
 }
 
 pub returns : goal.returns
 unfolding block_text
 returns c =
-    let rows = c.requires.liveness_stage.sets in
+    let rows = c.args.sets.liveness_stage.sets in
     let b : ℕ = c.args.b.0 in
     rw (
       rows.entry_is b c.requires.b_bound.0 c.requires.b_bound.1 c.compute_liveness_at_block_entry.result.words c.compute_liveness_at_block_entry.ensures.1,

@@ -5,4 +5,4 @@ use Rattle.report_lines.proofs.printing.order_text.Goals as goal
 
 pub returns : goal.returns
 unfolding order_text
-returns c = ap order_line (c.rpo.ensures ∙ c.requires.visit_stage.rpo_is)
+returns c = ap order_line (c.rpo.ensures ∙ c.args.visited.visit_stage.rpo_is)

@@ -20,5 +20,5 @@ returns g c =
     either (refusal s) (cond (some_too_long (payload s)) 14 0) (refused c.print_loaded.result.accepted) c.print_loaded.ensures.unloaded
     (λ z.
     let k = c.print_loaded.ensures.loaded z in
-    let ends : refused c.print_loaded.result.accepted ≡ cond (some_too_long k.0.now) 14 0 = search rules in
-    ends ∙ ap (λ w. cond (some_too_long w) 14 0) k.3)
+    let ends : refused c.print_loaded.result.accepted ≡ cond (some_too_long k.0.image.words.now) 14 0 = search rules in
+    ends ∙ ap (λ w. cond (some_too_long w) 14 0) k.1)

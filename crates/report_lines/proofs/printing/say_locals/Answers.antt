@@ -7,5 +7,5 @@ use Rattle.report_lines.proofs.printing.say_locals.Goals as goal
 
 pub local_text-requires-clause-v_bound : goal.local_text-requires-clause-v_bound
 local_text-requires-clause-v_bound g c =
-    let l : c.loop-v.v < locals c.args.words.now = omega (arith, c.local_count-count.ensures, c.loop-v-test.true) in
-    (l, local_short c.args.words.now c.requires.liveness_stage.1 l)
+    let l : c.loop-v.v < locals c.args.analysed.image.words.now = omega (arith, c.local_count-count.ensures, c.loop-v-test.true) in
+    (l, local_short c.args.analysed.image.words.now c.requires.local_too_long_value l)

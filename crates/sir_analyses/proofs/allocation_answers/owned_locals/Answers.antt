@@ -1,31 +1,19 @@
 -- `owned_locals` meets its contract. The invariant: those below v are added.
 use Rattle.sir_analyses.specs.inner.Stages.{owners_in}
-use mathlib.Core.Path.{◌≡◌, refl, sym, ap, ◌∙◌, subst}
+use mathlib.Core.Path.{◌≡◌, refl, sym, ap, ◌∙◌}
 use mathlib.Core.Bool.{Bool}
 use Prim.Native.Nat.{ℕ, ◌+◌}
 use native.Mathlib.Omega.{arith}
 use lib.ListN.{length, get_or}
 use lib.Dec.{eqb}
-use Rattle.sir_data.specs.Records.{locals}
 use Rattle.plank_core.specs.inner.DenseIndexSet.{added}
 use Rattle.sir_analyses.proofs.allocation_answers.AllocationWords.{named_is, Below, below_none, below_more, below_on}
 use Rattle.sir_analyses.proofs.allocation_answers.owned_locals.Goals as goal
 use Rattle.sir_analyses.proofs.allocation_answers.owned_locals.Goals.{else-eq, then-eq}
 
-pub local_count-count-requires : goal.local_count-count-requires
-local_count-count-requires c = omega (arith, c.requires.well_formed.sized.size)
-
 pub loop-v-init : goal.loop-v-init
 loop-v-init c =
-    (ap length c.requires.pointers_len.2, below_none (λ u. eqb (get_or (owners_in c.args.pointers.now) u 0) (c.args.a.0 + 1)) c.args.set.now c.requires.pointers_len.2)
-
-pub owner-requires : goal.owner-requires
-owner-requires c =
-    (c.requires.pointers_len.0, omega (arith, c.local_count-count.ensures, c.requires.well_formed.sized.locals_most, c.loop-v-test.true))
-
-pub row_add-requires : goal.row_add-requires
-row_add-requires c =
-    (omega (arith, c.loop-v.invariant.0), omega (arith, c.local_count-count.ensures, c.requires.well_formed.sized.locals_most, c.loop-v-test.true))
+    (ap length c.requires.a_bound.1, below_none (λ u. eqb (get_or (owners_in c.args.pointers.now) u 0) (c.args.a.0 + 1)) c.args.set.now c.requires.a_bound.1)
 
 pub loop-v-preserved : goal.loop-v-preserved
 loop-v-preserved c =
@@ -36,14 +24,3 @@ loop-v-preserved c =
     let g : (length c.if-eq.set ≡ 8) × Below own (L.v + 1) c.if-eq.set =
     elim c.if-eq.branch [ then-eq x ↦ rw x.set-is (omega (arith, x.row_add.auto, L.invariant.0), below_more own L.set L.v L.invariant.1 x.row_add.new.table L.invariant.0 (x.row_add.ensures.1 ∙ ap (added L.set) z) (sym told ∙ x.if-eq.true)) | else-eq x ↦ rw x.set-is (L.invariant.0, below_on own L.set L.v L.invariant.1 (sym told ∙ x.if-eq.false)) ] in
     (g.0, g.1)
-
-pub shape_of-set : goal.shape_of-set
-shape_of-set c =
-    c.loop-v.invariant.0 ∙ sym (ap length c.requires.pointers_len.2)
-
-pub returns : goal.returns
-returns c =
-    let L = c.loop-v in
-    let own : ℕ → Bool = λ u. eqb (get_or (owners_in c.args.pointers.now) u 0) (c.args.a.0 + 1) in
-    let e : L.v ≡ locals c.args.words.now = omega (arith, c.local_count-count.ensures, c.loop-v-test.false) in
-    (L.invariant.0, subst (λ (n : ℕ). Below own n L.set) e L.invariant.1)

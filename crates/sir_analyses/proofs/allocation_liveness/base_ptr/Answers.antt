@@ -3,21 +3,15 @@ use mathlib.Core.Path.{◌≡◌, ap}
 use mathlib.Core.List.{List}
 use Prim.Native.Nat.{ℕ, ◌<◌}
 use native.Mathlib.Omega.{arith}
-use lib.ListN.{length, get_or}
+use lib.ListN.{get_or}
 use Rattle.plank_core.specs.laws.Lists.{get_or_mem}
 use Rattle.sir_data.specs.Records.{locals, outs}
 use Rattle.sir_analyses.proofs.Accepted.{one_out}
 use Rattle.sir_analyses.proofs.allocation_liveness.base_ptr.Goals as goal
 
-pub op_outputs-outputs-requires : goal.op_outputs-outputs-requires
-op_outputs-outputs-requires c = record { sized = c.requires.well_formed.sized; in_range = c.requires.well_formed.in_range; o_bound = c.requires.o_bound.0 }
-
-pub bounds-outputs-0 : goal.bounds-outputs-0
-bounds-outputs-0 c = omega (arith, ap length c.op_outputs-outputs.ensures, one_out c.args.words.now c.requires.well_formed c.requires.o_bound.0 c.requires.o_bound.1)
-
 pub returns : goal.returns
-returns c = let w = c.args.words.now in
+returns c = let w = c.args.image.words.now in
     let o = c.args.o.0 in
     let g : get_or c.op_outputs-outputs.result.now 0 0 ≡ get_or (outs w o) 0 0 = ap (λ (l : List ℕ). get_or l 0 0) c.op_outputs-outputs.ensures in
-    let l : get_or (outs w o) 0 0 < locals w = c.requires.well_formed.in_range.written o (get_or (outs w o) 0 0) c.requires.o_bound.0 (get_or_mem (outs w o) 0 0 (omega (arith, one_out w c.requires.well_formed c.requires.o_bound.0 c.requires.o_bound.1))) in
+    let l : get_or (outs w o) 0 0 < locals w = c.args.image.well_formed.in_range.written o (get_or (outs w o) 0 0) c.requires.o_bound.0 (get_or_mem (outs w o) 0 0 (omega (arith, one_out w c.args.image.well_formed c.requires.o_bound.0 c.requires.o_bound.1))) in
     (g, omega arith)

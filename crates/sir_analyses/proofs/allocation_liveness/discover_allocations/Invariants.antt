@@ -3,4 +3,4 @@ use Rattle.sir_analyses.proofs.allocation_liveness.PointerTables.{TurnedTo}
 use Rattle.sir_analyses.proofs.allocation_liveness.discover_allocations.Given as goal
 
 abbrev pub invariant-loop-i : goal.invariant-loop-i
-invariant-loop-i l = TurnedTo l.words l.sites l.links l.causes l.pointers l.i
+invariant-loop-i l = TurnedTo l.image.words.now l.sites l.links l.causes l.pointers l.i

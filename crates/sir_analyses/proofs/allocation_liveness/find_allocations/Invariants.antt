@@ -7,4 +7,4 @@ use Rattle.sir_analyses.proofs.Listing.{Listing}
 use Rattle.sir_analyses.proofs.allocation_liveness.find_allocations.Given as goal
 
 abbrev pub invariant-loop-b : goal.invariant-loop-b
-invariant-loop-b l = (l.m ≤ length l.sites) × Listing (alloc_sites l.words) 0 l.initial.sites (bind (drop l.b-index l.order) (block_sites l.words)) l.sites l.m
+invariant-loop-b l = (l.m ≤ length l.sites) × Listing (alloc_sites l.visited.image.words.now) 0 l.initial.sites (bind (drop l.b-index l.order) (block_sites l.visited.image.words.now)) l.sites l.m

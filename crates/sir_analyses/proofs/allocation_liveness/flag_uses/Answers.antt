@@ -7,7 +7,7 @@ use lib.ListN.{length}
 use Rattle.sir_analyses.specs.inner.Following.{follow_local}
 use Rattle.sir_analyses.specs.inner.Discovery.{used_in}
 use Rattle.sir_analyses.specs.inner.Stages.{PointerStep, PointerRoom}
-use Rattle.sir_analyses.proofs.allocation_liveness.PointerTables.{flag_if, flag_long, flag_if_long, uses_flagged}
+use Rattle.sir_analyses.proofs.allocation_liveness.PointerTables.{flag_if, flag_if_long, uses_flagged}
 use Rattle.sir_analyses.proofs.allocation_liveness.flag_uses.Goals as goal
 use Rattle.sir_analyses.proofs.allocation_liveness.flag_uses.Goals.{else-row_contains, then-row_contains}
 
@@ -23,24 +23,6 @@ ends a used was between q t room small after e f =
     (sym (f ∙ ap₂ (λ (t : Bool) (q : List ℕ). flag_if a t 2 q) e after))
     (uses_flagged room small used)
 
-pub set_flag-requires-then-row_contains-2 : goal.set_flag-requires-then-row_contains-2
-set_flag-requires-then-row_contains-2 c =
-    let was = c.args.pointers.now in
-    let used = used_in c.args.causes.now c.args.local.0 in
-    let after : c.if-row_contains.pointers ≡ flag_if c.args.a.0 (used 0) 1 was =
-    elim c.if-row_contains.branch [ then-row_contains x ↦ flagged c.args.a.0 true _ was _ (sym x.if-row_contains.true ∙ c.row_contains.ensures) (x.pointers-is ∙ x.set_flag.ensures) | else-row_contains x ↦ flagged c.args.a.0 false _ was _ (sym x.if-row_contains.false ∙ c.row_contains.ensures) x.pointers-is ] in
-    let long = ap length after ∙ flag_if_long was 1 (used 0) c.requires.local_bound.1 in
-    (long ∙ c.requires.causes_len.1.long, c.requires.local_bound.1)
-
-pub shape_of-pointers-then-row_contains-2 : goal.shape_of-pointers-then-row_contains-2
-shape_of-pointers-then-row_contains-2 c =
-    let was = c.args.pointers.now in
-    let used = used_in c.args.causes.now c.args.local.0 in
-    let after : c.if-row_contains.pointers ≡ flag_if c.args.a.0 (used 0) 1 was =
-    elim c.if-row_contains.branch [ then-row_contains x ↦ flagged c.args.a.0 true _ was _ (sym x.if-row_contains.true ∙ c.row_contains.ensures) (x.pointers-is ∙ x.set_flag.ensures) | else-row_contains x ↦ flagged c.args.a.0 false _ was _ (sym x.if-row_contains.false ∙ c.row_contains.ensures) x.pointers-is ] in
-    let long = ap length after ∙ flag_if_long was 1 (used 0) c.requires.local_bound.1 in
-    ap length c.set_flag-then-row_contains-2.ensures ∙ flag_long c.if-row_contains.pointers 2 c.requires.local_bound.1 ∙ long
-
 pub returns-then-row_contains-2 : goal.returns-then-row_contains-2
 returns-then-row_contains-2 c =
     let was = c.args.pointers.now in
@@ -48,14 +30,6 @@ returns-then-row_contains-2 c =
     let after : c.if-row_contains.pointers ≡ flag_if c.args.a.0 (used 0) 1 was =
     elim c.if-row_contains.branch [ then-row_contains x ↦ flagged c.args.a.0 true _ was _ (sym x.if-row_contains.true ∙ c.row_contains.ensures) (x.pointers-is ∙ x.set_flag.ensures) | else-row_contains x ↦ flagged c.args.a.0 false _ was _ (sym x.if-row_contains.false ∙ c.row_contains.ensures) x.pointers-is ] in
     ends c.args.a.0 used was _ _ true c.requires.causes_len.1 c.requires.local_bound.1 after (sym c.if-row_contains-2.true ∙ c.row_contains-2.ensures) c.set_flag-then-row_contains-2.ensures
-
-pub shape_of-pointers-else-row_contains-2 : goal.shape_of-pointers-else-row_contains-2
-shape_of-pointers-else-row_contains-2 c =
-    let was = c.args.pointers.now in
-    let used = used_in c.args.causes.now c.args.local.0 in
-    let after : c.if-row_contains.pointers ≡ flag_if c.args.a.0 (used 0) 1 was =
-    elim c.if-row_contains.branch [ then-row_contains x ↦ flagged c.args.a.0 true _ was _ (sym x.if-row_contains.true ∙ c.row_contains.ensures) (x.pointers-is ∙ x.set_flag.ensures) | else-row_contains x ↦ flagged c.args.a.0 false _ was _ (sym x.if-row_contains.false ∙ c.row_contains.ensures) x.pointers-is ] in
-    ap length after ∙ flag_if_long was 1 (used 0) c.requires.local_bound.1
 
 pub returns-else-row_contains-2 : goal.returns-else-row_contains-2
 returns-else-row_contains-2 c =

@@ -3,4 +3,4 @@ use Rattle.sir_analyses.proofs.allocation_liveness.Discovery.{OwnedTo}
 use Rattle.sir_analyses.proofs.allocation_liveness.own_bases.Given as goal
 
 abbrev pub invariant-loop-a : goal.invariant-loop-a
-invariant-loop-a l = OwnedTo l.words l.owners l.a
+invariant-loop-a l = OwnedTo l.image.words.now l.owners l.a

@@ -1,30 +1,11 @@
 -- `propagate_pointers_and_mark_escapes` meets its contract. The invariant: the arrays show a state on the way.
-use mathlib.Core.Path.{refl, sym, ◌∙◌}
-use lib.ListN.{length-set}
+use mathlib.Core.Path.{refl}
 use Rattle.sir_analyses.proofs.allocation_liveness.PointerTables.{way_starts, way_on, way_less, way_ends, fewer_room, taken_less}
 use native.Mathlib.Omega.{arith}
 use Rattle.sir_analyses.proofs.allocation_liveness.propagate_pointers_and_mark_escapes.Goals as goal
 
-pub bounds-pointers-1538 : goal.bounds-pointers-1538
-bounds-pointers-1538 c = omega (arith, c.requires.pointer_room.0.long)
-
-pub bounds-pointers-1 : goal.bounds-pointers-1
-bounds-pointers-1 c = omega (arith, c.requires.pointer_room.0.long, length-set c.args.pointers.now 1538 c.args.base.0)
-
 pub loop-pointers-init : goal.loop-pointers-init
 loop-pointers-init c = way_starts c.requires.pointer_room.0 c.requires.pointer_room.1 c.requires.base_bound.0 _ _ _
-
-pub bounds-pointers-1-in-loop-pointers : goal.bounds-pointers-1-in-loop-pointers
-bounds-pointers-1-in-loop-pointers c = omega (arith, c.loop-pointers.invariant.room.long)
-
-pub bounds-pointers-1-in-loop-pointers-2 : goal.bounds-pointers-1-in-loop-pointers-2
-bounds-pointers-1-in-loop-pointers-2 c = omega (arith, c.loop-pointers.invariant.room.long)
-
-pub overflow_sub-n : goal.overflow_sub-n
-overflow_sub-n c = omega (arith, c.loop-pointers-test.true)
-
-pub bounds-pointers-1-in-loop-pointers-3 : goal.bounds-pointers-1-in-loop-pointers-3
-bounds-pointers-1-in-loop-pointers-3 c = omega (arith, c.loop-pointers.invariant.room.long)
 
 pub follow_local-requires : goal.follow_local-requires
 follow_local-requires c =
@@ -37,10 +18,6 @@ loop-pointers-smaller c =
 pub loop-pointers-preserved : goal.loop-pointers-preserved
 loop-pointers-preserved c =
     way_on c.loop-pointers.invariant c.loop-pointers-test.true refl c.follow_local.ensures
-
-pub shape_of-pointers : goal.shape_of-pointers
-shape_of-pointers c =
-    c.loop-pointers.invariant.room.long ∙ sym c.requires.pointer_room.0.long
 
 pub returns : goal.returns
 returns c =

@@ -6,4 +6,4 @@ use Rattle.sir_analyses.proofs.block_sets.add_end.Goals as goal
 
 pub add_run-requires : goal.add_run-requires
 add_run-requires c =
-    let b = c.args.b.0 in record { row_in_bounds = omega (arith, c.add_condition.ensures.long, c.requires.b_bound, c.requires.well_formed.sized.blocks_most); by_index = λ v m. small c.requires.well_formed (returned_below c.args.words.now c.requires.well_formed b v c.requires.b_bound.0 (rw c.returned_outputs.ensures at m)) }
+    let b = c.args.b.id.0 in record { row_in_bounds = omega (arith, c.add_condition.ensures.long, c.requires.table_len, c.args.b.known, c.args.b.image.well_formed.sized.blocks_most); by_index = λ v m. small c.args.b.image.well_formed (returned_below c.args.b.image.words.now c.args.b.image.well_formed b v c.args.b.known (rw c.returned_outputs.ensures at m)) }

@@ -9,4 +9,4 @@ use Rattle.sir_analyses.specs.inner.Tables.{Adds}
 use Rattle.sir_analyses.proofs.block_sets.add_to_successors.Given as goal
 
 abbrev pub invariant-loop-i : goal.invariant-loop-i
-invariant-loop-i l = (l.i ≤ l.count) × Adds l.initial.preds (λ b n. eqb n l.p.0 && mem b (take l.i (successors l.words l.p.0))) l.preds
+invariant-loop-i l = (l.i ≤ l.count) × Adds l.initial.preds (λ b n. eqb n l.p.id.0 && mem b (take l.i (successors l.p.image.words.now l.p.id.0))) l.preds

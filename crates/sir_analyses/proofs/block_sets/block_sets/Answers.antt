@@ -12,20 +12,20 @@ use native.Mathlib.Omega.{arith}
 use Rattle.sir_analyses.proofs.block_sets.block_sets.Goals as goal
 
 pub loop-b-init : goal.loop-b-init
-loop-b-init c = (omega arith, blocks_none c.args.words.now c.args.live.now c.requires.operand_rows.1, range_sets_start refl refl)
+loop-b-init c = (omega arith, blocks_none c.args.image.words.now c.args.live.now c.requires.operand_rows.1, range_sets_start refl refl)
 
 pub update_range_sets-kept-requires : goal.update_range_sets-kept-requires
 update_range_sets-kept-requires c =
     let p = c.requires in
-    record { well_formed = p.well_formed; live_len = (c.loop-b.invariant.1.long, blocks_operands c.loop-b.invariant.1 p.operand_rows.1.long p.operand_rows.0); b_bound = omega (arith, c.block_count-count.ensures); range_sets = c.loop-b.invariant.2 }
+    record { operand_rows = blocks_operands c.loop-b.invariant.1 p.operand_rows.1.long p.operand_rows.0; range_sets = c.loop-b.invariant.2 }
 
 pub block_rows-requires : goal.block_rows-requires
 block_rows-requires c =
-    let w = c.args.words.now in
+    let w = c.args.image.words.now in
     let l = c.loop-b in
     let h : l.b < blocks w = omega (arith, c.block_count-count.ensures) in
-    let k : l.b < 256 = omega (arith, c.requires.well_formed.sized.blocks_most) in
-    record { well_formed = c.requires.well_formed; b_bound = (h, l.invariant.1.long); range_sets = c.update_range_sets-kept.ensures.range_sets_2; by_index = filled_not (uses_in l.live) 256 l.b (λ b v. has (use_set w b) v) k l.invariant.1.used }
+    let k : l.b < 256 = omega (arith, c.args.image.well_formed.sized.blocks_most) in
+    record { range_sets = c.update_range_sets-kept.ensures.range_sets_2; by_index = filled_not (uses_in l.live) 256 l.b (λ b v. has (use_set w b) v) k l.invariant.1.used }
 
 pub loop-b-preserved : goal.loop-b-preserved
 loop-b-preserved c =
@@ -34,4 +34,4 @@ loop-b-preserved c =
 
 pub returns : goal.returns
 returns c =
-    blocks_all c.loop-b.invariant.1 c.requires.well_formed (omega (arith, c.block_count-count.ensures))
+    blocks_all c.loop-b.invariant.1 c.args.image.well_formed (omega (arith, c.block_count-count.ensures))

@@ -7,4 +7,4 @@ use Rattle.sir_analyses.proofs.local_liveness.LivenessTables.{BlocksTo}
 use Rattle.sir_analyses.proofs.block_sets.block_sets.Given as goal
 
 abbrev pub invariant-loop-b : goal.invariant-loop-b
-invariant-loop-b l = (l.b ≤ l.count) × BlocksTo l.words l.initial.live l.live l.b × RangeSets l.words (range l.kept.start l.kept.end) l.sets
+invariant-loop-b l = (l.b ≤ l.count) × BlocksTo l.image.words.now l.initial.live l.live l.b × RangeSets l.image.words.now (range l.kept.start l.kept.end) l.sets

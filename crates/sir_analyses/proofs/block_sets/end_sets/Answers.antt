@@ -9,4 +9,4 @@ pub loop-b-init : goal.loop-b-init
 loop-b-init c =
     let a = c.args in
     let e = c.requires.ends_value in
-    (omega arith, cleared_long a.ends.now 2048 e, filled_starts a.ends.now 2048 256 (λ b v. mem v (end_reads a.words.now b)) e)
+    (omega arith, cleared_long a.ends.now 2048 e, filled_starts a.ends.now 2048 256 (λ b v. mem v (end_reads a.image.words.now b)) e)

@@ -8,4 +8,4 @@ use Rattle.sir_analyses.proofs.Tables.{Filled}
 use Rattle.sir_analyses.proofs.block_sets.end_sets.Given as goal
 
 abbrev pub invariant-loop-b : goal.invariant-loop-b
-invariant-loop-b l = (l.b ≤ l.count) × (length l.ends ≡ 2048) × Filled l.ends 256 l.b (λ r v. mem v (end_reads l.words r))
+invariant-loop-b l = (l.b ≤ l.count) × (length l.ends ≡ 2048) × Filled l.ends 256 l.b (λ r v. mem v (end_reads l.image.words.now r))

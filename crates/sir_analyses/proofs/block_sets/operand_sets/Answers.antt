@@ -6,7 +6,7 @@ use Rattle.sir_analyses.proofs.block_sets.operand_sets.Goals as goal
 
 pub loop-o-init : goal.loop-o-init
 loop-o-init c =
-    (omega arith, operands_none c.args.words.now c.args.live.now c.requires.live_value)
+    (omega arith, operands_none c.args.image.words.now c.args.live.now c.requires.live_value)
 
 pub loop-o-preserved : goal.loop-o-preserved
 loop-o-preserved c =
@@ -14,4 +14,4 @@ loop-o-preserved c =
 
 pub returns : goal.returns
 returns c =
-    operands_all c.requires.well_formed (omega (arith, c.operation_count-count.ensures)) c.loop-o.invariant.1
+    operands_all c.args.image.well_formed (omega (arith, c.operation_count-count.ensures)) c.loop-o.invariant.1

@@ -11,4 +11,4 @@ use Rattle.sir_analyses.specs.inner.Tables.{Rows}
 use Rattle.sir_analyses.proofs.block_sets.predecessor_sets.Given as goal
 
 abbrev pub invariant-loop-p : goal.invariant-loop-p
-invariant-loop-p l = (l.p ≤ l.count) × (length l.preds ≡ 2048) × Rows l.preds 256 (λ b i. ltb i l.p && (is_visited l.words i && mem b (successors l.words i)))
+invariant-loop-p l = (l.p ≤ l.count) × (length l.preds ≡ 2048) × Rows l.preds 256 (λ b i. ltb i l.p && (is_visited l.visited.image.words.now i && mem b (successors l.visited.image.words.now i)))

@@ -5,4 +5,4 @@ use Rattle.sir_analyses.specs.inner.Tables.{RangeSets}
 use Rattle.sir_analyses.proofs.block_sets.range_sets.Given as goal
 
 abbrev pub invariant-loop-o : goal.invariant-loop-o
-invariant-loop-o l = (l.o-start ≤ l.o) × (l.o ≤ l.initial.o) × RangeSets l.words (range l.o l.initial.o) l.sets
+invariant-loop-o l = (l.o-start ≤ l.o) × (l.o ≤ l.initial.o) × RangeSets l.b.image.words.now (range l.o l.initial.o) l.sets

@@ -134,9 +134,6 @@ module _ (done : List Interval) (last : Interval) (k : ℕ) (j : Interval) (js :
   left_next : drop (suc k) is ≡ js
   left_next = ap (λ (n : ℕ). drop n is) (sym (add-one k)) ∙ sym (drop-drop 1 k is) ∙ ap (drop 1) h.left
 
-  long : k < length is
-  long = let w = h.whole in omega arith
-
   abbrev grown : Interval
   grown = record { block = last.block; from = last.from; to = furthest last.to j.to }
 

@@ -7,4 +7,4 @@ use Rattle.sir_analyses.specs.Liveness.{positions}
 use Rattle.sir_analyses.proofs.def_use.input_counts.Given as goal
 
 abbrev pub invariant-loop-o : goal.invariant-loop-o
-invariant-loop-o l = (l.o ≤ l.last) × (length l.counts ≡ 1024) × ((p : ℕ) → p < l.o → get_or l.counts p 0 ≡ length (positions l.local.0 (ins l.words p) 0))
+invariant-loop-o l = (l.o ≤ l.last) × (length l.counts ≡ 1024) × ((p : ℕ) → p < l.o → get_or l.counts p 0 ≡ length (positions l.local.0 (ins l.image.words.now p) 0))

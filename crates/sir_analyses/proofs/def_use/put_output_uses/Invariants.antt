@@ -7,4 +7,4 @@ use Rattle.sir_analyses.proofs.def_use.UseWords.{outputs_left}
 use Rattle.sir_analyses.proofs.def_use.put_output_uses.Given as goal
 
 abbrev pub invariant-loop-k : goal.invariant-loop-k
-invariant-loop-k l = (l.k ≤ length l.run) × Putting l.n (output_uses l.words l.local.0 l.b.0) l.initial.out (outputs_left l.words l.local.0 l.b.0 l.k) l.out l.m
+invariant-loop-k l = (l.k ≤ length l.run) × Putting l.n (output_uses l.b.image.words.now l.local.0 l.b.id.0) l.initial.out (outputs_left l.b.image.words.now l.local.0 l.b.id.0 l.k) l.out l.m

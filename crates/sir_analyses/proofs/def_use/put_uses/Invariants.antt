@@ -7,4 +7,4 @@ use Rattle.sir_analyses.proofs.answers.Writing.{Putting}
 use Rattle.sir_analyses.proofs.def_use.put_uses.Given as goal
 
 abbrev pub invariant-loop-b : goal.invariant-loop-b
-invariant-loop-b l = (l.b-index ≤ length l.b-items) × Putting 0 (uses_of l.words l.counts l.local.0) l.initial.out (bind (drop l.b-index l.b-items) (block_uses l.words l.counts l.local.0)) l.out l.m
+invariant-loop-b l = (l.b-index ≤ length l.b-items) × Putting 0 (uses_of l.visited.image.words.now l.counts l.local.0) l.initial.out (bind (drop l.b-index l.b-items) (block_uses l.visited.image.words.now l.counts l.local.0)) l.out l.m

@@ -1,28 +1,19 @@
 -- `load` meets its contract.
-use mathlib.Core.Path.{◌≡◌, refl, sym, ◌∙◌}
+use mathlib.Core.Path.{refl, sym, ◌∙◌}
 use Rattle.std.proofs.Common.{rules}
-use Rattle.sir_data.specs.Refusals.{refused, number}
-use Rattle.sir_data.specs.laws.Refusals.{not_0}
-use Rattle.sir_analyses.proofs.loading.Loads.{refused_early, words_fit, front_good, front_length, last_is, prepared_ok}
+use Rattle.sir_analyses.proofs.loading.Loads.{front_good, last_is, prepared_ok}
 use Rattle.sir_analyses.proofs.loading.load.Goals as goal
 
 pub returns-in_err-n : goal.returns-in_err-n
-returns-in_err-n c =
-    let r = c.in_err-n in
-    let e : refused c.from_residual.result ≡ number r.field-0.0 = search rules in
-    record { number = e ∙ refused_early r.ensures.read (not_0 r.field-0.0); prepared = search rules }
-
-pub slice_bounds-load_visit-end : goal.slice_bounds-load_visit-end
-slice_bounds-load_visit-end c =
-    words_fit c.in_ok-n.ensures.read refl c.in_ok-n.ensures.count
-
-pub slice_bounds-load_visit-end-2 : goal.slice_bounds-load_visit-end-2
-slice_bounds-load_visit-end-2 c =
-    front_length _ _ (words_fit c.in_ok-n.ensures.read refl c.in_ok-n.ensures.count)
+returns-in_err-n c = record { number = search rules; prepared = search rules }
 
 pub load_visit-requires : goal.load_visit-requires
 load_visit-requires c =
-    record { well_formed = (front_good c.in_ok-n.ensures.read refl c.in_ok-n.ensures.count, c.requires.words_len.1); visit_value = c.requires.visit_value }
+    record { postorder_len = c.requires.words_len.1; visit_value = c.requires.visit_value }
+
+pub invariant_of-load_visit : goal.invariant_of-load_visit
+invariant_of-load_visit c =
+    record { well_formed = front_good c.in_ok-n.ensures.read refl c.in_ok-n.ensures.count }
 
 pub returns : goal.returns
 returns c =

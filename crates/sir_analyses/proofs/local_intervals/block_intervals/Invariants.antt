@@ -8,4 +8,4 @@ use Rattle.sir_analyses.proofs.local_intervals.Scanning.{Scanning}
 use Rattle.sir_analyses.proofs.local_intervals.block_intervals.Given as goal
 
 abbrev pub invariant-loop-o : goal.invariant-loop-o
-invariant-loop-o l = (l.o-start ≤ l.o) × (length l.run ≡ length l.initial.run) × (l.n + 3 * l.o ≤ 3 * l.initial.o) × ((e : ℕ) → l.fn.end ≡ end_of e → Scanning l.words l.b.0 l.v.0 e (range l.o l.initial.o) l.run l.till l.n)
+invariant-loop-o l = (l.o-start ≤ l.o) × (length l.run ≡ length l.initial.run) × (l.n + 3 * l.o ≤ 3 * l.initial.o) × ((e : ℕ) → l.fn.end ≡ end_of e → Scanning l.sets.image.words.now l.b.0 l.v.0 e (range l.o l.initial.o) l.run l.till l.n)

@@ -15,4 +15,4 @@ abbrev pub in_block : List ℕ → ℕ → ℕ → List ℕ
 in_block w v b = interval_words (block_intervals w (exit_set w b) v b)
 
 abbrev pub invariant-loop-id : goal.invariant-loop-id
-invariant-loop-id l = (length l.run ≡ 3075) × (l.m ≤ 3075 * l.id-index) × Putting 0 (bind (blocks_rpo l.words) (in_block l.words l.v.0)) l.initial.out (bind (drop l.id-index l.order) (in_block l.words l.v.0)) l.out l.m
+invariant-loop-id l = (length l.run ≡ 3075) × (l.m ≤ 3075 * l.id-index) × Putting 0 (bind (blocks_rpo l.analysed.image.words.now) (in_block l.analysed.image.words.now l.v.0)) l.initial.out (bind (drop l.id-index l.order) (in_block l.analysed.image.words.now l.v.0)) l.out l.m

@@ -2,7 +2,6 @@
 use mathlib.Core.Path.{ap, ◌∙◌}
 use lib.ListN.{length}
 use Rattle.plank_core.specs.laws.DenseIndexSet.{length_row}
-use Rattle.sir_analyses.specs.inner.Stages.{uses_in, defs_in, exits_in}
 use Rattle.sir_analyses.proofs.stages.Parts.{length_part}
 use Rattle.sir_analyses.proofs.local_liveness.Sending.{entry_words}
 use native.Mathlib.Omega.{arith}
@@ -33,11 +32,4 @@ row_union_with-requires-2 c =
     (omega arith, ap length c.row_of-3.ensures ∙ length_row _ _ (omega (arith, ap length c.uses.ensures ∙ length_part 16384 2048 c.args.live.now (omega (arith, c.requires)), c.requires)))
 
 pub returns : goal.returns
-returns c =
-    let a = c.args in (
-      omega (arith, c.row_union_with-2.auto, c.row_difference_with.auto, c.row_union_with.auto),
-      entry_words (uses_in a.live.now) (defs_in a.live.now) (exits_in a.live.now) a.b.0
-          (rw (c.row_of.ensures, c.exits.ensures) at c.row_union_with.ensures.1)
-          (rw (c.row_of-2.ensures, c.defs.ensures) at c.row_difference_with.ensures)
-          (rw (c.row_of-3.ensures, c.uses.ensures) at c.row_union_with-2.ensures.1),
-    )
+returns c = grind (arith, entry_words)

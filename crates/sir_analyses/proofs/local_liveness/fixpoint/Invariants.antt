@@ -8,7 +8,7 @@ use Rattle.sir_analyses.proofs.local_liveness.Passes.{Settling}
 use Rattle.sir_analyses.proofs.local_liveness.fixpoint.Given as goal
 
 abbrev pub invariant-loop-preds : goal.invariant-loop-preds
-invariant-loop-preds l = Passing l.words l.preds l.live l.sent × Settling l.words (exits_in l.live) l.sent l.done × (take 22528 l.live ≡ take 22528 l.initial.live)
+invariant-loop-preds l = Passing l.visited.image.words.now l.preds l.live l.sent × Settling l.visited.image.words.now (exits_in l.live) l.sent l.done × (take 22528 l.live ≡ take 22528 l.initial.live)
 
 abbrev pub decreases-loop-preds : goal.decreases-loop-preds
-decreases-loop-preds l = blocks l.words * locals l.words + 1 - l.done
+decreases-loop-preds l = blocks l.visited.image.words.now * locals l.visited.image.words.now + 1 - l.done

@@ -14,24 +14,34 @@ use Rattle.sir_analyses.proofs.local_liveness.pass_back.Goals as goal
 
 pub loop-k-init : goal.loop-k-init
 loop-k-init c =
-    (omega arith, pass_as (pass_none c.requires.passing) (from_none c.args.words.now c.rpo-order.result.now))
+    (omega arith, pass_as (pass_none c.requires.passing) (from_none c.args.visited.image.words.now c.rpo-order.result.now))
+
+pub invariant_of-block : goal.invariant_of-block
+invariant_of-block c =
+    let l = c.loop-k in
+    let order = c.rpo-order.result.now in
+    let is : order ≡ blocks_rpo c.args.visited.image.words.now = c.rpo-order.ensures ∙ c.args.visited.visit_stage.rpo_is in
+    let b : ℕ = get_or order (l.k - 1) 0 in
+    let m : b ∈ order = get_or_mem order (l.k - 1) 0 (omega arith) in
+    let good = c.args.visited.visit_stage.well_formed in
+    record { known = blocks_below c.args.visited.image.words.now good b (subst (λ (bs : List ℕ). b ∈ bs) is m) }
 
 pub propagate_liveness_to_predecessors-grew-requires : goal.propagate_liveness_to_predecessors-grew-requires
 propagate_liveness_to_predecessors-grew-requires c =
     let l = c.loop-k in
     let order = c.rpo-order.result.now in
-    let is : order ≡ blocks_rpo c.args.words.now = c.rpo-order.ensures ∙ c.requires.visit_stage.rpo_is in
+    let is : order ≡ blocks_rpo c.args.visited.image.words.now = c.rpo-order.ensures ∙ c.args.visited.visit_stage.rpo_is in
     let b : ℕ = get_or order (l.k - 1) 0 in
     let m : b ∈ order = get_or_mem order (l.k - 1) 0 (omega arith) in
-    let good = c.requires.visit_stage.well_formed in
-    record { well_formed = good; b_bound = blocks_below c.args.words.now good b (subst (λ (bs : List ℕ). b ∈ bs) is m); passing = passing_on c.requires.passing l.invariant.1 }
+    let good = c.args.visited.visit_stage.well_formed in
+    record { passing = passing_on c.requires.passing l.invariant.1 }
 
 pub loop-k-preserved : goal.loop-k-preserved
 loop-k-preserved c =
     let l = c.loop-k in
-    (omega arith, pass_as (pass_then l.invariant.1 c.propagate_liveness_to_predecessors-grew.ensures refl) (from_next c.args.words.now c.rpo-order.result.now l.k (omega (arith, l.invariant.0, c.loop-k-test.true)) (omega (arith, l.invariant.0, c.loop-k-test.true))))
+    (omega arith, pass_as (pass_then l.invariant.1 c.propagate_liveness_to_predecessors-grew.ensures refl) (from_next c.args.visited.image.words.now c.rpo-order.result.now l.k (omega (arith, l.invariant.0, c.loop-k-test.true)) (omega (arith, l.invariant.0, c.loop-k-test.true))))
 
 pub returns : goal.returns
 returns c =
     let l = c.loop-k in
-    pass_as l.invariant.1 (from_all c.args.words.now c.rpo-order.result.now l.k (omega arith) (c.rpo-order.ensures ∙ c.requires.visit_stage.rpo_is))
+    pass_as l.invariant.1 (from_all c.args.visited.image.words.now c.rpo-order.result.now l.k (omega arith) (c.rpo-order.ensures ∙ c.args.visited.visit_stage.rpo_is))

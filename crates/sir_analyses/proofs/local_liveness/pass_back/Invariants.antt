@@ -6,4 +6,4 @@ use Rattle.sir_analyses.proofs.local_liveness.Passes.{from}
 use Rattle.sir_analyses.proofs.local_liveness.pass_back.Given as goal
 
 abbrev pub invariant-loop-k : goal.invariant-loop-k
-invariant-loop-k l = (l.k ≤ length l.order) × PassStep l.words (from l.words l.order l.k) l.initial.live l.live l.sent l.grew
+invariant-loop-k l = (l.k ≤ length l.order) × PassStep l.visited.image.words.now (from l.visited.image.words.now l.order l.k) l.initial.live l.live l.sent l.grew

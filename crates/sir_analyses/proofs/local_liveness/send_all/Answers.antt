@@ -16,21 +16,28 @@ use Rattle.sir_analyses.proofs.local_liveness.send_all.Goals as goal
 
 pub loop-p-init : goal.loop-p-init
 loop-p-init c =
-    (omega arith, sends_none (blocks c.args.words.now) c.args.exits.now (λ q i h. refl))
+    (omega arith, sends_none (blocks c.args.image.words.now) c.args.exits.now (λ q i h. refl))
+
+pub invariant_of-block : goal.invariant_of-block
+invariant_of-block c =
+    let l = c.loop-p in
+    let i : l.p-index < length c.args.ids.now = omega arith in
+    let m : get_or c.args.ids.now l.p-index 0 ∈ c.args.ids.now = get_or_mem c.args.ids.now l.p-index 0 i in
+    record { known = c.requires.by_index _ m }
 
 pub send_to-grew-requires : goal.send_to-grew-requires
 send_to-grew-requires c =
     let l = c.loop-p in
     let i : l.p-index < length c.args.ids.now = omega arith in
     let m : get_or c.args.ids.now l.p-index 0 ∈ c.args.ids.now = get_or_mem c.args.ids.now l.p-index 0 i in
-    record { well_formed = c.requires.well_formed; p_bound = (c.requires.by_index _ m, c.requires.set_len.0, omega (arith, l.invariant.1.adds.long, c.requires.set_len)); by_index = λ k n. c.requires.by_index_2 _ k m n }
+    record { set_len = (c.requires.set_len.0, omega (arith, l.invariant.1.adds.long, c.requires.set_len)); by_index = λ k n. c.requires.by_index_2 _ k m n }
 
 pub loop-p-preserved : goal.loop-p-preserved
 loop-p-preserved c =
-    let w = c.args.words.now in
+    let w = c.args.image.words.now in
     let l = c.loop-p in
     let i : l.p-index < length c.args.ids.now = omega arith in
-    let long : 8 * blocks w ≤ length c.args.exits.now = omega (arith, c.requires.set_len, c.requires.well_formed.sized.blocks_most) in
+    let long : 8 * blocks w ≤ length c.args.exits.now = omega (arith, c.requires.set_len, c.args.image.well_formed.sized.blocks_most) in
     let r = c.send_to-grew in (
       omega arith,
       sends_as (λ q v h. and_taken c.args.ids.now l.p-index i (λ x. arrives w c.args.set.now c.args.moved.now x v) q)
@@ -40,4 +47,4 @@ loop-p-preserved c =
 pub returns : goal.returns
 returns c =
     let l = c.loop-p in
-    sends_as (λ q v h. ap (λ (ps : List ℕ). mem q ps && arrives c.args.words.now c.args.set.now c.args.moved.now q v) (take_all l.p-index c.args.ids.now (omega arith))) l.invariant.1
+    sends_as (λ q v h. ap (λ (ps : List ℕ). mem q ps && arrives c.args.image.words.now c.args.set.now c.args.moved.now q v) (take_all l.p-index c.args.ids.now (omega arith))) l.invariant.1

@@ -8,4 +8,4 @@ use Rattle.sir_analyses.specs.inner.Tables.{arrives, Sends}
 use Rattle.sir_analyses.proofs.local_liveness.send_all.Given as goal
 
 abbrev pub invariant-loop-p : goal.invariant-loop-p
-invariant-loop-p l = (l.p-index ≤ length l.ids) × Sends (blocks l.words) l.initial.exits (λ q i. mem q (take l.p-index l.ids) && arrives l.words l.set l.moved q i) l.exits l.grew
+invariant-loop-p l = (l.p-index ≤ length l.ids) × Sends (blocks l.image.words.now) l.initial.exits (λ q i. mem q (take l.p-index l.ids) && arrives l.image.words.now l.set l.moved q i) l.exits l.grew

@@ -10,4 +10,4 @@ use Rattle.sir_analyses.specs.inner.Tables.{Sends}
 use Rattle.sir_analyses.proofs.local_liveness.send_moved.Given as goal
 
 abbrev pub invariant-loop-at : goal.invariant-loop-at
-invariant-loop-at l = (l.at-index ≤ length l.moved) × Sends (blocks l.words) l.initial.exits (λ r i. eqb r l.row && mem i (map (λ j. get_or l.outputs j 0) (take l.at-index l.moved))) l.exits l.grew
+invariant-loop-at l = (l.at-index ≤ length l.moved) × Sends (blocks l.p.image.words.now) l.initial.exits (λ r i. eqb r l.row && mem i (map (λ j. get_or l.outputs j 0) (take l.at-index l.moved))) l.exits l.grew

@@ -4,7 +4,7 @@ use Rattle.sir_analyses.proofs.local_liveness.sets_before_passes.Goals as goal
 
 pub end_sets-requires : goal.end_sets-requires
 end_sets-requires c =
-    record { well_formed = c.requires.well_formed; ends_value = ends_empty c.block_sets.ensures.1 }
+    record { ends_value = ends_empty c.block_sets.ensures.1 }
 
 pub returns : goal.returns
 returns c =

@@ -7,4 +7,4 @@ use Rattle.sir_analyses.proofs.merged_intervals.MergedIntervals.{Sweeping}
 use Rattle.sir_analyses.proofs.merged_intervals.merge_intervals.Given as goal
 
 abbrev pub invariant-loop-o : goal.invariant-loop-o
-invariant-loop-o l = (l.o-start ≤ l.o) × (length l.run ≡ 3075) × (length l.set ≡ 8) × (3 * l.o + 3 ≤ l.n) × (l.n ≤ 3075) × Sweeping l.words l.reach l.b.0 (range l.o l.initial.o) l.set l.run l.till l.n
+invariant-loop-o l = (l.o-start ≤ l.o) × (length l.run ≡ 3075) × (length l.set ≡ 8) × (3 * l.o + 3 ≤ l.n) × (l.n ≤ 3075) × Sweeping l.analysed.image.words.now l.reach l.b.0 (range l.o l.initial.o) l.set l.run l.till l.n

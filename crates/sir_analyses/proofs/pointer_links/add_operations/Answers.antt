@@ -13,5 +13,5 @@ pub loop-o-preserved : goal.loop-o-preserved
 loop-o-preserved c =
     let l = c.loop-o in
     let n : 512 * (l.o / 512) + l.o % 512 ≡ l.o = omega arith in
-    let a : Adds l.visited (λ r i. eqb (512 * r + i) l.o) c.row_add.new.table = rw (c.row_add.ensures.1, n) (adds_number l.visited l.o) in
+    let a : Adds l.seen (λ r i. eqb (512 * r + i) l.o) c.row_add.new.table = rw (c.row_add.ensures.1, n) (adds_number l.seen l.o) in
     (omega arith, omega arith, adds_as (λ r i h. range_more (512 * r + i) c.operations-span.result.start l.o l.invariant.0) (adds_then l.invariant.2 a))

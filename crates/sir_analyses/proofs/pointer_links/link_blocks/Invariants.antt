@@ -10,4 +10,4 @@ use Rattle.sir_analyses.specs.inner.Pointers.{passes_by}
 use Rattle.sir_analyses.proofs.pointer_links.link_blocks.Given as goal
 
 abbrev pub invariant-loop-id : goal.invariant-loop-id
-invariant-loop-id l = (l.id-index ≤ length l.id-items) × Adds l.initial.links (λ v u. any (λ b. any (λ s. passes_by l.words b s v u) (successors l.words b)) (take l.id-index l.id-items)) l.links × Adds l.initial.causes (λ r v. any (λ b. eqb r 1 && mem v (returned l.words b)) (take l.id-index l.id-items)) l.causes
+invariant-loop-id l = (l.id-index ≤ length l.id-items) × Adds l.initial.links (λ v u. any (λ b. any (λ s. passes_by l.visited.image.words.now b s v u) (successors l.visited.image.words.now b)) (take l.id-index l.id-items)) l.links × Adds l.initial.causes (λ r v. any (λ b. eqb r 1 && mem v (returned l.visited.image.words.now b)) (take l.id-index l.id-items)) l.causes

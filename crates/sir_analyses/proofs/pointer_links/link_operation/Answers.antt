@@ -18,8 +18,8 @@ pub add_run-requires : goal.add_run-requires
 add_run-requires c =
     let in_range = c.requires.o_bound.0 in
     let l = c.loop-v in
-    let h = read_places c.requires.well_formed c.args.o.0 l.v-index c.op_inputs-inputs.ensures in_range c.loop-v-test.true in
-    record { row_in_bounds = omega (arith, l.invariant.1.long, h); by_index = λ v m. small c.requires.well_formed (c.requires.well_formed.in_range.written c.args.o.0 v in_range (rw c.op_outputs-outputs.ensures at m)) }
+    let h = read_places c.args.image.well_formed c.args.o.0 l.v-index c.op_inputs-inputs.ensures in_range c.loop-v-test.true in
+    record { row_in_bounds = omega (arith, l.invariant.1.long, h); by_index = λ v m. small c.args.image.well_formed (c.args.image.well_formed.in_range.written c.args.o.0 v in_range (rw c.op_outputs-outputs.ensures at m)) }
 
 pub loop-v-preserved : goal.loop-v-preserved
 loop-v-preserved c =
@@ -35,7 +35,7 @@ returns c =
     let l = c.loop-v in
     let xs = c.op_inputs-inputs.result.now in
     let ys = c.op_outputs-outputs.result.now in
-    let t : derives (code c.args.words.now c.args.o.0) ≡ true = ap derives (sym c.op_word.ensures) ∙ sym c.can_derive_pointer.ensures ∙ c.if-not-can_derive_pointer.false in
+    let t : derives (code c.args.image.words.now c.args.o.0) ≡ true = ap derives (sym c.op_word.ensures) ∙ sym c.can_derive_pointer.ensures ∙ c.if-not-can_derive_pointer.false in
     let a : Adds c.args.links.now (λ v u. mem v xs && mem u ys) l.links =
     adds_as (λ v u h. and_all (mem u ys) xs l.v-index c.loop-v-test.false v ∙ and_comm (mem u ys) (mem v xs)) l.invariant.1 in
     adds_as (λ v u h. rw t) (rw (c.op_inputs-inputs.ensures, c.op_outputs-outputs.ensures) at a)

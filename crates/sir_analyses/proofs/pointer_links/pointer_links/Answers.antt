@@ -6,4 +6,4 @@ pub returns : goal.returns
 returns c =
     let r = c.link_operations.ensures in
     let b = c.link_blocks.ensures in
-    pointer_rows c.args.words.now c.requires.visit_stage.well_formed c.requires.links_value.0 c.requires.links_value.1 r.adds r.adds_2 b.adds b.adds_2
+    pointer_rows c.args.visited.image.words.now c.args.visited.visit_stage.well_formed c.requires.links_value.0 c.requires.links_value.1 r.adds r.adds_2 b.adds b.adds_2

@@ -7,4 +7,4 @@ use Rattle.sir_analyses.specs.inner.Tables.{Adds}
 use Rattle.sir_analyses.proofs.pointer_links.visited_ops.Given as goal
 
 abbrev pub invariant-loop-b : goal.invariant-loop-b
-invariant-loop-b l = (l.b-index ≤ length l.b-items) × Adds l.initial.visited (λ r n. any (λ b. mem (512 * r + n) (ops l.words b)) (take l.b-index l.b-items)) l.visited
+invariant-loop-b l = (l.b-index ≤ length l.b-items) × Adds l.initial.seen (λ r n. any (λ b. mem (512 * r + n) (ops l.visited.image.words.now b)) (take l.b-index l.b-items)) l.seen

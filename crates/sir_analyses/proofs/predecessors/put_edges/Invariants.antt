@@ -6,4 +6,4 @@ use Rattle.sir_analyses.proofs.predecessors.Edges.{edges_left}
 use Rattle.sir_analyses.proofs.predecessors.put_edges.Given as goal
 
 abbrev pub invariant-loop-i : goal.invariant-loop-i
-invariant-loop-i l = (l.i ≤ l.count) × Putting l.n (edges_from l.words l.p.0 l.b.0) l.initial.out (edges_left l.words l.p.0 l.b.0 l.i) l.out l.m
+invariant-loop-i l = (l.i ≤ l.count) × Putting l.n (edges_from l.p.image.words.now l.p.id.0 l.b.0) l.initial.out (edges_left l.p.image.words.now l.p.id.0 l.b.0 l.i) l.out l.m

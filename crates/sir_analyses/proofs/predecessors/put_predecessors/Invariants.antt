@@ -6,4 +6,4 @@ use Rattle.sir_analyses.proofs.predecessors.Edges.{predecessors_left}
 use Rattle.sir_analyses.proofs.predecessors.put_predecessors.Given as goal
 
 abbrev pub invariant-loop-p : goal.invariant-loop-p
-invariant-loop-p l = (l.p ≤ l.count) × Putting 0 (predecessors l.words l.b.0) l.initial.out (predecessors_left l.words l.b.0 l.p l.count) l.out l.m
+invariant-loop-p l = (l.p ≤ l.count) × Putting 0 (predecessors l.visited.image.words.now l.b.0) l.initial.out (predecessors_left l.visited.image.words.now l.b.0 l.p l.count) l.out l.m

@@ -41,26 +41,26 @@ kids w f b o last i h l calls rest = then (going_all (calls_end w o last h) call
 
 pub visit_block-returns-then-not-row_add : goal.visit_block-returns-then-not-row_add
 visit_block-returns-then-not-row_add t c =
-    skip_block c.requires.well_formed c.requires.held c.args.f.0 c.args.b.0 c.requires.b_bound c.row_add.ensures.1 (was_seen _ c.row_add.ensures.0 c.if-not-row_add.true)
+    skip_block c.args.image.well_formed c.requires.held c.args.f.0 c.args.b.0 c.requires.b_bound c.row_add.ensures.1 (was_seen _ c.row_add.ensures.0 c.if-not-row_add.true)
 
 pub visit_block-calls-init : goal.visit_block-calls-init
 visit_block-calls-init t c =
-    (le_refl _, going_none (block_entered c.requires.well_formed c.requires.held c.args.b.0 c.requires.b_bound c.row_add.ensures c.if-not-row_add.false).held)
+    (le_refl _, going_none (block_entered c.args.image.well_formed c.requires.held c.args.b.0 c.requires.b_bound c.row_add.ensures c.if-not-row_add.false).held)
 
 pub visit_block-visit_function-m-requires : goal.visit_block-visit_function-m-requires
 visit_block-visit_function-m-requires t c =
-    let ok = c.requires.well_formed in
+    let ok = c.args.image.well_formed in
     let calls = c.calls.invariant.1 in
     let entered = block_entered ok c.requires.held c.args.b.0 c.requires.b_bound c.row_add.ensures c.if-not-row_add.false in
     let operations_below = ok.in_range.ops_range c.args.b.0 c.requires.b_bound in
-    let below = callee_below ok c.calls.o _ (omega (arith, operations_below, c.block_operations-span.ensures, c.calls-test.true)) c.in-Some.ensures in
-    (omega (arith, entered.fewer, c.decreases, calls.down), (ok, (below, calls.held)))
+    let below = callee_below ok c.calls.o _ (omega (arith, operations_below, c.operations-span.ensures, c.calls-test.true)) c.in-Some.ensures in
+    (omega (arith, entered.fewer, c.decreases, calls.down), (below, calls.held))
 
 pub visit_block-calls-preserved : goal.visit_block-calls-preserved
 visit_block-calls-preserved t c =
-    let w = c.args.words.now in
+    let w = c.args.image.words.now in
     let o = c.calls.o in
-    let last = c.block_operations-span.result.end in
+    let last = c.operations-span.result.end in
     let turn = c.calls-test.true in (
       omega (arith, c.calls.invariant.0),
       elim c.match-callee.branch [
@@ -71,17 +71,17 @@ visit_block-calls-preserved t c =
 
 pub visit_block-visit_block-m-requires : goal.visit_block-visit_block-m-requires
 visit_block-visit_block-m-requires t c =
-    let ok = c.requires.well_formed in
+    let ok = c.args.image.well_formed in
     let L = c.successors in
     let entered = block_entered ok c.requires.held c.args.b.0 c.requires.b_bound c.row_add.ensures c.if-not-row_add.false in
     let below = successor_below ok c.args.b.0 L.i c.requires.b_bound (omega (arith, c.successor_count-count.ensures, c.successors-test.true)) in (
       omega (arith, entered.fewer, c.decreases, L.invariant.down, c.calls.invariant.1.down),
-      (ok, (c.requires.f_bound, (omega (arith, c.successor.ensures, below), L.invariant.held))),
+      (c.requires.f_bound, (omega (arith, c.successor.ensures, below), L.invariant.held)),
     )
 
 pub visit_block-successors-preserved : goal.visit_block-successors-preserved
 visit_block-successors-preserved t c =
-    let w = c.args.words.now in
+    let w = c.args.image.words.now in
     let b = c.args.b.0 in
     let L = c.successors in
     let l : L.i < length (successors w b) = omega (arith, c.successor_count-count.ensures, c.successors-test.true) in
@@ -89,8 +89,8 @@ visit_block-successors-preserved t c =
 
 pub visit_block-push-requires : goal.visit_block-push-requires
 visit_block-push-requires t c =
-    let w = c.args.words.now in
-    let ok = c.requires.well_formed in
+    let w = c.args.image.words.now in
+    let ok = c.args.image.well_formed in
     let L = c.successors in
     let entered = block_entered ok c.requires.held c.args.b.0 c.requires.b_bound c.row_add.ensures c.if-not-row_add.false in
     let e : length (successors w c.args.b.0) ≤ L.i = omega (arith, c.successor_count-count.ensures, c.successors-test.false) in
@@ -99,12 +99,12 @@ visit_block-push-requires t c =
 
 pub visit_block-returns : goal.visit_block-returns
 visit_block-returns t c =
-    let w = c.args.words.now in
+    let w = c.args.image.words.now in
     let f = c.args.f.0 in
     let b = c.args.b.0 in
-    let ok = c.requires.well_formed in
+    let ok = c.args.image.well_formed in
     let L = c.successors in
-    let span = c.block_operations-span.ensures in
+    let span = c.operations-span.ensures in
     let entered = block_entered ok c.requires.held b c.requires.b_bound c.row_add.ensures c.if-not-row_add.false in
     let e : length (successors w b) ≤ L.i = omega (arith, c.successor_count-count.ensures, c.successors-test.false) in
     let led = kids w f b c.calls.o _ L.i c.calls-test.false e c.calls.invariant.1 L.invariant in
@@ -116,24 +116,24 @@ visit_block-returns t c =
 pub visit_function-returns-then-not-row_add : goal.visit_function-returns-then-not-row_add
 visit_function-returns-then-not-row_add t c =
     let a = rw zero-add at c.row_add.ensures in
-    skip_function c.requires.well_formed c.requires.held c.args.f.0 c.requires.f_bound a.1 (was_seen _ a.0 c.if-not-row_add.true)
+    skip_function c.args.image.well_formed c.requires.held c.args.f.0 c.requires.f_bound a.1 (was_seen _ a.0 c.if-not-row_add.true)
 
 pub visit_function-visit_block-m-requires : goal.visit_function-visit_block-m-requires
 visit_function-visit_block-m-requires t c =
-    let ok = c.requires.well_formed in
+    let ok = c.args.image.well_formed in
     let entered = function_entered ok c.requires.held c.args.f.0 c.requires.f_bound c.row_add.ensures c.if-not-row_add.false in
     let below = ok.in_range.entry c.args.f.0 c.requires.f_bound in
-    (omega (arith, entered.fewer, c.decreases), (ok, (c.requires.f_bound, (omega (arith, c.entry_block.ensures, below), entered.held))))
+    (omega (arith, entered.fewer, c.decreases), (c.requires.f_bound, (omega (arith, c.entry_block.ensures, below), entered.held)))
 
 pub visit_function-push-requires : goal.visit_function-push-requires
 visit_function-push-requires t c =
-    let entered = function_entered c.requires.well_formed c.requires.held c.args.f.0 c.requires.f_bound c.row_add.ensures c.if-not-row_add.false in
+    let entered = function_entered c.args.image.well_formed c.requires.held c.args.f.0 c.requires.f_bound c.row_add.ensures c.if-not-row_add.false in
     let led = c.visit_block-m.ensures in
-    omega (arith, fits c.requires.well_formed entered led, led.held.long)
+    omega (arith, fits c.args.image.well_formed entered led, led.held.long)
 
 pub visit_function-returns : goal.visit_function-returns
 visit_function-returns t c =
-    let ok = c.requires.well_formed in
+    let ok = c.args.image.well_formed in
     let f = c.args.f.0 in
     let a = rw zero-add at c.row_add.ensures in
     let entered = function_entered ok c.requires.held f c.requires.f_bound c.row_add.ensures c.if-not-row_add.false in

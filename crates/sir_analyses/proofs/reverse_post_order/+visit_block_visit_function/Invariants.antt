@@ -12,15 +12,15 @@ abbrev pub fuel : List ℕ → ℕ
 fuel w = functions w + blocks w
 
 abbrev pub decreases-visit_block : goal.decreases-visit_block
-decreases-visit_block l = unseen l.words.now l.seen.now
+decreases-visit_block l = unseen l.image.words.now l.seen.now
 
 abbrev pub decreases-visit_function : goal.decreases-visit_function
-decreases-visit_function l = unseen l.words.now l.seen.now
+decreases-visit_function l = unseen l.image.words.now l.seen.now
 
 abbrev pub invariant-visit_block-calls : goal.invariant-visit_block-calls
 invariant-visit_block-calls l =
-    (l.initial.o ≤ l.o) × Going l.words (visit_function (fuel l.words) l.words) (bind (range l.initial.o l.o-end) (callees l.words)) l.initial.seen l.initial.postorder l.initial.m (bind (range l.o l.o-end) (callees l.words)) l.seen l.postorder l.m
+    (l.initial.o ≤ l.o) × Going l.image.words.now (visit_function (fuel l.image.words.now) l.image.words.now) (bind (range l.initial.o l.o-end) (callees l.image.words.now)) l.initial.seen l.initial.postorder l.initial.m (bind (range l.o l.o-end) (callees l.image.words.now)) l.seen l.postorder l.m
 
 abbrev pub invariant-visit_block-successors : goal.invariant-visit_block-successors
 invariant-visit_block-successors l =
-    Going l.words (visit_block (fuel l.words) l.words l.f.0) (successors l.words l.b.0) l.initial.seen l.initial.postorder l.initial.m (drop l.i (successors l.words l.b.0)) l.seen l.postorder l.m
+    Going l.image.words.now (visit_block (fuel l.image.words.now) l.image.words.now l.f.0) (successors l.image.words.now l.b.0) l.initial.seen l.initial.postorder l.initial.m (drop l.i (successors l.image.words.now l.b.0)) l.seen l.postorder l.m

@@ -11,28 +11,28 @@ use Rattle.sir_answers.proofs.all_allocations.all_allocations_answer.Goals as go
 
 pub slice_bounds-cursors-end : goal.slice_bounds-cursors-end
 slice_bounds-cursors-end c =
-    let stage = c.requires.pointer_stage in
-    let sites = c.alloc_sites-n in
+    let stage = c.args.tables.pointer_stage in
+    let sites = c.sites-n in
     let n = length sites.result.now in
-    let e : n ≡ length (allocs c.args.words.now) = ap length (sites.ensures ∙ stage.sites_are) ∙ sites_long c.args.words.now in
+    let e : n ≡ length (allocs c.args.tables.image.words.now) = ap length ((rw c.pointed.ensures.1 at sites.ensures) ∙ stage.sites_are) ∙ sites_long c.args.tables.image.words.now in
     let h : n ≤ 512 = omega (arith, e, allocations_few stage) in
     h
 
 pub slice_bounds-fill_allocations-end : goal.slice_bounds-fill_allocations-end
 slice_bounds-fill_allocations-end c =
-    let stage = c.requires.pointer_stage in
-    let sites = c.alloc_sites-n in
+    let stage = c.args.tables.pointer_stage in
+    let sites = c.sites-n in
     let n = length sites.result.now in
-    let e : n ≡ length (allocs c.args.words.now) = ap length (sites.ensures ∙ stage.sites_are) ∙ sites_long c.args.words.now in
+    let e : n ≡ length (allocs c.args.tables.image.words.now) = ap length ((rw c.pointed.ensures.1 at sites.ensures) ∙ stage.sites_are) ∙ sites_long c.args.tables.image.words.now in
     let h : n ≤ 512 = omega (arith, e, allocations_few stage) in
     sym (fixed_long n 512 (2 ^ 59) h)
 
 pub fill_allocations-requires : goal.fill_allocations-requires
 fill_allocations-requires c =
-    let stage = c.requires.pointer_stage in
-    let sites = c.alloc_sites-n in
+    let stage = c.args.tables.pointer_stage in
+    let sites = c.sites-n in
     let n = length sites.result.now in
-    let e : n ≡ length (allocs c.args.words.now) = ap length (sites.ensures ∙ stage.sites_are) ∙ sites_long c.args.words.now in
+    let e : n ≡ length (allocs c.args.tables.image.words.now) = ap length ((rw c.pointed.ensures.1 at sites.ensures) ∙ stage.sites_are) ∙ sites_long c.args.tables.image.words.now in
     let h : n ≤ 512 = omega (arith, e, allocations_few stage) in
     let long = fixed_long n 512 (2 ^ 59) h in
-    record { visit_stage = c.requires.visit_stage; liveness_stage = c.requires.liveness_stage; pointer_stage = stage; cursors_len = (long ∙ e, λ a l. fixed_at n 512 (2 ^ 59) a h (omega (arith, l, long))) }
+    record { cursors_len = (long ∙ e, λ a l. fixed_at n 512 (2 ^ 59) a h (omega (arith, l, long))) }

@@ -8,10 +8,10 @@ use Rattle.sir_answers.proofs.all_allocations.count_allocations.Goals as goal
 
 pub scan_allocations-requires : goal.scan_allocations-requires
 scan_allocations-requires c =
-    let stage = c.requires.pointer_stage in
+    let stage = c.args.tables.pointer_stage in
     let wide = c.requires.cursors_len.0 in
     let top = c.requires.cursors_len.1 in
-    record { visit_stage = c.requires.visit_stage; liveness_stage = c.requires.liveness_stage; pointer_stage = stage; cursors_len = (wide, top_fits wide top (records_counted stage) (records_small stage)) }
+    record { cursors_len = (wide, top_fits wide top (records_counted stage) (records_small stage)) }
 
 pub passed_words-requires : goal.passed_words-requires
 passed_words-requires c =
@@ -21,7 +21,7 @@ passed_words-requires c =
 
 pub returns : goal.returns
 returns c =
-    let stage = c.requires.pointer_stage in
+    let stage = c.args.tables.pointer_stage in
     let wide = c.requires.cursors_len.0 in
     let top = c.requires.cursors_len.1 in
     passed_all wide top (records_counted stage) (records_small stage) c.scan_allocations.ensures (omega (arith, c.passed_words.auto, c.scan_allocations.auto)) c.passed_words.ensures

@@ -17,14 +17,14 @@ use Rattle.sir_answers.proofs.all_allocations.put_heads.Goals as goal
 
 pub loop-a-init : goal.loop-a-init
 loop-a-init c =
-    let w = c.args.words.now in
+    let w = c.args.pointed.image.words.now in
     let e : bind (range 0 (length c.args.cursors.now)) (λ a. (a, head_of w a) ∷ []) ≡ head_pieces w = rw (range_all, c.requires.cursors_len.0) in
     (scattering_as (sym e) (scattering_none c.requires.cursors_len.1), λ u p q. refl)
 
 pub overflow_cast-id : goal.overflow_cast-id
 overflow_cast-id c =
-    let w = c.args.words.now in
-    let stage = c.requires.pointer_stage in
+    let w = c.args.pointed.image.words.now in
+    let stage = c.args.pointed.pointer_stage in
     let L = c.loop-a in
     let h = c.loop-a-test.true in
     let l : L.a < length (allocs w) = omega (arith, h, L.invariant.0.wide, c.requires.cursors_len.0) in
@@ -32,8 +32,8 @@ overflow_cast-id c =
 
 pub overflow_cast-count : goal.overflow_cast-count
 overflow_cast-count c =
-    let w = c.args.words.now in
-    let stage = c.requires.pointer_stage in
+    let w = c.args.pointed.image.words.now in
+    let stage = c.args.pointed.pointer_stage in
     let L = c.loop-a in
     let h = c.loop-a-test.true in
     let l : L.a < length (allocs w) = omega (arith, h, L.invariant.0.wide, c.requires.cursors_len.0) in
@@ -42,7 +42,7 @@ overflow_cast-count c =
 
 pub prepend-requires : goal.prepend-requires
 prepend-requires c =
-    let w = c.args.words.now in
+    let w = c.args.pointed.image.words.now in
     let L = c.loop-a in
     let h = c.loop-a-test.true in
     let l : L.a < length (allocs w) = omega (arith, h, L.invariant.0.wide, c.requires.cursors_len.0) in
@@ -54,7 +54,7 @@ prepend-requires c =
 
 pub loop-a-preserved : goal.loop-a-preserved
 loop-a-preserved c =
-    let w = c.args.words.now in
+    let w = c.args.pointed.image.words.now in
     let L = c.loop-a in
     let h = c.loop-a-test.true in
     let l : L.a < length (allocs w) = omega (arith, h, L.invariant.0.wide, c.requires.cursors_len.0) in
@@ -67,5 +67,5 @@ loop-a-preserved c =
 
 pub returns : goal.returns
 returns c =
-    let w = c.args.words.now in
+    let w = c.args.pointed.image.words.now in
     scattering_all (bind_end (λ a. (a, head_of w a) ∷ []) c.loop-a.a (length c.args.cursors.now) (omega (arith, c.loop-a-test.false, c.loop-a.invariant.0.wide))) c.loop-a.invariant.0

@@ -10,4 +10,4 @@ use Rattle.sir_answers.proofs.scatter.Scattering.{Scattering}
 use Rattle.sir_answers.proofs.all_allocations.put_heads.Given as goal
 
 abbrev pub invariant-loop-a : goal.invariant-loop-a
-invariant-loop-a l = Scattering backward (head_pieces l.words) l.initial.cursors l.initial.out (bind (range l.a (length l.initial.cursors)) (λ a. (a, head_of l.words a) ∷ [])) l.cursors l.out × ((u : ℕ) → l.a ≤ u → u < length l.initial.cursors → number_at l.cursors u ≡ number_at l.initial.cursors u)
+invariant-loop-a l = Scattering backward (head_pieces l.pointed.image.words.now) l.initial.cursors l.initial.out (bind (range l.a (length l.initial.cursors)) (λ a. (a, head_of l.pointed.image.words.now a) ∷ [])) l.cursors l.out × ((u : ℕ) → l.a ≤ u → u < length l.initial.cursors → number_at l.cursors u ≡ number_at l.initial.cursors u)

@@ -10,18 +10,18 @@ use Rattle.sir_answers.proofs.all_allocations.record_head.Goals as goal
 
 pub site_of-site-requires : goal.site_of-site-requires
 site_of-site-requires c =
-    omega (arith, ap length (c.alloc_sites.ensures ∙ c.requires.pointer_stage.sites_are), sites_long c.args.words.now, c.requires.a_in_bounds)
+    omega (arith, ap length (c.sites.ensures ∙ c.args.pointed.pointer_stage.sites_are), sites_long c.args.pointed.image.words.now, c.requires.a_in_bounds)
 
 pub flags_of-requires : goal.flags_of-requires
 flags_of-requires c =
-    (c.requires.pointer_stage.long, omega (arith, c.requires.a_in_bounds, allocations_few c.requires.pointer_stage))
+    omega (arith, c.requires.a_in_bounds, allocations_few c.args.pointed.pointer_stage)
 
 pub alloc_head-requires : goal.alloc_head-requires
 alloc_head-requires c =
-    let x = c.site_of-site.ensures c.args.words.now c.requires.pointer_stage.well_formed (c.alloc_sites.ensures ∙ c.requires.pointer_stage.sites_are) in
-    record { well_formed = c.requires.pointer_stage.well_formed; op_bound = site_known c.args.words.now c.requires.pointer_stage.well_formed x }
+    let x = c.site_of-site.ensures c.args.pointed.image.words.now c.args.pointed.pointer_stage.well_formed (c.sites.ensures ∙ c.args.pointed.pointer_stage.sites_are) in
+    record { op_bound = site_known c.args.pointed.image.words.now c.args.pointed.pointer_stage.well_formed x }
 
 pub returns : goal.returns
 returns c =
-    let x = c.site_of-site.ensures c.args.words.now c.requires.pointer_stage.well_formed (c.alloc_sites.ensures ∙ c.requires.pointer_stage.sites_are) in
-    λ e. c.alloc_head.ensures ∙ head_same x (c.flags_of.ensures ∙ (c.requires.pointer_stage.discovered.flags_are c.args.a.0 x.known).word) e
+    let x = c.site_of-site.ensures c.args.pointed.image.words.now c.args.pointed.pointer_stage.well_formed (c.sites.ensures ∙ c.args.pointed.pointer_stage.sites_are) in
+    λ e. c.alloc_head.ensures ∙ head_same x (c.flags_of.ensures ∙ (c.args.pointed.pointer_stage.discovered.flags_are c.args.a.0 x.known).word) e

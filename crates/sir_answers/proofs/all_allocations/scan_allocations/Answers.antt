@@ -13,32 +13,32 @@ use Rattle.sir_answers.proofs.all_allocations.scan_allocations.Goals as goal
 
 pub slice_bounds-tops-end : goal.slice_bounds-tops-end
 slice_bounds-tops-end c =
-    omega (arith, c.requires.cursors_len.0, allocations_few c.requires.pointer_stage)
+    omega (arith, c.requires.cursors_len.0, allocations_few c.args.tables.pointer_stage)
 
 pub slice_bounds-copy_from_slice-end : goal.slice_bounds-copy_from_slice-end
 slice_bounds-copy_from_slice-end c =
-    sym (length-take-le _ _ (omega (arith, c.requires.cursors_len.0, allocations_few c.requires.pointer_stage)))
+    sym (length-take-le _ _ (omega (arith, c.requires.cursors_len.0, allocations_few c.args.tables.pointer_stage)))
 
 pub copy_from_slice-requires : goal.copy_from_slice-requires
 copy_from_slice-requires c =
-    length-take-le _ _ (omega (arith, c.requires.cursors_len.0, allocations_few c.requires.pointer_stage))
+    length-take-le _ _ (omega (arith, c.requires.cursors_len.0, allocations_few c.args.tables.pointer_stage))
 
 pub sweep_blocks-requires : goal.sweep_blocks-requires
 sweep_blocks-requires c =
-    let w = c.args.words.now in
+    let w = c.args.tables.image.words.now in
     let wide = c.requires.cursors_len.0 in
     let fits = fits_first (visited_pieces w) (head_pieces w) c.requires.cursors_len.1 in
-    record { visit_stage = c.requires.visit_stage; liveness_stage = c.requires.liveness_stage; owned_tables = c.owned_tables.ensures; cursors_len = (wide, fits) }
+    record { owned_tables = c.owned_tables.ensures; cursors_len = (wide, fits) }
 
 pub put_heads-requires : goal.put_heads-requires
 put_heads-requires c =
-    let w = c.args.words.now in
+    let w = c.args.tables.image.words.now in
     let wide = c.requires.cursors_len.0 in
     let fits = fits_first (visited_pieces w) (head_pieces w) c.requires.cursors_len.1 in
     let s = c.sweep_blocks in
     let kept : length s.new.cursors ≡ length c.args.cursors.now = omega (arith, s.auto) in
     let copied : length c.copy_from_slice.new.self ≡ length c.args.cursors.now = ap length c.copy_from_slice.ensures.after in
-    record { pointer_stage = c.requires.pointer_stage; cursors_len = (kept ∙ wide, fits_rest (head_pieces w) c.requires.cursors_len.1 s.ensures); cursors_in_bounds = (omega (arith, kept, c.copy_from_slice.ensures.after, copied, length-append {A = ℕ}), λ a h. get_or-append c.copy_from_slice.new.self _ 0 a (omega (arith, copied, kept)) ∙ ap (λ (l : List ℕ). get_or l a 0) c.copy_from_slice.ensures.after ∙ tops_are c.requires.pointer_stage a wide fits s.ensures (omega (arith, kept))) }
+    record { cursors_len = (kept ∙ wide, fits_rest (head_pieces w) c.requires.cursors_len.1 s.ensures); cursors_in_bounds = (omega (arith, kept, c.copy_from_slice.ensures.after, copied, length-append {A = ℕ}), λ a h. get_or-append c.copy_from_slice.new.self _ 0 a (omega (arith, copied, kept)) ∙ ap (λ (l : List ℕ). get_or l a 0) c.copy_from_slice.ensures.after ∙ tops_are c.args.tables.pointer_stage a wide fits s.ensures (omega (arith, kept))) }
 
 pub returns : goal.returns
 returns c =

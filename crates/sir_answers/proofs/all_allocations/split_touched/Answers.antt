@@ -12,19 +12,19 @@ use Rattle.sir_answers.proofs.all_allocations.split_touched.Goals as goal
 
 pub row_of-requires : goal.row_of-requires
 row_of-requires c =
-    omega (arith, ap length c.writes.ensures ∙ length_part 8192 8192 c.args.live.now (omega (arith, c.requires.live_len.0)), c.requires.live_len.1)
+    omega (arith, ap length c.writes.ensures ∙ length_part 8192 8192 c.args.live.now (omega (arith, c.told-live)), c.requires.o_bound)
 
 pub row_union_with-requires : goal.row_union_with-requires
 row_union_with-requires c =
-    (omega arith, ap length c.row_of.ensures ∙ length_row _ _ (omega (arith, ap length c.writes.ensures ∙ length_part 8192 8192 c.args.live.now (omega (arith, c.requires.live_len.0)), c.requires.live_len.1)))
+    (omega arith, ap length c.row_of.ensures ∙ length_row _ _ (omega (arith, ap length c.writes.ensures ∙ length_part 8192 8192 c.args.live.now (omega (arith, c.told-live)), c.requires.o_bound)))
 
 pub row_of-requires-2 : goal.row_of-requires-2
 row_of-requires-2 c =
-    omega (arith, ap length c.reads.ensures ∙ length_part 0 8192 c.args.live.now (omega (arith, c.requires.live_len.0)), c.requires.live_len.1)
+    omega (arith, ap length c.reads.ensures ∙ length_part 0 8192 c.args.live.now (omega (arith, c.told-live)), c.requires.o_bound)
 
 pub row_union_with-requires-2 : goal.row_union_with-requires-2
 row_union_with-requires-2 c =
-    (omega (arith, c.row_union_with.auto), ap length c.row_of-2.ensures ∙ length_row _ _ (omega (arith, ap length c.reads.ensures ∙ length_part 0 8192 c.args.live.now (omega (arith, c.requires.live_len.0)), c.requires.live_len.1)))
+    (omega (arith, c.row_union_with.auto), ap length c.row_of-2.ensures ∙ length_row _ _ (omega (arith, ap length c.reads.ensures ∙ length_part 0 8192 c.args.live.now (omega (arith, c.told-live)), c.requires.o_bound)))
 
 pub returns : goal.returns
 returns c =

@@ -27,11 +27,11 @@ set_ends-requires c =
 pub loop-o-init : goal.loop-o-init
 loop-o-init c =
     let a = c.args in
-    let w = a.words.now in
+    let w = a.tables.image.words.now in
     let b = a.b.0 in
-    let stage = c.requires.liveness_stage in
+    let stage = c.args.tables.liveness_stage in
     let below = c.requires.b_bound in
-    let span = c.block_operations-span in
+    let span = c.operations-span in
     let few = stage.well_formed.in_range.ops_range b below in
     let os : ops w b ≡ range span.result.start span.result.end = sym (ap₂ range span.ensures.0 span.ensures.1) in
     let none = range_none span.result.end span.result.end (omega arith) in
@@ -42,12 +42,12 @@ loop-o-init c =
 pub close_before-requires : goal.close_before-requires
 close_before-requires c =
     let a = c.args in
-    let w = a.words.now in
+    let w = a.tables.image.words.now in
     let b = a.b.0 in
-    let stage = c.requires.liveness_stage in
+    let stage = c.args.tables.liveness_stage in
     let below = c.requires.b_bound in
     let L = c.loop-o in
-    let span = c.block_operations-span in
+    let span = c.operations-span in
     let h = c.loop-o-test.true in
     let o = L.o - 1 in
     let m : o < operations w = omega (arith, h, L.invariant.1) in
@@ -71,12 +71,12 @@ open_ends-requires c =
 pub loop-o-preserved : goal.loop-o-preserved
 loop-o-preserved c =
     let a = c.args in
-    let w = a.words.now in
+    let w = a.tables.image.words.now in
     let b = a.b.0 in
-    let stage = c.requires.liveness_stage in
+    let stage = c.args.tables.liveness_stage in
     let below = c.requires.b_bound in
     let L = c.loop-o in
-    let span = c.block_operations-span in
+    let span = c.operations-span in
     let h = c.loop-o-test.true in
     let o = L.o - 1 in
     let m : o < operations w = omega (arith, h, L.invariant.1) in
@@ -98,27 +98,27 @@ loop-o-preserved c =
 pub close_before-requires-2 : goal.close_before-requires-2
 close_before-requires-2 c =
     let a = c.args in
-    let w = a.words.now in
+    let w = a.tables.image.words.now in
     let b = a.b.0 in
     let L = c.loop-o in
-    let span = c.block_operations-span in
+    let span = c.operations-span in
     let first : L.o ≡ block_word w b 4 = omega (arith, span.ensures, c.loop-o-test.false, L.invariant.0) in
     let os : range L.o span.result.end ≡ ops w b = ap₂ range first span.ensures.1 in
-    let e = open_closed c.requires.liveness_stage c.requires.owned_tables c.requires.b_bound (rw os at L.invariant.4) c.live_owners-m.ensures.1 (rw os at L.invariant.5) in
+    let e = open_closed c.args.tables.liveness_stage c.requires.owned_tables c.requires.b_bound (rw os at L.invariant.4) c.live_owners-m.ensures.1 (rw os at L.invariant.5) in
     let k = scattering_as (swept_last w b span.result.start L.o c.loop-o-test.false) L.invariant.6 in
     let x = c.live_owners-m.ensures.1 in
-    let ready = close_ready e (L.invariant.6.wide ∙ c.requires.cursors_len.0) (open_below w c.requires.liveness_stage.well_formed b c.requires.b_bound) (scattering_fits (open_pieces w b) [] k) in
+    let ready = close_ready e (L.invariant.6.wide ∙ c.requires.cursors_len.0) (open_below w c.args.tables.liveness_stage.well_formed b c.requires.b_bound) (scattering_fits (open_pieces w b) [] k) in
     record { by_index = listed_below x.owners L.till x.listed L.invariant.5.long; below = ready.0; fits = ready.1 }
 
 pub returns : goal.returns
 returns c =
     let a = c.args in
-    let w = a.words.now in
+    let w = a.tables.image.words.now in
     let b = a.b.0 in
     let L = c.loop-o in
-    let span = c.block_operations-span in
+    let span = c.operations-span in
     let first : L.o ≡ block_word w b 4 = omega (arith, span.ensures, c.loop-o-test.false, L.invariant.0) in
     let os : range L.o span.result.end ≡ ops w b = ap₂ range first span.ensures.1 in
-    let e = open_closed c.requires.liveness_stage c.requires.owned_tables c.requires.b_bound (rw os at L.invariant.4) c.live_owners-m.ensures.1 (rw os at L.invariant.5) in
+    let e = open_closed c.args.tables.liveness_stage c.requires.owned_tables c.requires.b_bound (rw os at L.invariant.4) c.live_owners-m.ensures.1 (rw os at L.invariant.5) in
     let k = scattering_as (swept_last w b span.result.start L.o c.loop-o-test.false) L.invariant.6 in
     scattering_all refl (scattering_more [] k (scatters_as e c.close_before-2.ensures))

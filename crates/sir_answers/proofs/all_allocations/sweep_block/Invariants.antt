@@ -12,4 +12,4 @@ use Rattle.sir_answers.proofs.LiveSets.{LiveBefore}
 use Rattle.sir_answers.proofs.all_allocations.sweep_block.Given as goal
 
 abbrev pub invariant-loop-o : goal.invariant-loop-o
-invariant-loop-o l = (l.o-start ≤ l.o) × (l.o ≤ operations l.words) × (l.o ≤ l.initial.o) × (length l.ids ≡ 512) × LiveBefore l.words l.b.0 (range l.o l.initial.o) l.set × SweptEnds l.words l.b.0 (range l.o l.initial.o) l.till × Scattering backward (sweep_pieces l.words l.b.0) l.initial.cursors l.initial.out (swept_left l.words l.b.0 l.o-start l.o) l.cursors l.out
+invariant-loop-o l = (l.o-start ≤ l.o) × (l.o ≤ operations l.tables.image.words.now) × (l.o ≤ l.initial.o) × (length l.ids ≡ 512) × LiveBefore l.tables.image.words.now l.b.0 (range l.o l.initial.o) l.set × SweptEnds l.tables.image.words.now l.b.0 (range l.o l.initial.o) l.till × Scattering backward (sweep_pieces l.tables.image.words.now l.b.0) l.initial.cursors l.initial.out (swept_left l.tables.image.words.now l.b.0 l.o-start l.o) l.cursors l.out

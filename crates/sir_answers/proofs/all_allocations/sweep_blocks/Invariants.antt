@@ -6,4 +6,4 @@ use Rattle.sir_answers.proofs.all_allocations.AllocationPieces.{visited_to}
 use Rattle.sir_answers.proofs.all_allocations.sweep_blocks.Given as goal
 
 abbrev pub invariant-loop-b : goal.invariant-loop-b
-invariant-loop-b l = Scattering backward (visited_pieces l.words) l.initial.cursors l.initial.out (visited_to l.words l.b) l.cursors l.out
+invariant-loop-b l = Scattering backward (visited_pieces l.tables.image.words.now) l.initial.cursors l.initial.out (visited_to l.tables.image.words.now l.b) l.cursors l.out

@@ -8,5 +8,5 @@ use Rattle.sir_answers.proofs.all_intervals.all_intervals_answer.Goals as goal
 pub fill_intervals-requires : goal.fill_intervals-requires
 fill_intervals-requires c =
     let n = c.local_count-n in
-    let h : n.result ≤ 512 = omega (arith, n.ensures, c.requires.visit_stage.well_formed.sized.locals_most) in
-    record { visit_stage = c.requires.visit_stage; liveness_stage = c.requires.liveness_stage; cursors_len = (zero_long n.result 512 h ∙ n.ensures, λ v. zero_prefix n.result 512 v) }
+    let h : n.result ≤ 512 = omega (arith, n.ensures, c.args.analysed.visit_stage.well_formed.sized.locals_most) in
+    record { cursors_len = (zero_long n.result 512 h ∙ n.ensures, λ v. zero_prefix n.result 512 v) }

@@ -8,10 +8,10 @@ use Rattle.sir_answers.proofs.all_intervals.count_intervals.Goals as goal
 
 pub scan_intervals-requires : goal.scan_intervals-requires
 scan_intervals-requires c =
-    let good = c.requires.visit_stage.well_formed in
+    let good = c.args.analysed.visit_stage.well_formed in
     let wide = c.requires.cursors_len.0 in
-    record { visit_stage = c.requires.visit_stage; liveness_stage = c.requires.liveness_stage; cursors_len = (wide, zero_fits wide c.requires.cursors_len.1 (λ v h. ap length (intervals_are good v h)) (intervals_small good)) }
+    record { cursors_len = (wide, zero_fits wide c.requires.cursors_len.1 (λ v h. ap length (intervals_are good v h)) (intervals_small good)) }
 
 pub returns : goal.returns
 returns c =
-    counted_all c.requires.cursors_len.0 c.requires.cursors_len.1 (λ v h. ap length (intervals_are c.requires.visit_stage.well_formed v h)) (omega (arith, c.scan_intervals.auto)) c.scan_intervals.ensures
+    counted_all c.requires.cursors_len.0 c.requires.cursors_len.1 (λ v h. ap length (intervals_are c.args.analysed.visit_stage.well_formed v h)) (omega (arith, c.scan_intervals.auto)) c.scan_intervals.ensures

@@ -15,17 +15,17 @@ use Rattle.sir_answers.proofs.all_intervals.fill_intervals.Goals as goal
 
 pub segments_answer-requires-clause-total : goal.segments_answer-requires-clause-total
 segments_answer-requires-clause-total c =
-    counts_fit c.count_intervals.ensures (intervals_small c.requires.visit_stage.well_formed)
+    counts_fit c.count_intervals.ensures (intervals_small c.args.analysed.visit_stage.well_formed)
 
 pub segments_answer-requires-clause-callable : goal.segments_answer-requires-clause-callable
 segments_answer-requires-clause-callable c =
     λ s t e l.
-    let w = c.args.words.now in
+    let w = c.args.analysed.image.words.now in
     let k : Counts (locals w) (intervals_answer w) s.now = subst (λ (x : List ℕ). Counts (locals w) (intervals_answer w) x) (sym e) c.count_intervals.ensures in
     let m : length t.now ≡ 4 * length (all locals intervals_answer w) = l ∙ ap (λ (i : ℕ). 4 * i) (counts_total c.count_intervals.ensures) in
     search (rules, serving)
 
 pub returns : goal.returns
 returns c =
-    let w = c.args.words.now in
+    let w = c.args.analysed.image.words.now in
     c.segments_answer.ensures (all locals intervals_answer w) (sym (counts_total c.count_intervals.ensures)) (λ s t u v e l p. search rules)

@@ -11,7 +11,7 @@ use Rattle.sir_answers.proofs.all_intervals.open_block.Goals as goal
 
 pub list_row-n-requires : goal.list_row-n-requires
 list_row-n-requires c =
-    (omega (arith, ap length c.exits.ensures ∙ length_part 22528 2048 c.args.live.now (omega (arith, c.requires.live_len)), c.requires.live_len), search rules)
+    (omega (arith, ap length c.exits.ensures ∙ length_part 22528 2048 c.args.live.now (omega (arith, c.told-live)), c.requires.b_bound), search rules)
 
 pub set_ends-requires : goal.set_ends-requires
 set_ends-requires c =
@@ -19,7 +19,7 @@ set_ends-requires c =
 
 pub list_row-m-requires : goal.list_row-m-requires
 list_row-m-requires c =
-    (omega (arith, ap length c.ends.ensures ∙ length_part 20480 2048 c.args.live.now (omega (arith, c.requires.live_len)), c.requires.live_len), omega (arith, c.list_row-n.auto))
+    (omega (arith, ap length c.ends.ensures ∙ length_part 20480 2048 c.args.live.now (omega (arith, c.told-live)), c.requires.b_bound), omega (arith, c.list_row-n.auto))
 
 pub set_ends-requires-2 : goal.set_ends-requires-2
 set_ends-requires-2 c =

@@ -8,5 +8,5 @@ use Rattle.sir_answers.proofs.all_predecessors.all_predecessors_answer.Goals as 
 pub fill_predecessors-requires : goal.fill_predecessors-requires
 fill_predecessors-requires c =
     let n = c.block_count-n.result in
-    let h : n ≤ 256 = omega (arith, c.requires.well_formed.sized.blocks_most) in
-    record { visit_stage = c.requires; cursors_len = (zero_long n 256 h ∙ c.block_count-n.ensures, λ v. zero_prefix n 256 v) }
+    let h : n ≤ 256 = omega (arith, c.args.visited.visit_stage.well_formed.sized.blocks_most) in
+    record { cursors_len = (zero_long n 256 h ∙ c.block_count-n.ensures, λ v. zero_prefix n 256 v) }

@@ -14,18 +14,18 @@ loop-i-init c = scattering_none c.requires.fits
 
 pub append-requires : goal.append-requires
 append-requires c =
-    let w = c.args.words.now in
-    let p = c.args.p.0 in
+    let w = c.args.p.image.words.now in
+    let p = c.args.p.id.0 in
     let i = c.loop-i.i in
     let h : i < length (successors w p) = omega (arith, c.successor_count-count.ensures) in
     let r = c.successor-s.result.0 in
-    let l : r < blocks w = rw c.successor-s.ensures (c.requires.well_formed.in_range.successor p (get_or (successors w p) i 0) c.requires.p_bound.0 (get_or_mem (successors w p) i 0 h)) in
-    (omega (arith, c.requires.p_bound.1, c.loop-i.invariant.wide), piece_fits (λ k. p ∷ []) (successors w p) c.loop-i.i c.loop-i.invariant h c.successor-s.ensures)
+    let l : r < blocks w = rw c.successor-s.ensures (c.args.p.image.well_formed.in_range.successor p (get_or (successors w p) i 0) c.args.p.known (get_or_mem (successors w p) i 0 h)) in
+    (omega (arith, c.requires.cursors_len, c.loop-i.invariant.wide), piece_fits (λ k. p ∷ []) (successors w p) c.loop-i.i c.loop-i.invariant h c.successor-s.ensures)
 
 pub loop-i-preserved : goal.loop-i-preserved
 loop-i-preserved c =
-    let w = c.args.words.now in
-    let p = c.args.p.0 in
+    let w = c.args.p.image.words.now in
+    let p = c.args.p.id.0 in
     let i = c.loop-i.i in
     let h : i < length (successors w p) = omega (arith, c.successor_count-count.ensures) in
     piece_more (λ k. p ∷ []) (successors w p) c.loop-i.i c.loop-i.invariant h c.successor-s.ensures c.append.ensures
@@ -33,4 +33,4 @@ loop-i-preserved c =
 pub returns : goal.returns
 returns c =
     let a = c.args in
-    piece_all (λ k. a.p.0 ∷ []) (successors a.words.now a.p.0) c.loop-i.i c.loop-i.invariant (omega (arith, c.successor_count-count.ensures))
+    piece_all (λ k. a.p.id.0 ∷ []) (successors a.p.image.words.now a.p.id.0) c.loop-i.i c.loop-i.invariant (omega (arith, c.successor_count-count.ensures))

@@ -8,4 +8,4 @@ use Rattle.sir_answers.proofs.scatter.Scattering.{Scattering}
 use Rattle.sir_answers.proofs.all_predecessors.scan_edges.Given as goal
 
 abbrev pub invariant-loop-i : goal.invariant-loop-i
-invariant-loop-i l = Scattering forward (edge_pieces l.words l.p.0) l.initial.cursors l.initial.out (pieces_at (λ k. l.p.0 ∷ []) (drop l.i (successors l.words l.p.0)) l.i) l.cursors l.out
+invariant-loop-i l = Scattering forward (edge_pieces l.p.image.words.now l.p.id.0) l.initial.cursors l.initial.out (pieces_at (λ k. l.p.id.0 ∷ []) (drop l.i (successors l.p.image.words.now l.p.id.0)) l.i) l.cursors l.out

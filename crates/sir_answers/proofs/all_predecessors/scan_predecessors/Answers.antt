@@ -17,22 +17,22 @@ loop-p-init c = scattering_as (rw (c.block_count-count.ensures, range_all)) (sca
 
 pub scan_edges-requires : goal.scan_edges-requires
 scan_edges-requires c =
-    let w = c.args.words.now in
+    let w = c.args.visited.image.words.now in
     let p = c.loop-p.p in
     let n = c.block_count-count.result in
     let h : p < blocks w = omega (arith, c.block_count-count.ensures, c.loop-p-test.true) in
-    let t : is_visited w p ≡ true = sym (c.requires.visit_stage.visited_is p h) ∙ sym c.is_visited.ensures ∙ c.if-is_visited.true in
+    let t : is_visited w p ≡ true = sym (c.args.visited.visit_stage.visited_is p h) ∙ sym c.is_visited.ensures ∙ c.if-is_visited.true in
     let e = visited_step w (edge_pieces w) p n c.loop-p-test.true t in
-    record { well_formed = c.requires.visit_stage.well_formed; p_bound = (h, c.loop-p.invariant.wide ∙ c.requires.cursors_len.0); fits = scattering_fits (edge_pieces w p) (visited_left w (edge_pieces w) (p + 1) n) (scattering_as e c.loop-p.invariant) }
+    record { cursors_len = c.loop-p.invariant.wide ∙ c.requires.cursors_len.0; fits = scattering_fits (edge_pieces w p) (visited_left w (edge_pieces w) (p + 1) n) (scattering_as e c.loop-p.invariant) }
 
 pub loop-p-preserved : goal.loop-p-preserved
 loop-p-preserved c =
-    let w = c.args.words.now in
+    let w = c.args.visited.image.words.now in
     let p = c.loop-p.p in
     let n = c.block_count-count.result in
     let l = c.loop-p-test.true in
     let h : p < blocks w = omega (arith, c.block_count-count.ensures, l) in
-    let seen : is_visited w p ≡ c.is_visited.result = sym (c.requires.visit_stage.visited_is p h) ∙ sym c.is_visited.ensures in
+    let seen : is_visited w p ≡ c.is_visited.result = sym (c.args.visited.visit_stage.visited_is p h) ∙ sym c.is_visited.ensures in
     elim c.if-is_visited.branch [
       | then-is_visited x ↦ rw (x.cursors-is, x.out-is) (scattering_more (visited_left w (edge_pieces w) (p + 1) n) (scattering_as (visited_step w (edge_pieces w) p n l (seen ∙ x.if-is_visited.true)) c.loop-p.invariant) x.scan_edges.ensures)
       | else-is_visited x ↦ rw (x.cursors-is, x.out-is) (scattering_as (unvisited_step w (edge_pieces w) p n l (seen ∙ x.if-is_visited.false)) c.loop-p.invariant)
@@ -40,5 +40,5 @@ loop-p-preserved c =
 
 pub returns : goal.returns
 returns c =
-    let w = c.args.words.now in
+    let w = c.args.visited.image.words.now in
     scattering_all (visited_end w (edge_pieces w) c.loop-p.p c.block_count-count.result c.loop-p-test.false) c.loop-p.invariant

@@ -6,4 +6,4 @@ use Rattle.sir_analyses.proofs.predecessors.Edges.{visited_left}
 use Rattle.sir_answers.proofs.all_predecessors.scan_predecessors.Given as goal
 
 abbrev pub invariant-loop-p : goal.invariant-loop-p
-invariant-loop-p l = Scattering forward (predecessor_pieces l.words) l.initial.cursors l.initial.out (visited_left l.words (edge_pieces l.words) l.p l.count) l.cursors l.out
+invariant-loop-p l = Scattering forward (predecessor_pieces l.visited.image.words.now) l.initial.cursors l.initial.out (visited_left l.visited.image.words.now (edge_pieces l.visited.image.words.now) l.p l.count) l.cursors l.out

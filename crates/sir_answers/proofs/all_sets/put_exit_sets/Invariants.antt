@@ -10,4 +10,4 @@ use Rattle.sir_analyses.proofs.answers.Writing.{Putting}
 use Rattle.sir_answers.proofs.all_sets.put_exit_sets.Given as goal
 
 abbrev pub invariant-loop-b : goal.invariant-loop-b
-invariant-loop-b l = (l.m ≤ 513 * l.b) × Putting 0 (all blocks exit_answer l.words) l.initial.out (bind (range l.b l.count) (λ i. length (exit_answer l.words i) ∷ exit_answer l.words i)) l.out l.m
+invariant-loop-b l = (l.m ≤ 513 * l.b) × Putting 0 (all blocks exit_answer l.sets.image.words.now) l.initial.out (bind (range l.b l.count) (λ i. length (exit_answer l.sets.image.words.now i) ∷ exit_answer l.sets.image.words.now i)) l.out l.m

@@ -10,4 +10,4 @@ use Rattle.sir_analyses.proofs.answers.Writing.{Putting}
 use Rattle.sir_answers.proofs.all_sets.put_owners.Given as goal
 
 abbrev pub invariant-loop-v : goal.invariant-loop-v
-invariant-loop-v l = (l.m ≤ 2 * l.v) × Putting 0 (all locals owner_answer l.words) l.initial.out (bind (range l.v l.count) (λ i. length (owner_answer l.words i) ∷ owner_answer l.words i)) l.out l.m
+invariant-loop-v l = (l.m ≤ 2 * l.v) × Putting 0 (all locals owner_answer l.pointed.image.words.now) l.initial.out (bind (range l.v l.count) (λ i. length (owner_answer l.pointed.image.words.now i) ∷ owner_answer l.pointed.image.words.now i)) l.out l.m

@@ -20,17 +20,17 @@ loop-o-init c =
 pub overflow_mul-times : goal.overflow_mul-times
 overflow_mul-times c =
     let o = c.loop-o.o in
-    omega (arith, c.requires.operation_times.0.times_is o (omega (arith, c.operation_count-last.ensures, c.loop-o-test.true)), ones_most c.args.words.now c.requires.well_formed o)
+    omega (arith, c.requires.operation_times.0.times_is o (omega (arith, c.operation_count-last.ensures, c.loop-o-test.true)), ones_most c.args.image.words.now c.args.image.well_formed o)
 
 pub advance_each-requires : goal.advance_each-requires
 advance_each-requires c =
     let is = c.op_inputs.ensures in
-    let w = c.args.words.now in
+    let w = c.args.image.words.now in
     let o = c.loop-o.o in
     let n = 3 * get_or c.args.times.now o 0 in
     let last = c.operation_count-last.result in
     let g : ℕ → Pieces = λ o. pieces_at (λ k. blanks (3 * get_or c.args.times.now o 0)) (ins w o) 0 in
-    let h : o < operations w = omega (arith, c.operation_count-last.ensures, c.loop-o-test.true) in record { known = λ v m. omega (arith, c.requires.operation_times.1, c.loop-o.invariant.wide, c.requires.well_formed.in_range.read o v h (rw is at m)); fits = fits_as (ap (λ (l : List ℕ). pieces_at (λ k. blanks n) l 0) (sym is)) (scattering_fits (g o) (bind (range (o + 1) last) g) (scattering_as (bind_step g o last c.loop-o-test.true) c.loop-o.invariant)) }
+    let h : o < operations w = omega (arith, c.operation_count-last.ensures, c.loop-o-test.true) in record { known = λ v m. omega (arith, c.requires.operation_times.1, c.loop-o.invariant.wide, c.args.image.well_formed.in_range.read o v h (rw is at m)); fits = fits_as (ap (λ (l : List ℕ). pieces_at (λ k. blanks n) l 0) (sym is)) (scattering_fits (g o) (bind (range (o + 1) last) g) (scattering_as (bind_step g o last c.loop-o-test.true) c.loop-o.invariant)) }
 
 pub loop-o-preserved : goal.loop-o-preserved
 loop-o-preserved c =
@@ -38,11 +38,11 @@ loop-o-preserved c =
     let o = c.loop-o.o in
     let n = 3 * get_or c.args.times.now o 0 in
     let last = c.operation_count-last.result in
-    let g : ℕ → Pieces = λ o. pieces_at (λ k. blanks (3 * get_or c.args.times.now o 0)) (ins c.args.words.now o) 0 in
+    let g : ℕ → Pieces = λ o. pieces_at (λ k. blanks (3 * get_or c.args.times.now o 0)) (ins c.args.image.words.now o) 0 in
     scattering_more (bind (range (o + 1) last) g) (scattering_as (bind_step g o last c.loop-o-test.true) c.loop-o.invariant) (scatters_as (ap (λ (l : List ℕ). pieces_at (λ k. blanks n) l 0) is) c.advance_each.ensures)
 
 pub returns : goal.returns
 returns c =
     let a = c.args in
-    let g : ℕ → Pieces = λ o. pieces_at (λ k. blanks (3 * get_or a.times.now o 0)) (ins a.words.now o) 0 in
+    let g : ℕ → Pieces = λ o. pieces_at (λ k. blanks (3 * get_or a.times.now o 0)) (ins a.image.words.now o) 0 in
     scattering_all (bind_end g c.loop-o.o c.operation_count-last.result c.loop-o-test.false) c.loop-o.invariant

@@ -10,4 +10,4 @@ use Rattle.sir_answers.proofs.scatter.Scattering.{Scattering}
 use Rattle.sir_answers.proofs.all_uses.count_inputs.Given as goal
 
 abbrev pub invariant-loop-o : goal.invariant-loop-o
-invariant-loop-o l = Scattering forward (input_pieces l.words l.times) l.initial.cursors [] (bind (range l.o l.last) (λ o. pieces_at (λ k. blanks (3 * get_or l.times o 0)) (ins l.words o) 0)) l.cursors []
+invariant-loop-o l = Scattering forward (input_pieces l.image.words.now l.times) l.initial.cursors [] (bind (range l.o l.last) (λ o. pieces_at (λ k. blanks (3 * get_or l.times o 0)) (ins l.image.words.now o) 0)) l.cursors []

@@ -18,8 +18,8 @@ advance-requires c =
     let span = c.operations-span in
     let o = c.loop-o.o in
     let g : ℕ → Pieces = λ o. (o, blanks 1) ∷ [] in
-    let r = c.requires.well_formed.in_range.ops_range c.args.b.0 c.requires.b_bound.0 in (
-      omega (arith, r.1, c.requires.well_formed.sized.operations_most, c.requires.b_bound.1, c.loop-o.invariant.wide, span.ensures.1, c.loop-o-test.true),
+    let r = c.args.b.image.well_formed.in_range.ops_range c.args.b.id.0 c.args.b.known in (
+      omega (arith, r.1, c.args.b.image.well_formed.sized.operations_most, c.requires.times_len, c.loop-o.invariant.wide, span.ensures.1, c.loop-o-test.true),
       scattering_fits (g o) (bind (range (o + 1) span.result.end) g) (scattering_as (bind_step g o span.result.end c.loop-o-test.true) c.loop-o.invariant),
     )
 

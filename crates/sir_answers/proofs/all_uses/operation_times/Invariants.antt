@@ -8,4 +8,4 @@ use Rattle.sir_answers.proofs.scatter.Scattering.{Scattering}
 use Rattle.sir_answers.proofs.all_uses.operation_times.Given as goal
 
 abbrev pub invariant-loop-b : goal.invariant-loop-b
-invariant-loop-b l = Scattering forward (bind l.order (one_pieces l.words)) l.initial.times [] (bind (drop l.b-index l.order) (one_pieces l.words)) l.times []
+invariant-loop-b l = Scattering forward (bind l.order (one_pieces l.visited.image.words.now)) l.initial.times [] (bind (drop l.b-index l.order) (one_pieces l.visited.image.words.now)) l.times []

@@ -6,13 +6,13 @@ use Rattle.sir_answers.proofs.all_uses.scan_block.Goals as goal
 
 pub scan_operations-requires : goal.scan_operations-requires
 scan_operations-requires c =
-    let w = c.args.words.now in
-    let b = c.args.b.0 in
-    record { well_formed = c.requires.well_formed; b_bound = c.requires.b_bound; fits = fits_first (input_use_pieces w b) (end_pieces w b) c.requires.fits }
+    let w = c.args.b.image.words.now in
+    let b = c.args.b.id.0 in
+    record { cursors_len = c.requires.cursors_len; fits = fits_first (input_use_pieces w b) (end_pieces w b) c.requires.fits }
 
 pub scan_ends-requires : goal.scan_ends-requires
 scan_ends-requires c =
-    record { well_formed = c.requires.well_formed; b_bound = (c.requires.b_bound.0, omega (arith, c.requires.b_bound.1)); fits = fits_rest (end_pieces c.args.words.now c.args.b.0) c.requires.fits c.scan_operations.ensures }
+    record { cursors_len = omega (arith, c.requires.cursors_len); fits = fits_rest (end_pieces c.args.b.image.words.now c.args.b.id.0) c.requires.fits c.scan_operations.ensures }
 
 pub returns : goal.returns
 returns c =

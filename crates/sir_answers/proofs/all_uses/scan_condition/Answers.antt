@@ -12,19 +12,19 @@ use Rattle.sir_answers.proofs.all_uses.scan_condition.Goals as goal
 pub returns-in_default : goal.returns-in_default
 returns-in_default c =
     let a = c.args in
-    let none : condition a.words.now a.b.0 ≡ [] = sym c.in_default.ensures in
-    scatters_as (sym (ap (λ (l : List ℕ). pieces_at (λ k. a.b.0 ∷ 1 ∷ 0 ∷ []) l 0) none)) scatters_nothing
+    let none : condition a.b.image.words.now a.b.id.0 ≡ [] = sym c.in_default.ensures in
+    scatters_as (sym (ap (λ (l : List ℕ). pieces_at (λ k. a.b.id.0 ∷ 1 ∷ 0 ∷ []) l 0) none)) scatters_nothing
 
 pub append-requires : goal.append-requires
 append-requires c =
-    let w = c.args.words.now in
-    let b = c.args.b.0 in
+    let w = c.args.b.image.words.now in
+    let b = c.args.b.id.0 in
     let v = c.in-Some.v.0 in
     let one : condition w b ≡ v ∷ [] = sym c.in-Some.ensures in
-    (omega (arith, c.requires.b_bound.1, c.requires.well_formed.in_range.tested b v c.requires.b_bound.0 (rw one (Memᴰ.head refl))), fits_as (ap (λ (l : List ℕ). pieces_at (λ k. b ∷ 1 ∷ 0 ∷ []) l 0) one) c.requires.fits)
+    (omega (arith, c.requires.cursors_len, c.args.b.image.well_formed.in_range.tested b v c.args.b.known (rw one (Memᴰ.head refl))), fits_as (ap (λ (l : List ℕ). pieces_at (λ k. b ∷ 1 ∷ 0 ∷ []) l 0) one) c.requires.fits)
 
 pub returns : goal.returns
 returns c =
     let a = c.args in
-    let one : condition a.words.now a.b.0 ≡ c.in-Some.v.0 ∷ [] = sym c.in-Some.ensures in
-    scatters_as (sym (ap (λ (l : List ℕ). pieces_at (λ k. a.b.0 ∷ 1 ∷ 0 ∷ []) l 0) one)) c.append.ensures
+    let one : condition a.b.image.words.now a.b.id.0 ≡ c.in-Some.v.0 ∷ [] = sym c.in-Some.ensures in
+    scatters_as (sym (ap (λ (l : List ℕ). pieces_at (λ k. a.b.id.0 ∷ 1 ∷ 0 ∷ []) l 0) one)) c.append.ensures

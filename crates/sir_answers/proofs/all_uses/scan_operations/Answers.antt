@@ -19,25 +19,25 @@ pub append_each-requires : goal.append_each-requires
 append_each-requires c =
     let is = c.op_inputs.ensures in
     let span = c.operations-span in
-    let w = c.args.words.now in
-    let b = c.args.b.0 in
+    let w = c.args.b.image.words.now in
+    let b = c.args.b.id.0 in
     let o = c.loop-o.o in
     let g : ℕ → Pieces = λ o. pieces_at (λ k. b ∷ 0 ∷ o ∷ []) (ins w o) 0 in
-    let r = c.requires.well_formed.in_range.ops_range b c.requires.b_bound.0 in
-    let h : o < operations w = omega (arith, r.1, span.ensures.1, c.loop-o-test.true) in record { known = λ v m. omega (arith, c.requires.b_bound.1, c.loop-o.invariant.wide, c.requires.well_formed.in_range.read o v h (rw is at m)); fits = fits_as (ap (λ (l : List ℕ). pieces_at (λ k. b ∷ 0 ∷ o ∷ []) l 0) (sym is)) (scattering_fits (g o) (bind (range (o + 1) span.result.end) g) (scattering_as (bind_step g o span.result.end c.loop-o-test.true) c.loop-o.invariant)) }
+    let r = c.args.b.image.well_formed.in_range.ops_range b c.args.b.known in
+    let h : o < operations w = omega (arith, r.1, span.ensures.1, c.loop-o-test.true) in record { known = λ v m. omega (arith, c.requires.cursors_len, c.loop-o.invariant.wide, c.args.b.image.well_formed.in_range.read o v h (rw is at m)); fits = fits_as (ap (λ (l : List ℕ). pieces_at (λ k. b ∷ 0 ∷ o ∷ []) l 0) (sym is)) (scattering_fits (g o) (bind (range (o + 1) span.result.end) g) (scattering_as (bind_step g o span.result.end c.loop-o-test.true) c.loop-o.invariant)) }
 
 pub loop-o-preserved : goal.loop-o-preserved
 loop-o-preserved c =
     let is = c.op_inputs.ensures in
     let last = c.operations-span.result.end in
-    let b = c.args.b.0 in
+    let b = c.args.b.id.0 in
     let o = c.loop-o.o in
-    let g : ℕ → Pieces = λ o. pieces_at (λ k. b ∷ 0 ∷ o ∷ []) (ins c.args.words.now o) 0 in
+    let g : ℕ → Pieces = λ o. pieces_at (λ k. b ∷ 0 ∷ o ∷ []) (ins c.args.b.image.words.now o) 0 in
     scattering_more (bind (range (o + 1) last) g) (scattering_as (bind_step g o last c.loop-o-test.true) c.loop-o.invariant) (scatters_as (ap (λ (l : List ℕ). pieces_at (λ k. b ∷ 0 ∷ o ∷ []) l 0) is) c.append_each.ensures)
 
 pub returns : goal.returns
 returns c =
     let span = c.operations-span in
     let a = c.args in
-    let g : ℕ → Pieces = λ o. pieces_at (λ k. a.b.0 ∷ 0 ∷ o ∷ []) (ins a.words.now o) 0 in
+    let g : ℕ → Pieces = λ o. pieces_at (λ k. a.b.id.0 ∷ 0 ∷ o ∷ []) (ins a.b.image.words.now o) 0 in
     scatters_as (rw (span.ensures.0, span.ensures.1)) (scattering_all (bind_end g c.loop-o.o span.result.end c.loop-o-test.false) c.loop-o.invariant)

@@ -8,4 +8,4 @@ use Rattle.sir_answers.proofs.scatter.Scattering.{Scattering}
 use Rattle.sir_answers.proofs.all_uses.scan_operations.Given as goal
 
 abbrev pub invariant-loop-o : goal.invariant-loop-o
-invariant-loop-o l = Scattering forward (bind (range l.initial.o l.o-end) (λ o. pieces_at (λ k. l.b.0 ∷ 0 ∷ o ∷ []) (ins l.words o) 0)) l.initial.cursors l.initial.out (bind (range l.o l.o-end) (λ o. pieces_at (λ k. l.b.0 ∷ 0 ∷ o ∷ []) (ins l.words o) 0)) l.cursors l.out
+invariant-loop-o l = Scattering forward (bind (range l.initial.o l.o-end) (λ o. pieces_at (λ k. l.b.id.0 ∷ 0 ∷ o ∷ []) (ins l.b.image.words.now o) 0)) l.initial.cursors l.initial.out (bind (range l.o l.o-end) (λ o. pieces_at (λ k. l.b.id.0 ∷ 0 ∷ o ∷ []) (ins l.b.image.words.now o) 0)) l.cursors l.out

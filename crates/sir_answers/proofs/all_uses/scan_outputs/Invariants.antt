@@ -7,4 +7,4 @@ use Rattle.sir_answers.proofs.scatter.Scattering.{Scattering}
 use Rattle.sir_answers.proofs.all_uses.scan_outputs.Given as goal
 
 abbrev pub invariant-loop-k : goal.invariant-loop-k
-invariant-loop-k l = Scattering forward (pieces_at (λ k. l.b.0 ∷ 2 ∷ k ∷ []) l.run 0) l.initial.cursors l.initial.out (pieces_at (λ k. l.b.0 ∷ 2 ∷ k ∷ []) (drop l.k l.run) l.k) l.cursors l.out
+invariant-loop-k l = Scattering forward (pieces_at (λ k. l.b.id.0 ∷ 2 ∷ k ∷ []) l.run 0) l.initial.cursors l.initial.out (pieces_at (λ k. l.b.id.0 ∷ 2 ∷ k ∷ []) (drop l.k l.run) l.k) l.cursors l.out

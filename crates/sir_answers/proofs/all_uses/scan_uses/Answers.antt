@@ -13,26 +13,36 @@ use Rattle.sir_answers.proofs.all_uses.scan_uses.Goals as goal
 
 pub loop-b-init : goal.loop-b-init
 loop-b-init c =
-    scattering_none (fits_as (ap (λ (l : List ℕ). bind l (block_use_pieces c.args.words.now)) (sym (c.rpo-order.ensures ∙ c.requires.visit_stage.rpo_is))) c.requires.fits)
+    scattering_none (fits_as (ap (λ (l : List ℕ). bind l (block_use_pieces c.args.visited.image.words.now)) (sym (c.rpo-order.ensures ∙ c.args.visited.visit_stage.rpo_is))) c.requires.fits)
 
-pub scan_block-requires : goal.scan_block-requires
-scan_block-requires c =
-    let w = c.args.words.now in
-    let good = c.requires.visit_stage.well_formed in
+pub invariant_of-block : goal.invariant_of-block
+invariant_of-block c =
+    let w = c.args.visited.image.words.now in
+    let good = c.args.visited.visit_stage.well_formed in
     let order = c.rpo-order.result.now in
     let i = c.loop-b.b-index in
     let b = get_or order i 0 in
     let h = c.loop-b-test.true in
-    record { well_formed = good; b_bound = (rpo_below w good (c.rpo-order.ensures ∙ c.requires.visit_stage.rpo_is) b (get_or_mem order i 0 h), c.loop-b.invariant.wide ∙ c.requires.cursors_len); fits = scattering_fits (block_use_pieces w b) (bind (drop (i + 1) order) (block_use_pieces w)) (scattering_as (bind_drop_step (block_use_pieces w) order i h) c.loop-b.invariant) }
+    record { known = rpo_below w good (c.rpo-order.ensures ∙ c.args.visited.visit_stage.rpo_is) b (get_or_mem order i 0 h) }
+
+pub scan_block-requires : goal.scan_block-requires
+scan_block-requires c =
+    let w = c.args.visited.image.words.now in
+    let good = c.args.visited.visit_stage.well_formed in
+    let order = c.rpo-order.result.now in
+    let i = c.loop-b.b-index in
+    let b = get_or order i 0 in
+    let h = c.loop-b-test.true in
+    record { cursors_len = c.loop-b.invariant.wide ∙ c.requires.cursors_len; fits = scattering_fits (block_use_pieces w b) (bind (drop (i + 1) order) (block_use_pieces w)) (scattering_as (bind_drop_step (block_use_pieces w) order i h) c.loop-b.invariant) }
 
 pub loop-b-preserved : goal.loop-b-preserved
 loop-b-preserved c =
-    let w = c.args.words.now in
+    let w = c.args.visited.image.words.now in
     let order = c.rpo-order.result.now in
     let i = c.loop-b.b-index in
     scattering_more (bind (drop (i + 1) order) (block_use_pieces w)) (scattering_as (bind_drop_step (block_use_pieces w) order i c.loop-b-test.true) c.loop-b.invariant) c.scan_block.ensures
 
 pub returns : goal.returns
 returns c =
-    let g = block_use_pieces c.args.words.now in
-    scatters_as (ap (λ (l : List ℕ). bind l g) (c.rpo-order.ensures ∙ c.requires.visit_stage.rpo_is)) (scattering_all (bind_drop_end g c.rpo-order.result.now c.loop-b.b-index c.loop-b-test.false) c.loop-b.invariant)
+    let g = block_use_pieces c.args.visited.image.words.now in
+    scatters_as (ap (λ (l : List ℕ). bind l g) (c.rpo-order.ensures ∙ c.args.visited.visit_stage.rpo_is)) (scattering_all (bind_drop_end g c.rpo-order.result.now c.loop-b.b-index c.loop-b-test.false) c.loop-b.invariant)

@@ -7,4 +7,4 @@ use Rattle.sir_answers.proofs.scatter.Scattering.{Scattering}
 use Rattle.sir_answers.proofs.all_uses.scan_uses.Given as goal
 
 abbrev pub invariant-loop-b : goal.invariant-loop-b
-invariant-loop-b l = Scattering forward (bind l.order (block_use_pieces l.words)) l.initial.cursors l.initial.out (bind (drop l.b-index l.order) (block_use_pieces l.words)) l.cursors l.out
+invariant-loop-b l = Scattering forward (bind l.order (block_use_pieces l.visited.image.words.now)) l.initial.cursors l.initial.out (bind (drop l.b-index l.order) (block_use_pieces l.visited.image.words.now)) l.cursors l.out

@@ -10,18 +10,18 @@ use Rattle.sir_answers.proofs.all_uses.write_uses.Goals as goal
 
 pub put_lengths-requires : goal.put_lengths-requires
 put_lengths-requires c =
-    let fit = lengths_fit c.requires.counts (uses_small c.args.words.now c.requires.visit_stage.well_formed) c.requires.out_len in
+    let fit = lengths_fit c.requires.counts (uses_small c.args.visited.image.words.now c.args.visited.visit_stage.well_formed) c.requires.out_len in
     record { cursors_bound = fit.0; cursors_in_bounds = fit.1.0; by_index = fit.1.1 }
 
 pub scan_uses-requires : goal.scan_uses-requires
 scan_uses-requires c =
-    let w = c.args.words.now in
+    let w = c.args.visited.image.words.now in
     let k = c.requires.counts in
     let wide : length c.put_lengths.new.cursors ≡ locals w = omega (arith, k.wide) in
-    record { visit_stage = c.requires.visit_stage; cursors_len = wide; fits = placed_fits k forward (λ v h. use_pieces_lem w v) wide c.put_lengths.ensures (uses_small w c.requires.visit_stage.well_formed) }
+    record { cursors_len = wide; fits = placed_fits k forward (λ v h. use_pieces_lem w v) wide c.put_lengths.ensures (uses_small w c.args.visited.visit_stage.well_formed) }
 
 pub returns : goal.returns
 returns c =
-    let w = c.args.words.now in
+    let w = c.args.visited.image.words.now in
     let k = c.requires.counts in
-    counts_written k forward (uses_below w c.requires.visit_stage.well_formed) (λ v h. use_pieces_lem w v) (omega (arith, k.wide)) c.put_lengths.ensures (omega (arith, c.requires.out_len)) c.scan_uses.ensures
+    counts_written k forward (uses_below w c.args.visited.visit_stage.well_formed) (λ v h. use_pieces_lem w v) (omega (arith, k.wide)) c.put_lengths.ensures (omega (arith, c.requires.out_len)) c.scan_uses.ensures

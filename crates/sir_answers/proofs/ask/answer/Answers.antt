@@ -8,24 +8,24 @@ use Rattle.sir_answers.proofs.ask.answer.Goals as goal
 pub returns-in_err-own_refusal : goal.returns-in_err-own_refusal
 returns-in_err-own_refusal c =
     let a = c.args in
-    call_err (search rules) (own_rules a.question a.words.now) (answer_bytes a.question a.words.now) a.out.now c.in_err-own_refusal.ensures
+    call_err (search rules) (own_rules a.question a.accepted.image.words.now) (answer_bytes a.question a.accepted.image.words.now) a.out.now c.in_err-own_refusal.ensures
 
 pub returns-in-OfOrder : goal.returns-in-OfOrder
 returns-in-OfOrder c =
     let a = c.args in
-    c.order_answer.ensures ∙ answered_as (λ q. q) a.words.now c.in-OfOrder.is a.out.now ∙ call_answered (own_rules a.question a.words.now) (answer_bytes a.question a.words.now) a.out.now (sym c.in_ok-own_refusal.ensures)
+    (rw c.visited.ensures.0 at c.order_answer.ensures) ∙ answered_as (λ q. q) a.accepted.image.words.now c.in-OfOrder.is a.out.now ∙ call_answered (own_rules a.question a.accepted.image.words.now) (answer_bytes a.question a.accepted.image.words.now) a.out.now (sym c.in_ok-own_refusal.ensures)
 
 pub returns-in-OfLiveness : goal.returns-in-OfLiveness
 returns-in-OfLiveness c =
     let a = c.args in
-    c.live_answer.ensures ∙ answered_as (λ q. q) a.words.now c.in-OfLiveness.is a.out.now ∙ call_answered (own_rules a.question a.words.now) (answer_bytes a.question a.words.now) a.out.now (sym c.in_ok-own_refusal.ensures)
+    (rw c.visited-in-OfLiveness.ensures.0 at c.live_answer.ensures) ∙ answered_as (λ q. q) a.accepted.image.words.now c.in-OfLiveness.is a.out.now ∙ call_answered (own_rules a.question a.accepted.image.words.now) (answer_bytes a.question a.accepted.image.words.now) a.out.now (sym c.in_ok-own_refusal.ensures)
 
 pub returns-in-OfPointers : goal.returns-in-OfPointers
 returns-in-OfPointers c =
     let a = c.args in
-    c.pointer_answer.ensures ∙ answered_as (λ q. q) a.words.now c.in-OfPointers.is a.out.now ∙ call_answered (own_rules a.question a.words.now) (answer_bytes a.question a.words.now) a.out.now (sym c.in_ok-own_refusal.ensures)
+    c.pointer_answer.ensures ∙ answered_as (λ q. q) a.accepted.image.words.now c.in-OfPointers.is a.out.now ∙ call_answered (own_rules a.question a.accepted.image.words.now) (answer_bytes a.question a.accepted.image.words.now) a.out.now (sym c.in_ok-own_refusal.ensures)
 
 pub returns-in-Chart : goal.returns-in-Chart
 returns-in-Chart c =
     let a = c.args in
-    c.chart_answer.ensures ∙ answered_as (λ q. q) a.words.now c.in-Chart.is a.out.now ∙ call_answered (own_rules a.question a.words.now) (answer_bytes a.question a.words.now) a.out.now (sym c.in_ok-own_refusal.ensures)
+    c.chart_answer.ensures ∙ answered_as (λ q. q) a.accepted.image.words.now c.in-Chart.is a.out.now ∙ call_answered (own_rules a.question a.accepted.image.words.now) (answer_bytes a.question a.accepted.image.words.now) a.out.now (sym c.in_ok-own_refusal.ensures)

@@ -24,16 +24,16 @@ text_is w = refl
 
 pub series_count-count-requires : goal.series_count-count-requires
 series_count-count-requires c =
-    omega (arith, ap length c.alloc_sites.ensures, sites_few c.requires.pointer_stage)
+    omega (arith, ap length (rw c.pointed.ensures.1 at c.sites.ensures), sites_few c.args.tables.pointer_stage)
 
 pub loop-series-init : goal.loop-series-init
 loop-series-init c = (refl, omega arith, refl, refl)
 
 pub slice_bounds-put_series-end : goal.slice_bounds-put_series-end
 slice_bounds-put_series-end c =
-    let w = c.args.words.now in
+    let w = c.args.tables.image.words.now in
     let l = c.loop-series in
-    let count : c.series_count-count.result ≡ series_count w = c.series_count-count.ensures ∙ ap series_for (ap length c.alloc_sites.ensures ∙ sites_count c.requires.pointer_stage) in
+    let count : c.series_count-count.result ≡ series_count w = c.series_count-count.ensures ∙ ap series_for (ap length (rw c.pointed.ensures.1 at c.sites.ensures) ∙ sites_count c.args.tables.pointer_stage) in
     let more : l.series < series_count w = omega (arith, count, c.loop-series-test.true) in
     let room : c.args.bytes * suc l.series ≤ c.args.bytes * series_count w = mul-le-mul_left c.args.bytes more in
     let next = mul-suc c.args.bytes l.series in
@@ -41,19 +41,19 @@ slice_bounds-put_series-end c =
 
 pub put_series-requires : goal.put_series-requires
 put_series-requires c =
-    let w = c.args.words.now in
+    let w = c.args.tables.image.words.now in
     let l = c.loop-series in
-    let count : c.series_count-count.result ≡ series_count w = c.series_count-count.ensures ∙ ap series_for (ap length c.alloc_sites.ensures ∙ sites_count c.requires.pointer_stage) in
+    let count : c.series_count-count.result ≡ series_count w = c.series_count-count.ensures ∙ ap series_for (ap length (rw c.pointed.ensures.1 at c.sites.ensures) ∙ sites_count c.args.tables.pointer_stage) in
     let more : l.series < series_count w = omega (arith, count, c.loop-series-test.true) in
     let room : c.args.bytes * suc l.series ≤ c.args.bytes * series_count w = mul-le-mul_left c.args.bytes more in
     let next = mul-suc c.args.bytes l.series in
-    record { visit_stage = c.requires.visit_stage; liveness_stage = c.requires.liveness_stage; pointer_stage = c.requires.pointer_stage; series_bound = (omega (arith, more, series_most (length (allocs w)) (allocations_few c.requires.pointer_stage)), omega (arith, room, next, l.invariant.0, l.invariant.1, c.requires.bytes_value.1, c.requires.bytes_value.0)) }
+    record { series_bound = (omega (arith, more, series_most (length (allocs w)) (allocations_few c.args.tables.pointer_stage)), omega (arith, room, next, l.invariant.0, l.invariant.1, c.requires.bytes_value.1, c.requires.bytes_value.0)) }
 
 pub loop-series-preserved : goal.loop-series-preserved
 loop-series-preserved c =
-    let w = c.args.words.now in
+    let w = c.args.tables.image.words.now in
     let l = c.loop-series in
-    let count : c.series_count-count.result ≡ series_count w = c.series_count-count.ensures ∙ ap series_for (ap length c.alloc_sites.ensures ∙ sites_count c.requires.pointer_stage) in
+    let count : c.series_count-count.result ≡ series_count w = c.series_count-count.ensures ∙ ap series_for (ap length (rw c.pointed.ensures.1 at c.sites.ensures) ∙ sites_count c.args.tables.pointer_stage) in
     let more : l.series < series_count w = omega (arith, count, c.loop-series-test.true) in
     let room : c.args.bytes * suc l.series ≤ c.args.bytes * series_count w = mul-le-mul_left c.args.bytes more in
     let next = mul-suc c.args.bytes l.series in
@@ -69,10 +69,10 @@ loop-series-preserved c =
 
 pub returns : goal.returns
 returns c =
-    let w = c.args.words.now in
+    let w = c.args.tables.image.words.now in
     let d = c.args.out.now in
     let l = c.loop-series in
-    let count : c.series_count-count.result ≡ series_count w = c.series_count-count.ensures ∙ ap series_for (ap length c.alloc_sites.ensures ∙ sites_count c.requires.pointer_stage) in
+    let count : c.series_count-count.result ≡ series_count w = c.series_count-count.ensures ∙ ap series_for (ap length (rw c.pointed.ensures.1 at c.sites.ensures) ∙ sites_count c.args.tables.pointer_stage) in
     let all : l.series ≡ series_count w = omega (arith, count, l.auto.series-end, c.loop-series-test.false) in
     let end : l.at ≡ length d = l.invariant.1 ∙ ap (λ (n : ℕ). c.args.bytes * n) all ∙ sym c.requires.bytes_value.1 in
     l.invariant.3 ∙ ap (λ (n : ℕ). series_to w n ++ drop l.at d) all ∙ ap (λ (t : List ℕ). series_to w (series_count w) ++ t) (ap (λ (n : ℕ). drop n d) end ∙ drop-length d) ∙ append-nil (series_to w (series_count w)) ∙ text_is w

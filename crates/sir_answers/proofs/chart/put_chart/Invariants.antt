@@ -7,4 +7,4 @@ use Rattle.sir_answers.proofs.chart.ChartTexts.{series_to}
 use Rattle.sir_answers.proofs.chart.put_chart.Given as goal
 
 abbrev pub invariant-loop-series : goal.invariant-loop-series
-invariant-loop-series l = (length l.out ≡ length l.initial.out) × (l.at ≡ l.bytes * l.series) × (length (series_to l.words l.series) ≡ l.at) × (l.out ≡ series_to l.words l.series ++ drop l.at l.initial.out)
+invariant-loop-series l = (length l.out ≡ length l.initial.out) × (l.at ≡ l.bytes * l.series) × (length (series_to l.tables.image.words.now l.series) ≡ l.at) × (l.out ≡ series_to l.tables.image.words.now l.series ++ drop l.at l.initial.out)

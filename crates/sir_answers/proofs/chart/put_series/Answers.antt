@@ -19,43 +19,43 @@ use Rattle.sir_answers.proofs.chart.put_series.Goals as goal
 pub loop-b-init : goal.loop-b-init
 loop-b-init c = (refl, refl, refl, refl)
 
-pub block_lines-requires : goal.block_lines-requires
-block_lines-requires c =
+pub invariant_of-block : goal.invariant_of-block
+invariant_of-block c =
     let order = c.rpo-order.result.now in
     let i = c.loop-b.b-index in
-    let same : order ≡ blocks_rpo c.args.words.now = c.rpo-order.ensures ∙ c.requires.visit_stage.rpo_is in
+    let same : order ≡ blocks_rpo c.args.tables.image.words.now = (rw c.visited.ensures.1 at c.rpo-order.ensures) ∙ c.args.tables.visit_stage.rpo_is in
     let member = subst (λ (bs : List ℕ). get_or order i 0 ∈ bs) same (get_or_mem order i 0 c.loop-b-test.true) in
-    let good = c.requires.visit_stage.well_formed in
-    record { well_formed = good; b_bound = blocks_below c.args.words.now good (get_or order i 0) member }
+    let good = c.args.tables.visit_stage.well_formed in
+    record { known = blocks_below c.args.tables.image.words.now good (get_or order i 0) member }
 
 pub slice_bounds-put_block-end-in-loop-b : goal.slice_bounds-put_block-end-in-loop-b
 slice_bounds-put_block-end-in-loop-b c =
-    let w = c.args.words.now in
+    let w = c.args.tables.image.words.now in
     let order = c.rpo-order.result.now in
     let l = c.loop-b in
     let h = c.loop-b-test.true in
-    let same : order ≡ blocks_rpo w = c.rpo-order.ensures ∙ c.requires.visit_stage.rpo_is in
+    let same : order ≡ blocks_rpo w = (rw c.visited.ensures.1 at c.rpo-order.ensures) ∙ c.args.tables.visit_stage.rpo_is in
     let room : 73 * lines_of w (take (l.b-index + 1) order) ≤ length c.args.out.now = omega (arith, lines_within w order (l.b-index + 1), ap (lines_of w) same, sheets_hold (lines_of w (blocks_rpo w)), c.requires.series_bound.1) in
     omega (arith, room, l.invariant.0, l.invariant.1, lines_next w order l.b-index h, c.block_lines.ensures.0)
 
 pub put_block-requires : goal.put_block-requires
 put_block-requires c =
-    let w = c.args.words.now in
+    let w = c.args.tables.image.words.now in
     let order = c.rpo-order.result.now in
     let l = c.loop-b in
     let h = c.loop-b-test.true in
-    let same : order ≡ blocks_rpo w = c.rpo-order.ensures ∙ c.requires.visit_stage.rpo_is in
+    let same : order ≡ blocks_rpo w = (rw c.visited.ensures.1 at c.rpo-order.ensures) ∙ c.args.tables.visit_stage.rpo_is in
     let room : 73 * lines_of w (take (l.b-index + 1) order) ≤ length c.args.out.now = omega (arith, lines_within w order (l.b-index + 1), ap (lines_of w) same, sheets_hold (lines_of w (blocks_rpo w)), c.requires.series_bound.1) in
     let member = subst (λ (bs : List ℕ). get_or order l.b-index 0 ∈ bs) same (get_or_mem order l.b-index 0 h) in
-    record { liveness_stage = c.requires.liveness_stage; pointer_stage = c.requires.pointer_stage; series_bound = (c.requires.series_bound.0, c.other_locals.ensures); fact = (member, omega (arith, room, l.invariant.0, l.invariant.1, lines_next w order l.b-index h, c.block_lines.ensures.0)) }
+    record { pointer_stage = c.args.tables.pointer_stage; series_bound = (c.requires.series_bound.0, c.other_locals.ensures); fact = (member, omega (arith, room, l.invariant.0, l.invariant.1, lines_next w order l.b-index h, c.block_lines.ensures.0)) }
 
 pub loop-b-preserved : goal.loop-b-preserved
 loop-b-preserved c =
-    let w = c.args.words.now in
+    let w = c.args.tables.image.words.now in
     let order = c.rpo-order.result.now in
     let l = c.loop-b in
     let h = c.loop-b-test.true in
-    let same : order ≡ blocks_rpo w = c.rpo-order.ensures ∙ c.requires.visit_stage.rpo_is in
+    let same : order ≡ blocks_rpo w = (rw c.visited.ensures.1 at c.rpo-order.ensures) ∙ c.args.tables.visit_stage.rpo_is in
     let room : 73 * lines_of w (take (l.b-index + 1) order) ≤ length c.args.out.now = omega (arith, lines_within w order (l.b-index + 1), ap (lines_of w) same, sheets_hold (lines_of w (blocks_rpo w)), c.requires.series_bound.1) in
     let b = get_or order l.b-index 0 in
     let d = c.args.out.now in
@@ -73,10 +73,10 @@ loop-b-preserved c =
 
 pub returns : goal.returns
 returns c =
-    let w = c.args.words.now in
+    let w = c.args.tables.image.words.now in
     let order = c.rpo-order.result.now in
     let l = c.loop-b in
-    let all : take l.b-index order ≡ blocks_rpo w = take_all l.b-index order c.loop-b-test.false ∙ c.rpo-order.ensures ∙ c.requires.visit_stage.rpo_is in
+    let all : take l.b-index order ≡ blocks_rpo w = take_all l.b-index order c.loop-b-test.false ∙ (rw c.visited.ensures.1 at c.rpo-order.ensures) ∙ c.args.tables.visit_stage.rpo_is in
     let room : lines_of w (blocks_rpo w) ≤ on_sheets (lines_of w (blocks_rpo w)) = sheets_hold (lines_of w (blocks_rpo w)) in
     let series = c.args.series in
     let rest = take (length l.out - l.at) (drop l.at l.out) in

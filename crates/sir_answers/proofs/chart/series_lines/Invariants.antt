@@ -6,4 +6,4 @@ use Rattle.sir_analyses.specs.Chart.{lines_of}
 use Rattle.sir_answers.proofs.chart.series_lines.Given as goal
 
 abbrev pub invariant-loop-b : goal.invariant-loop-b
-invariant-loop-b l = (l.n ≡ lines_of l.words (take l.b-index l.order)) × (l.n ≤ 1025 * l.b-index)
+invariant-loop-b l = (l.n ≡ lines_of l.visited.image.words.now (take l.b-index l.order)) × (l.n ≤ 1025 * l.b-index)

@@ -17,7 +17,7 @@ overflow_cast-a c =
 
 pub is_marked-requires : goal.is_marked-requires
 is_marked-requires c =
-    (c.requires.1.long, omega (arith, c.if-alloc_sites-a.false, ap length c.alloc_sites.ensures, sites_few c.requires.1))
+    omega (arith, c.if-alloc_sites-a.false, ap length c.alloc_sites.ensures, sites_few c.requires.1)
 
 pub returns-then-is_marked : goal.returns-then-is_marked
 returns-then-is_marked c =

@@ -21,7 +21,7 @@ unmarked_owner-requires c =
     let v = get_or c.args.ids.now c.loop-v.v-index 0 in
     let stage = c.requires.by_index.1 in
     let m = get_or_mem c.args.ids.now c.loop-v.v-index 0 c.loop-v-test.true in
-    (stage.long, (c.requires.by_index_2 v m).0, omega (arith, stage.discovered.owner_known v, allocations_few stage))
+    ((c.requires.by_index_2 v m).0, omega (arith, stage.discovered.owner_known v, allocations_few stage))
 
 pub overflow_sub-columns : goal.overflow_sub-columns
 overflow_sub-columns c =

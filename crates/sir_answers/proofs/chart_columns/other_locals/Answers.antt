@@ -19,7 +19,7 @@ loop-v-init c =
 pub unmarked_owner-owner-requires : goal.unmarked_owner-owner-requires
 unmarked_owner-owner-requires c =
     let stage = c.requires.by_index.1 in
-    (stage.long, omega arith, omega (arith, stage.discovered.owner_known c.loop-v.v, allocations_few stage))
+    (omega arith, omega (arith, stage.discovered.owner_known c.loop-v.v, allocations_few stage))
 
 pub loop-v-preserved : goal.loop-v-preserved
 loop-v-preserved c =

@@ -12,14 +12,14 @@ use Rattle.sir_answers.proofs.crossing.crossing_of_reaches.Goals.{then-is_visite
 
 pub loop-b-init : goal.loop-b-init
 loop-b-init c =
-    λ a d x y. crossing_starts c.args.words.now a d x.unmarked y.unmarked
+    λ a d x y. crossing_starts c.args.analysed.image.words.now a d x.unmarked y.unmarked
 
 pub loop-b-preserved : goal.loop-b-preserved
 loop-b-preserved c =
-    let w = c.args.words.now in
+    let w = c.args.analysed.image.words.now in
     let b = c.loop-b.b in
     let h : b < blocks w = omega (arith, c.loop-b-test.true, c.block_count-count.ensures) in
-    let seen : c.is_visited.result ≡ is_visited w b = c.is_visited.ensures ∙ c.requires.visit_stage.visited_is b h in
+    let seen : c.is_visited.result ≡ is_visited w b = (rw c.visited.ensures.1 at c.is_visited.ensures) ∙ c.args.analysed.visit_stage.visited_is b h in
     λ a d x y.
     c.loop-b.invariant a d x y
     ∙ crossing_on w a d b h
@@ -30,12 +30,12 @@ loop-b-preserved c =
 
 pub returns-in-Some : goal.returns-in-Some
 returns-in-Some c =
-    let w = c.args.words.now in
+    let w = c.args.analysed.image.words.now in
     let b = c.loop-b.b in
     let h : b < blocks w = omega (arith, c.loop-b-test.true, c.block_count-count.ensures) in
     λ a d x y. crossing_found w a d b h (c.in-Some.ensures.first_is a d x y) ∙ sym (c.loop-b.invariant a d x y)
 
 pub returns : goal.returns
 returns c =
-    let w = c.args.words.now in
+    let w = c.args.analysed.image.words.now in
     λ a d x y. sym (c.loop-b.invariant a d x y ∙ crossing_ends w a d c.loop-b.b (omega (arith, c.loop-b-test.false, c.block_count-count.ensures)))

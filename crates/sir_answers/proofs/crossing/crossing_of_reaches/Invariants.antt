@@ -7,4 +7,4 @@ use Rattle.sir_answers.proofs.crossing.FirstCommon.{crossing_from}
 use Rattle.sir_answers.proofs.crossing.crossing_of_reaches.Given as goal
 
 abbrev pub invariant-loop-b : goal.invariant-loop-b
-invariant-loop-b l = (a c : ℕ) → ReachOf l.words a l.one → ReachOf l.words c l.other → crossing l.words a c ≡ crossing_from l.words a c l.b
+invariant-loop-b l = (a c : ℕ) → ReachOf l.analysed.image.words.now a l.one → ReachOf l.analysed.image.words.now c l.other → crossing l.analysed.image.words.now a c ≡ crossing_from l.analysed.image.words.now a c l.b

@@ -20,7 +20,7 @@ unmarked_owner-requires c =
     let a = c.args in
     let i = c.loop-v.v-index in
     let stage = c.requires.by_index.1 in
-    (stage.long, c.requires.by_index_2 (get_or a.ids.now i 0) (get_or_mem a.ids.now i 0 c.loop-v-test.true), omega (arith, stage.discovered.owner_known (get_or a.ids.now i 0), allocations_few stage))
+    (c.requires.by_index_2 (get_or a.ids.now i 0) (get_or_mem a.ids.now i 0 c.loop-v-test.true), omega (arith, stage.discovered.owner_known (get_or a.ids.now i 0), allocations_few stage))
 
 pub loop-v-preserved : goal.loop-v-preserved
 loop-v-preserved c =

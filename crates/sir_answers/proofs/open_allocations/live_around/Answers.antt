@@ -11,12 +11,12 @@ use Rattle.sir_answers.proofs.open_allocations.live_around.Goals as goal
 
 pub row_of-requires : goal.row_of-requires
 row_of-requires c =
-    omega (arith, ap length c.reads.ensures ∙ length_part 0 8192 c.args.live.now (omega (arith, c.requires.0)), c.requires)
+    omega (arith, ap length c.reads.ensures ∙ length_part 0 8192 c.args.live.now (omega (arith, c.told-live)), c.requires)
 
 pub row_union_with-requires : goal.row_union_with-requires
 row_union_with-requires c =
     let table = c.reads.result.now in
-    let long = ap length c.reads.ensures ∙ length_part 0 8192 c.args.live.now (omega (arith, c.requires.0)) in
+    let long = ap length c.reads.ensures ∙ length_part 0 8192 c.args.live.now (omega (arith, c.told-live)) in
     (omega (arith, c.requires), ap length c.row_of.ensures ∙ length_row table c.args.o.0 (omega (arith, long, c.requires)))
 
 pub returns : goal.returns
@@ -25,4 +25,4 @@ returns c =
     let o = c.args.o.0 in
     let table = reads_in c.args.live.now in
     λ v h. rw (c.row_union_with.ensures.1, c.row_of.ensures, c.reads.ensures)
-    (set_union set (row_of table o) v h (omega (arith, c.requires.2)) ∙ ap (λ (t : Bool). contains set v || t) (contains_row table o v h))
+    (set_union set (row_of table o) v h (omega (arith, c.requires.1)) ∙ ap (λ (t : Bool). contains set v || t) (contains_row table o v h))

@@ -13,6 +13,6 @@ pub returns : goal.returns
 returns c =
     let pointers = c.requires.pointer_stage in
     let place = c.requires.b_bound in
-    let w = c.args.words.now in
+    let w = c.args.sets.image.words.now in
     let listed = open_listed pointers.well_formed ((blocks_seen w c.args.b.0).1 place.2) place.1 c.scan_to.ensures pointers c.owners_of-n.ensures.1 in
     c.words_answer.ensures ∙ ap (λ (l : List ℕ). answered (bind l bytes_of) c.args.out.now) listed

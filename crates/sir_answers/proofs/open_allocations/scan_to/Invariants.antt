@@ -9,4 +9,4 @@ use Rattle.sir_answers.proofs.LiveSets.{LiveBefore}
 use Rattle.sir_answers.proofs.open_allocations.scan_to.Given as goal
 
 abbrev pub invariant-loop-p : goal.invariant-loop-p
-invariant-loop-p l = (l.last ≤ l.p) × (l.p ≤ l.initial.p) × (length l.set ≡ 8) × ((b : ℕ) → b < blocks l.words → l.initial.p ≡ block_word l.words b 5 → LiveBefore l.words b [] l.initial.set → LiveBefore l.words b (range l.p l.initial.p) l.set)
+invariant-loop-p l = (l.last ≤ l.p) × (l.p ≤ l.initial.p) × (length l.set ≡ 8) × ((b : ℕ) → b < blocks l.sets.image.words.now → l.initial.p ≡ block_word l.sets.image.words.now b 5 → LiveBefore l.sets.image.words.now b [] l.initial.set → LiveBefore l.sets.image.words.now b (range l.p l.initial.p) l.set)

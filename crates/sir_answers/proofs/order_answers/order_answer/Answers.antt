@@ -12,24 +12,24 @@ use Rattle.sir_answers.proofs.order_answers.order_answer.Goals as goal
 pub returns-in-Order : goal.returns-in-Order
 returns-in-Order c =
     let a = c.args in
-    c.visit_answer.ensures ∙ ap (λ (l : List ℕ). answered (bind l bytes_of) a.out.now) c.requires.order_stage.order_is ∙ answered_as Question.OfOrder a.words.now c.in-Order.is a.out.now
+    c.visit_answer.ensures ∙ ap (λ (l : List ℕ). answered (bind l bytes_of) a.out.now) c.requires.order_stage.order_is ∙ answered_as Question.OfOrder a.visited.image.words.now c.in-Order.is a.out.now
 
 pub returns-in-Predecessors : goal.returns-in-Predecessors
 returns-in-Predecessors c =
     let a = c.args in
-    c.predecessors_answer.ensures ∙ answered_as Question.OfOrder a.words.now c.in-Predecessors.is a.out.now
+    c.predecessors_answer.ensures ∙ answered_as Question.OfOrder a.visited.image.words.now c.in-Predecessors.is a.out.now
 
 pub returns-in-Uses : goal.returns-in-Uses
 returns-in-Uses c =
     let a = c.args in
-    c.uses_answer.ensures ∙ answered_as Question.OfOrder a.words.now c.in-Uses.is a.out.now
+    c.uses_answer.ensures ∙ answered_as Question.OfOrder a.visited.image.words.now c.in-Uses.is a.out.now
 
 pub returns-in-AllPredecessors : goal.returns-in-AllPredecessors
 returns-in-AllPredecessors c =
     let a = c.args in
-    c.all_predecessors_answer.ensures ∙ answered_as Question.OfOrder a.words.now c.in-AllPredecessors.is a.out.now
+    c.all_predecessors_answer.ensures ∙ answered_as Question.OfOrder a.visited.image.words.now c.in-AllPredecessors.is a.out.now
 
 pub returns-in-AllUses : goal.returns-in-AllUses
 returns-in-AllUses c =
     let a = c.args in
-    c.all_uses_answer.ensures ∙ answered_as Question.OfOrder a.words.now c.in-AllUses.is a.out.now
+    c.all_uses_answer.ensures ∙ answered_as Question.OfOrder a.visited.image.words.now c.in-AllUses.is a.out.now

@@ -9,7 +9,7 @@ use Rattle.sir_answers.proofs.order_answers.predecessors_answer.Goals as goal
 pub counted_answer-requires-clause-few : goal.counted_answer-requires-clause-few
 counted_answer-requires-clause-few c =
     λ s n t p.
-    let w = c.args.words.now in
+    let w = c.args.visited.image.words.now in
     let b = c.args.b.0 in
     let put : Puts 0 (predecessors w b) s.now t.now n = search rules in
-    omega (arith, put.next, predecessors_most w c.requires.well_formed b)
+    omega (arith, put.next, predecessors_most w c.args.visited.visit_stage.well_formed b)

@@ -16,23 +16,23 @@ pub counted_answer-requires-clause-callable : goal.counted_answer-requires-claus
 counted_answer-requires-clause-callable c =
     let k = c.input_counts.ensures in
     let wide : length c.input_counts.new.counts ≡ 1024 = k.wide in
-    let few : 3 + length (uses_of c.args.words.now c.input_counts.new.counts c.args.v.0) < 2 ^ 59 = omega (arith, uses_most c.args.words.now c.requires.well_formed c.args.v.0 k) in
+    let few : 3 + length (uses_of c.args.visited.image.words.now c.input_counts.new.counts c.args.v.0) < 2 ^ 59 = omega (arith, uses_most c.args.visited.image.words.now c.args.visited.visit_stage.well_formed c.args.v.0 k) in
     search (rules, serving)
 
 pub counted_answer-requires-clause-few : goal.counted_answer-requires-clause-few
 counted_answer-requires-clause-few c =
     λ s n t p.
-    let w = c.args.words.now in
+    let w = c.args.visited.image.words.now in
     let v = c.args.v.0 in
     let k = c.input_counts.ensures in
     let put : Puts 0 (uses_of w c.input_counts.new.counts v) s.now t.now n = search rules in
-    omega (arith, put.next, uses_most w c.requires.well_formed v k)
+    omega (arith, put.next, uses_most w c.args.visited.visit_stage.well_formed v k)
 
 pub returns : goal.returns
 returns c =
-    let w = c.args.words.now in
+    let w = c.args.visited.image.words.now in
     let v = c.args.v.0 in
     c.counted_answer.ensures (uses_answer w v)
     (λ s n t p.
     let put : Puts 0 (uses_of w c.input_counts.new.counts v) s.now t.now n = search rules in
-    puts_as (uses_are w c.requires.well_formed v c.input_counts.ensures) put)
+    puts_as (uses_are w c.args.visited.visit_stage.well_formed v c.input_counts.ensures) put)

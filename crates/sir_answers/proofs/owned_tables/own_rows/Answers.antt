@@ -10,22 +10,22 @@ use Rattle.sir_answers.proofs.owned_tables.own_rows.Goals as goal
 
 pub loop-v-init : goal.loop-v-init
 loop-v-init c =
-    rows_none (unmarked_owner c.args.pointers.now) c.args.rows.now c.args.rows.now
+    rows_none (unmarked_owner c.args.pointed.pointers.now) c.args.rows.now c.args.rows.now
 
 pub unmarked_owner-requires : goal.unmarked_owner-requires
 unmarked_owner-requires c =
-    (c.requires.pointer_stage.long, omega (arith, c.loop-v-test.true, c.local_count-count.ensures, c.requires.pointer_stage.well_formed.sized.locals_most), omega (arith, c.requires.pointer_stage.discovered.owner_known c.loop-v.v, allocations_few c.requires.pointer_stage))
+    (omega (arith, c.loop-v-test.true, c.local_count-count.ensures, c.args.pointed.pointer_stage.well_formed.sized.locals_most), omega (arith, c.args.pointed.pointer_stage.discovered.owner_known c.loop-v.v, allocations_few c.args.pointed.pointer_stage))
 
 pub loop-v-preserved : goal.loop-v-preserved
 loop-v-preserved c =
-    let own = unmarked_owner c.args.pointers.now in
+    let own = unmarked_owner c.args.pointed.pointers.now in
     let L = c.loop-v in
     let r = c.owner_row-row in
-    let h : L.v < 512 = omega (arith, c.loop-v-test.true, c.local_count-count.ensures, c.requires.pointer_stage.well_formed.sized.locals_most) in
+    let h : L.v < 512 = omega (arith, c.loop-v-test.true, c.local_count-count.ensures, c.args.pointed.pointer_stage.well_formed.sized.locals_most) in
     rows_more own c.args.rows.now L.rows L.v r.result h (r.ensures ∙ c.unmarked_owner.ensures.0) c.row_add.ensures.1 L.invariant
 
 pub returns : goal.returns
 returns c =
     let L = c.loop-v in
-    let e : L.v ≡ locals c.args.words.now = omega (arith, c.loop-v-test.false, c.local_count-count.ensures) in
+    let e : L.v ≡ locals c.args.pointed.image.words.now = omega (arith, c.loop-v-test.false, c.local_count-count.ensures) in
     rw e at L.invariant

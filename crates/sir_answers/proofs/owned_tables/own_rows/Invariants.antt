@@ -5,4 +5,4 @@ use Rattle.sir_answers.proofs.owned_tables.OwnedTables.{owned_to}
 use Rattle.sir_answers.proofs.owned_tables.own_rows.Given as goal
 
 abbrev pub invariant-loop-v : goal.invariant-loop-v
-invariant-loop-v l = Adds l.initial.rows (owned_to (unmarked_owner l.pointers) l.initial.rows l.rows l.v) l.rows
+invariant-loop-v l = Adds l.initial.rows (owned_to (unmarked_owner l.pointed.pointers.now) l.initial.rows l.rows l.v) l.rows

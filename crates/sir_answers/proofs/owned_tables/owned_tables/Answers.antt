@@ -16,4 +16,4 @@ returns c =
     let adds = c.own_rows.ensures in
     let put = put_long 0 4104 owned rows (adds.long ∙ length_part 0 4104 owned (omega (arith, long))) (omega (arith, long)) ∙ long in
     let words = c.own_words.new.owners in
-    tables_owned c.requires.pointer_stage words c.requires.owned_value adds (c.own_words.auto.owners ∙ length_part 4104 512 (put_back 0 4104 owned rows) (omega (arith, put))) c.own_words.ensures
+    tables_owned c.args.pointed.pointer_stage words c.requires.owned_value adds (c.own_words.auto.owners ∙ length_part 4104 512 (put_back 0 4104 owned rows) (omega (arith, put))) c.own_words.ensures

@@ -24,4 +24,4 @@ returns c =
     let place : get_or (owners_in a.pointers.now) a.v.0 0 - 1 ≡ c.in_ok-a.a.0 = omega (arith, e) in
     let n : ¬ (get_or (owners_in a.pointers.now) a.v.0 0 ≡ 0) = λ q. omega (arith, e, q) in
     let z = owned_unmarked a.pointers.now a.v.0 n (rw place (sym c.is_marked.ensures ∙ c.if-is_marked.false)) in
-    (sym (z ∙ e), omega (arith, e, c.requires.2))
+    (sym (z ∙ e), omega (arith, e, c.requires.1))

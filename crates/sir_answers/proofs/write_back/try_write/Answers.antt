@@ -9,10 +9,10 @@ use Rattle.sir_answers.proofs.write_back.try_write.Goals as goal
 pub returns-in_err-n : goal.returns-in_err-n
 returns-in_err-n c = lent_refused c.in_err-n.ensures.lent (search rules) c.args.out.now
 
-pub write_words-requires-clause-well_formed : goal.write_words-requires-clause-well_formed
-write_words-requires-clause-well_formed c =
+pub invariant_of-write_words : goal.invariant_of-write_words
+invariant_of-write_words c =
     let k = c.in_ok-n.ensures in
-    rw k.count (front_formed k.lent refl)
+    record { well_formed = rw k.count (front_formed k.lent refl) }
 
 pub returns : goal.returns
 returns c =

@@ -9,11 +9,11 @@ use Rattle.sir_answers.proofs.write_back.write_words.Goals as goal
 pub returns : goal.returns
 returns c =
     let a = c.args in
-    let w = a.words.now in
+    let w = a.image.words.now in
     c.pages_answer.ensures ∙ call_answered ((12, rule12 w) ∷ []) (pages_of w) a.out.now (sym c.in_ok-load_visit.ensures.number)
 
 pub returns-in_err-load_visit : goal.returns-in_err-load_visit
 returns-in_err-load_visit c =
     let a = c.args in
-    let w = a.words.now in
+    let w = a.image.words.now in
     call_err (search rules) ((12, rule12 w) ∷ []) (pages_of w) a.out.now c.in_err-load_visit.ensures.number

@@ -9,5 +9,5 @@ use Rattle.sir_data.proofs.block_rules.each_block_fields_ok.Goals as goal
 
 pub returns : goal.returns
 returns c =
-    let w = c.args.words.now in
+    let w = c.args.records.words.now in
     all_range (block_fields_ok w) 0 c.block_count.result (blocks w) (omega (arith, c.block_count.ensures)) c.all.result c.all.ensures.ran (λ x t q k. search (rules, tests))

@@ -1,19 +1,13 @@
 -- `edge_ok` meets its contract: the successor is a block, and both runs are those of the definition.
-use Rattle.std.proofs.Common.{ℕ, ◌<◌, sym, ap, ◌∙◌, subst}
+use Rattle.std.proofs.Common.{ℕ, ◌<◌, sym, subst}
 use Rattle.plank_core.specs.laws.Lists.{get_or_mem}
-use Rattle.sir_data.specs.Records.{blocks, inputs, successors}
+use Rattle.sir_data.specs.Records.{blocks, successors}
 use Rattle.sir_data.proofs.block_rules.edge_ok.Goals as goal
 
 pub inputs-to-requires : goal.inputs-to-requires
 inputs-to-requires c =
-    let w = c.args.words.now in
+    let w = c.args.ranged.records.words.now in
     let b = c.args.b.0 in
     let i = c.args.i in
     let p = c.requires in
-    let below : c.successor.result.0 < blocks w = subst (λ (x : ℕ). x < blocks w) (sym c.successor.ensures) (p.in_range.successor b _ p.b_bound (get_or_mem (successors w b) i 0 p.i_in_bounds)) in
-    record { sized = p.sized; in_range = p.in_range; b_bound = below }
-
-pub returns : goal.returns
-returns c =
-    let w = c.args.words.now in
-    rw (c.outputs.ensures, c.inputs-to.ensures ∙ ap (inputs w) c.successor.ensures)
+    record { b_bound = subst (λ (x : ℕ). x < blocks w) (sym c.successor.ensures) (c.args.ranged.in_range.successor b _ p.b_bound (get_or_mem (successors w b) i 0 p.i_in_bounds)) }

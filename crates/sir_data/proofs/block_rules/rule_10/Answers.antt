@@ -11,6 +11,6 @@ use Rattle.sir_data.proofs.block_rules.rule_10.Goals as goal
 pub returns : goal.returns
 unfolding rule10
 returns c =
-    let w = c.args.words.now in
+    let w = c.args.ranged.records.words.now in
     let passed : ℕ → Bool = λ b. all (λ s. eqb (length (outputs w b)) (length (inputs w s))) (successors w b) in
     ap not (all_range passed 0 c.block_count.result (blocks w) (omega (arith, c.block_count.ensures)) c.all.result c.all.ensures.ran (λ x t q k. search (rules, tests)))

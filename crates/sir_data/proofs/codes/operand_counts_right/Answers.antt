@@ -1,7 +1,7 @@
 -- `operand_counts_right`: the lent table, which is that of `row`, and the two calls apart.
-use Rattle.std.proofs.Common.{◌≡◌, ℕ, ◌≤◌, List, map, length, get_or, ap, ◌∙◌, arith, eq-eqb, ne_eqb}
+use Rattle.std.proofs.Common.{◌≡◌, ℕ, ◌≤◌, List, map, get_or, ap, ◌∙◌, arith, eq-eqb, ne_eqb}
 use Rattle.plank_core.specs.Lists.{upto}
-use Rattle.plank_core.specs.laws.Loops.{get_or_map_upto, length_map_upto}
+use Rattle.plank_core.specs.laws.Loops.{get_or_map_upto}
 use Rattle.sir_data.specs.declared.codes.Operation.{Operation}
 use Rattle.sir_data.specs.inner.CodeRows.{row}
 use Rattle.sir_data.proofs.codes.operand_counts_right.Goals as goal
@@ -9,15 +9,6 @@ use Rattle.sir_data.proofs.codes.operand_counts_right.Goals as goal
 -- what stands at a code in the table
 row_at : {table : List Operation} → table ≡ map row (upto 93) → (code : ℕ) (d : Operation) → code ≤ 92 → get_or table code d ≡ row code
 row_at e code d h = ap (λ (t : List Operation). get_or t code d) e ∙ get_or_map_upto row 93 code d (omega arith)
-
-pub returns-then-code-eq25 : goal.returns-then-code-eq25
-returns-then-code-eq25 c = rw (eq-eqb _ 25 c.if-code-eq25.true)
-
-pub returns-then-code-eq26 : goal.returns-then-code-eq26
-returns-then-code-eq26 c = rw (ne_eqb _ 25 c.if-code-eq25.false, eq-eqb _ 26 c.if-code-eq26.true)
-
-pub bounds-table-code : goal.bounds-table-code
-bounds-table-code c = omega (arith, c.requires.code_bound, ap length c.requires.table_value, length_map_upto row 93)
 
 pub returns-then-inputs : goal.returns-then-inputs
 returns-then-inputs c =

@@ -1,26 +1,17 @@
 -- `all_new` meets its contract. The loop's invariant: the numbers that are left decide, and go into the set.
-use Rattle.std.proofs.Common.{◌≡◌, ℕ, ◌+◌, ◌<◌, ◌≤◌, true, false, List, [], ◌∷◌, ◌++◌, length, get_or, drop, sym, refl, ◌∙◌, zero-add, arith, drop_of_length-le}
-use borrow.Author.Tests.{not-true, not-false}
-use Rattle.plank_core.specs.laws.Lists.{none, get_or_mem, drop_mem}
+use Rattle.std.proofs.Common.{◌≡◌, ℕ, ◌+◌, ◌<◌, ◌≤◌, false, List, [], ◌∷◌, ◌++◌, length, get_or, drop, sym, ◌∙◌, zero-add, arith}
+use borrow.Author.Tests.{not-true}
+use Rattle.plank_core.specs.laws.Lists.{get_or_mem, drop_mem}
 use Rattle.plank_core.specs.laws.Loops.{drop_next}
-use Rattle.plank_core.specs.inner.DenseIndexSet.{contains, added, fresh}
-use Rattle.plank_core.specs.laws.DenseIndexSet.{length_added}
+use Rattle.plank_core.specs.inner.DenseIndexSet.{contains, added}
 use Rattle.sir_data.proofs.giver_rules.Passing as passing
 use Rattle.sir_data.proofs.giver_rules.Passing.{Passing, Locals}
 use Rattle.sir_data.proofs.giver_rules.all_new.Goals as goal
-
-pub loop-local-init : goal.loop-local-init
-loop-local-init c = (omega arith, passing.start c.requires.set_len)
 
 pub row_add-requires : goal.row_add-requires
 row_add-requires c =
     let l = c.loop-local in
     (omega (arith, l.invariant.1.wide), c.requires.by_index _ (get_or_mem c.args.run.now l.local-index 0 (omega arith)))
-
-pub shape_of-set-then-not-row_add : goal.shape_of-set-then-not-row_add
-shape_of-set-then-not-row_add c =
-    let l = c.loop-local in
-    rw c.row_add.ensures.1 (length_added l.set _ ∙ l.invariant.1.wide ∙ sym c.requires.set_len)
 
 -- the run from place i on: the next number, and then those left
 module _ {set₀ set run : List ℕ} {i : ℕ} (h : i < length run) (small : Locals run) (p : Passing set₀ run set (drop i run)) where
@@ -36,29 +27,9 @@ module _ {set₀ set run : List ℕ} {i : ℕ} (h : i < length run) (small : Loc
   added_next : {next : List ℕ} → contains set x ≡ false → next ≡ added set x → Passing set₀ run next (drop (i + 1) run)
   added_next e more = passing.step (x ∷ []) (drop (i + 1) run) fit split (rw e) more
 
-  there : contains set x ≡ true → false ≡ fresh set₀ run
-  there e = passing.stop (x ∷ []) (drop (i + 1) run) fit split (rw e)
-
-pub returns-then-not-row_add : goal.returns-then-not-row_add
-returns-then-not-row_add c =
-    let l = c.loop-local in
-    let e = not-false _ (rw zero-add at (sym c.row_add.ensures.0) ∙ c.if-not-row_add.true) in
-    record { value = there (omega arith) c.requires.by_index l.invariant.1 e; set_after = λ h. none _ h refl }
-
 pub loop-local-preserved : goal.loop-local-preserved
 loop-local-preserved c =
     let l = c.loop-local in
     let less : l.local-index + 1 ≤ length c.args.run.now = omega arith in
     let e = not-true _ (rw zero-add at (sym c.row_add.ensures.0) ∙ c.if-not-row_add.false) in
     (less, added_next (omega (arith, less)) c.requires.by_index l.invariant.1 e (rw zero-add at c.row_add.ensures.1))
-
-pub shape_of-set : goal.shape_of-set
-shape_of-set c =
-    c.loop-local.invariant.1.wide ∙ sym c.requires.set_len
-
-pub returns : goal.returns
-returns c =
-    let l = c.loop-local in
-    let xs : List ℕ = c.args.run.now in
-    let done = passing.end (rw (drop_of_length-le xs {i = l.local-index} (omega arith)) at l.invariant.1) in
-    record { value = done.0; set_after = λ h. done.1 }

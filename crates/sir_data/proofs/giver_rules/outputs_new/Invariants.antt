@@ -4,4 +4,4 @@ use Rattle.sir_data.proofs.giver_rules.Passing.{PassingRuns}
 use Rattle.sir_data.proofs.giver_rules.outputs_new.Given as goal
 
 abbrev pub invariant-loop-o : goal.invariant-loop-o
-invariant-loop-o l = PassingRuns l.initial.given (outs l.words) (operations l.words) l.given l.o
+invariant-loop-o l = PassingRuns l.initial.given (outs l.ranged.records.words.now) (operations l.ranged.records.words.now) l.given l.o

@@ -8,13 +8,13 @@ pub returns-then-not-outputs_new : goal.returns-then-not-outputs_new
 unfolding empty_set set_of word_of
 returns-then-not-outputs_new c =
     let e = sym c.outputs_new.ensures.value ∙ c.if-not-outputs_new.true in
-    sym (in_one_pass c.args.words.now c.requires.sized c.requires.in_range ∙ rw e)
+    sym (in_one_pass c.args.ranged.records.words.now c.args.ranged.records.sized c.args.ranged.in_range ∙ rw e)
 
 pub returns : goal.returns
 unfolding empty_set set_of word_of
 returns c =
-    let w : List ℕ = c.args.words.now in
+    let w : List ℕ = c.args.ranged.records.words.now in
     let new = c.if-not-outputs_new.false in
     let e = sym c.outputs_new.ensures.value ∙ new in
     ap not (c.inputs_new.ensures ∙ ap (λ (s : List ℕ). fresh s (by_blocks w)) (c.outputs_new.ensures.given_after new))
-    ∙ sym (in_one_pass w c.requires.sized c.requires.in_range ∙ rw e)
+    ∙ sym (in_one_pass w c.args.ranged.records.sized c.args.ranged.in_range ∙ rw e)

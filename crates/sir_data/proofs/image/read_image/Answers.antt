@@ -8,27 +8,13 @@ use Rattle.sir_data.specs.laws.Refusals.{not_0}
 use Rattle.sir_data.specs.laws.Image.{length_payload, pages_range, by_records, by_pages}
 use Rattle.sir_data.proofs.image.read_image.Goals as goal
 
-pub returns-in_err-check_pages : goal.returns-in_err-check_pages
-returns-in_err-check_pages c =
+pub returns-in_err-check_pages-clause-read : goal.returns-in_err-check_pages-clause-read
+returns-in_err-check_pages-clause-read c =
     let s = c.args.image.now in
     let r = c.in_err-check_pages in
     let e : refused c.from_residual.result ≡ number r.field-0.0 = search rules in
     let broken : ¬ (first (page_rules s) ≡ 0) = λ z. not_0 r.field-0.0 (r.ensures ∙ z) in
-    record { read = rw e (record { number = r.ensures ∙ sym (by_pages s broken); words = λ z. absurd (broken z); untouched = λ z. refl; kept = refl }); count = search rules }
-
-pub read_payload-n-requires : goal.read_payload-n-requires
-read_payload-n-requires c = omega (arith, pages_range c.args.image.now (sym c.in_ok-check_pages.ensures))
-
-pub slice_bounds-check_records-end : goal.slice_bounds-check_records-end
-slice_bounds-check_records-end c =
-    let s = c.args.image.now in
-    omega (arith, pages_range s (sym c.in_ok-check_pages.ensures), length_payload s)
-
-pub slice_bounds-check_records-end-2 : goal.slice_bounds-check_records-end-2
-slice_bounds-check_records-end-2 c =
-    let s = c.args.image.now in
-    let within : c.read_payload-n.result ≤ length c.read_payload-n.new.words = omega (arith, pages_range s (sym c.in_ok-check_pages.ensures), length_payload s) in
-    sym (length-take-le _ _ within)
+    rw e (record { number = r.ensures ∙ sym (by_pages s broken); words = λ z. absurd (broken z); untouched = λ z. refl; kept = refl })
 
 pub check_records-requires : goal.check_records-requires
 check_records-requires c =
@@ -48,14 +34,9 @@ decided s old new n r pages e is long decides =
       kept = long;
     }
 
-pub returns-in_err-check_records : goal.returns-in_err-check_records
-returns-in_err-check_records c =
+pub returns-in_err-check_records-clause-read : goal.returns-in_err-check_records-clause-read
+returns-in_err-check_records-clause-read c =
     let r = c.in_err-check_records in
     let p = c.read_payload-n.ensures in
     let e : refused c.from_residual-in_err-check_records.result ≡ number r.field-0.0 = search rules in
-    record { read = rw e (decided c.args.image.now c.args.words.now _ _ _ (sym c.in_ok-check_pages.ensures) p.0 p.1 (omega arith) r.ensures); count = search rules }
-
-pub returns : goal.returns
-returns c =
-    let p = c.read_payload-n.ensures in
-    record { read = decided c.args.image.now c.args.words.now _ _ _ (sym c.in_ok-check_pages.ensures) p.0 p.1 (omega arith) c.in_ok-check_records.ensures; count = p.0 }
+    rw e (decided c.args.image.now c.args.words.now _ _ _ (sym c.in_ok-check_pages.ensures) p.0 p.1 (omega arith) r.ensures)

@@ -1,5 +1,5 @@
 -- `check_fit` meets its contract: the length decides, then the head, then the number of words.
-use Rattle.std.proofs.Common.{◌≡◌, ℕ, ◌/◌, ◌%◌, ◌≤◌, cond, List, length, sym, ap, ◌∙◌, arith, length-take-le, le-ltb, lt-ltb, eq-eqb, ne_eqb, rules}
+use Rattle.std.proofs.Common.{◌≡◌, ℕ, ◌/◌, ◌%◌, ◌≤◌, cond, List, length, sym, ap, ◌∙◌, arith, eq-eqb, ne_eqb, rules}
 use Rattle.sir_data.specs.Refusals.{refused, number}
 use Rattle.sir_data.specs.Records.{word_count}
 use Rattle.sir_data.specs.Rules.{first, head_rules}
@@ -9,22 +9,6 @@ use Rattle.sir_data.specs.laws.Refusals.{not_0}
 use Rattle.sir_data.specs.laws.Bytes.{length_words}
 use Rattle.sir_data.proofs.lent_records.LentWords.{head_rules_lem, head_count, by_head, by_count}
 use Rattle.sir_data.proofs.lent_records.check_fit.Goals as goal
-
-pub returns-then-records-lt36 : goal.returns-then-records-lt36
-returns-then-records-lt36 c = simp (lt-ltb _ 36 c.if-records-lt36.true)
-
-pub returns-then-records-ne0 : goal.returns-then-records-ne0
-returns-then-records-ne0 c =
-    let r = c.args.records.now in
-    simp (le-ltb (length r) 36 (omega (arith, c.if-records-lt36.false)), ne_eqb (length r % 4) 0 (λ e. omega (arith, e, c.if-records-ne0.true)))
-
-pub slice_bounds-copy_words-end : goal.slice_bounds-copy_words-end
-slice_bounds-copy_words-end c = sym (length-take-le 36 c.args.records.now (omega (arith, c.if-records-lt36.false)))
-
-pub copy_words-requires : goal.copy_words-requires
-copy_words-requires c =
-    let some : 36 ≤ length c.args.records.now = omega (arith, c.if-records-lt36.false) in
-    omega (arith, length-take-le 36 c.args.records.now some)
 
 pub returns-in_err-check_head : goal.returns-in_err-check_head
 returns-in_err-check_head c =

@@ -11,11 +11,11 @@ use Rattle.sir_data.specs.inner.LentRecords.{fit_rules}
 use Rattle.sir_data.proofs.lent_records.LentWords.{refused_early, words_few, front_fits, front_sized, read}
 use Rattle.sir_data.proofs.lent_records.read_records.Goals as goal
 
-pub returns-in_err-check_fit : goal.returns-in_err-check_fit
-returns-in_err-check_fit c =
+pub returns-in_err-check_fit-clause-lent : goal.returns-in_err-check_fit-clause-lent
+returns-in_err-check_fit-clause-lent c =
     let r = c.in_err-check_fit in
     let e : refused c.from_residual.result ≡ number r.field-0.0 = search rules in
-    record { lent = rw e (refused_early c.args.records.now (not_0 r.field-0.0) r.ensures); count = search rules }
+    rw e (refused_early c.args.records.now (not_0 r.field-0.0) r.ensures)
 
 pub copy_words-requires : goal.copy_words-requires
 copy_words-requires c =
@@ -39,27 +39,21 @@ pub slice_bounds-check_sized-end-2 : goal.slice_bounds-check_sized-end-2
 slice_bounds-check_sized-end-2 c =
     sym (length-take-le _ _ (within c.args.records.now _ _ _ (sym c.in_ok-check_fit.ensures) c.requires c.copy_words.ensures c.pages_for-n.ensures))
 
-pub check_sized-requires : goal.check_sized-requires
-check_sized-requires c =
+pub invariant_of-check_sized : goal.invariant_of-check_sized
+invariant_of-check_sized c =
     let fit = sym c.in_ok-check_fit.ensures in
-    subst (λ (k : ℕ). Sized (take (126 * k) c.copy_words.new.words)) (sym c.pages_for-n.ensures) (front_sized c.args.records.now fit (copied c.args.records.now _ _ c.requires c.copy_words.ensures))
+    record { sized = subst (λ (k : ℕ). Sized (take (126 * k) c.copy_words.new.words)) (sym c.pages_for-n.ensures) (front_sized c.args.records.now fit (copied c.args.records.now _ _ c.requires c.copy_words.ensures)) }
 
-pub returns-in_err-check_sized : goal.returns-in_err-check_sized
-returns-in_err-check_sized c =
+pub returns-in_err-check_sized-clause-lent : goal.returns-in_err-check_sized-clause-lent
+returns-in_err-check_sized-clause-lent c =
     let new = c.copy_words.new.words in
     let r = c.in_err-check_sized in
     let e : refused c.from_residual-in_err-check_sized.result ≡ number r.field-0.0 = search rules in
-    record {
-      lent = rw e (read c.args.records.now (sym c.in_ok-check_fit.ensures) (copied c.args.records.now _ _ c.requires c.copy_words.ensures)
-          (r.ensures ∙ ap (λ (k : ℕ). first (field_rules (take (126 * k) new) ++ operand_rules (take (126 * k) new))) c.pages_for-n.ensures));
-      count = search rules;
-    }
+    rw e (read c.args.records.now (sym c.in_ok-check_fit.ensures) (copied c.args.records.now _ _ c.requires c.copy_words.ensures)
+    (r.ensures ∙ ap (λ (k : ℕ). first (field_rules (take (126 * k) new) ++ operand_rules (take (126 * k) new))) c.pages_for-n.ensures))
 
-pub returns : goal.returns
-returns c =
+pub returns-clause-lent : goal.returns-clause-lent
+returns-clause-lent c =
     let new = c.copy_words.new.words in
-    record {
-      lent = read c.args.records.now (sym c.in_ok-check_fit.ensures) (copied c.args.records.now _ _ c.requires c.copy_words.ensures)
-          (c.in_ok-check_sized.ensures ∙ ap (λ (k : ℕ). first (field_rules (take (126 * k) new) ++ operand_rules (take (126 * k) new))) c.pages_for-n.ensures);
-      count = ap (λ (k : ℕ). 126 * k) c.pages_for-n.ensures;
-    }
+    read c.args.records.now (sym c.in_ok-check_fit.ensures) (copied c.args.records.now _ _ c.requires c.copy_words.ensures)
+    (c.in_ok-check_sized.ensures ∙ ap (λ (k : ℕ). first (field_rules (take (126 * k) new) ++ operand_rules (take (126 * k) new))) c.pages_for-n.ensures)

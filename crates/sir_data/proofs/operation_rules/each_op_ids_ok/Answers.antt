@@ -9,5 +9,5 @@ use Rattle.sir_data.proofs.operation_rules.each_op_ids_ok.Goals as goal
 
 pub returns : goal.returns
 returns c =
-    let w = c.args.words.now in
+    let w = c.args.records.words.now in
     all_range (op_ids_ok w) 0 c.operation_count.result (operations w) (omega (arith, c.operation_count.ensures)) c.all.result c.all.ensures.ran (λ x t q k. search (rules, tests))

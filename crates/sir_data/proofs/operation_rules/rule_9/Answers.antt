@@ -11,5 +11,5 @@ use Rattle.sir_data.proofs.operation_rules.rule_9.Goals as goal
 pub returns : goal.returns
 unfolding rule9
 returns c =
-    let w = c.args.words.now in
+    let w = c.args.ranged.records.words.now in
     ap not (all_range (λ o. arity_ok (code w o) (length (ins w o)) (length (outs w o))) 0 c.operation_count.result (operations w) (omega (arith, c.operation_count.ensures)) c.all.result c.all.ensures.ran (λ x t q k. search (rules, tests)))

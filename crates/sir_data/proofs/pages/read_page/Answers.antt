@@ -1,18 +1,14 @@
--- `read_page` meets its contract. The loop's invariant: k payload words are stored, and the rest is as it was.
-use Rattle.std.proofs.Common.{◌≡◌, refl, arith, length-set}
-use Rattle.plank_core.specs.laws.Loops.{fill_step}
-use Rattle.sir_data.proofs.pages.read_page.Invariants.{taken}
+-- `read_page` meets its contract: the bytes that are copied are words 1 to 126 of the page.
+use Rattle.std.proofs.Common.{◌≡◌, ℕ, ◌+◌, ◌-◌, ◌*◌, ◌/◌, length, take, drop, add_assoc, arith, length-drop, length-take-le}
+use Rattle.sir_data.specs.laws.Bytes.{words_part}
 use Rattle.sir_data.proofs.pages.read_page.Goals as goal
-
-pub loop-k-init : goal.loop-k-init
-loop-k-init c = (omega arith, refl, refl)
-
-pub loop-k-preserved : goal.loop-k-preserved
-loop-k-preserved c =
-    let at_loop = c.loop-k in
-    let f = taken c.args.image.now c.args.page in
-    (omega arith, simp length-set (omega arith), rw (at_loop.invariant.2, c.word_at.ensures) (fill_step f at_loop.k c.args.words.now (omega arith)))
 
 pub returns : goal.returns
 returns c =
-    let e : c.loop-k.k ≡ 126 = omega arith in rw e at c.loop-k.invariant.2
+    let s = c.args.image.now in
+    let p : ℕ = c.args.page in
+    let n : 512 * p + 508 - (512 * p + 4) ≡ 504 = omega arith in
+    let start : 4 * (128 * p + 1) ≡ 512 * p + 4 = omega arith in
+    let words = rw start at (words_part s (128 * p + 1) 126 (omega arith)) in
+    let long : length (take 504 (drop (512 * p + 4) s)) / 4 ≡ 126 = omega (arith, length-take-le 504 (drop (512 * p + 4) s), length-drop (512 * p + 4) s) in
+    rw (c.copy_words.ensures, n, words, long) (simp add_assoc)

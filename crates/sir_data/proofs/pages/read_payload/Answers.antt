@@ -17,9 +17,6 @@ page_is s p start m e h part rest q = q ∙ rw (map_same (λ k. page_word s p (1
         let r : (start + i) % 126 ≡ i = omega arith in
         rw (q, r)
 
-pub loop-p-init : goal.loop-p-init
-loop-p-init c = (refl, refl)
-
 pub loop-p-preserved : goal.loop-p-preserved
 loop-p-preserved c =
     let first = c.args in

@@ -1,13 +1,7 @@
 -- `rule_6` meets its contract: the pages, then the padding.
-use Rattle.std.proofs.Common.{arith, eq-eqb, ne_eqb}
+use Rattle.std.proofs.Common.{eq-eqb, ne_eqb}
 use Rattle.sir_data.specs.Rules.{rule6}
 use Rattle.sir_data.proofs.rules.rule_6.Goals as goal
-
-pub pages_for-requires : goal.pages_for-requires
-pages_for-requires c = omega (arith, c.type_inv.words 1, c.type_inv.words 2, c.type_inv.words 3, c.type_inv.words 4, c.type_inv.words 5)
-
-pub overflow_mul-pages_for : goal.overflow_mul-pages_for
-overflow_mul-pages_for c = omega (arith, c.type_inv.words 1, c.type_inv.words 2, c.type_inv.words 3, c.type_inv.words 4, c.type_inv.words 5)
 
 pub returns-then-words-pages_for : goal.returns-then-words-pages_for
 unfolding rule6

@@ -1,1 +1,0 @@
--- `update_range_sets` meets its contract.

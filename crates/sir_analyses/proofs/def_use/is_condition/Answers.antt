@@ -1,1 +1,0 @@
--- `is_condition` meets its contract.

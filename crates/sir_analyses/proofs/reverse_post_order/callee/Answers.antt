@@ -1,1 +1,0 @@
--- `callee` meets its contract.

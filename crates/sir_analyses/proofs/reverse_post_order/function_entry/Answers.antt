@@ -1,1 +1,0 @@
--- `function_entry` meets its contract.

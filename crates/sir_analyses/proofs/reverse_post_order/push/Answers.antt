@@ -1,1 +1,0 @@
--- `push` meets its contract.
