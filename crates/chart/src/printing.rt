@@ -12,7 +12,7 @@ use sir_analyses::stages::{LIVE, POINTERS};
 use sir_answers::chart::{block_lines, on_sheets, put_block, series_count, series_lines};
 use sir_answers::chart_columns::other_locals;
 use sir_answers::chart_lines::{LINE, put_blanks};
-use sir_data::view::BlockView;
+use sir_data::image_block::ImageBlock;
 use std::io;
 
 // The bytes of the longest block: a heading and 1,024 operations.
@@ -27,7 +27,7 @@ fn say_blocks(rt: &impl Print, tables: Tables, series: usize, out: &mut [u8]) ->
     other_locals(tables.pointers, series, &mut others);
     let order = tables.visited().rpo();
     for b in order {
-        let block = BlockView {
+        let block = ImageBlock {
             image: tables.image,
             id: BlockId(*b),
         };

@@ -36,15 +36,18 @@ pub fn intersects<'a>(set: &'a [u64], other: &'a [u64]) -> bool
 }
 
 // The walk: the members, ascending, to the front of `out`, and how many. Each is its word's lowest one, which is then cleared.
+// A word's number is counted in eight bits; 64 times it can need nine, so it is widened first.
 pub fn list(set: &[u64], out: &mut [u32]) -> usize
     requires { (length set.now ≡ 8) × (512 ≤ length out.old) }
     ensures { (result ≡ length (members set.now)) × (out.new ≡ members set.now ++ drop result out.old) }
 {
     let mut n: usize = 0;
-    for at in 0..8u32 {
-        let mut w = set[at as usize];
+    for at in 0..8u8 {
+        let word = at as usize;
+        let base = (64 * word) as u32;
+        let mut w = set[word];
         while w != 0 {
-            out[n] = 64 * at + w.trailing_zeros();
+            out[n] = base + w.trailing_zeros();
             n += 1;
             w &= w - 1;
         }

@@ -19,12 +19,12 @@ use plank_core::dense_index_set::list;
 use plank_core::index::{AllocId, BlockId, LocalId, OpIdx};
 use plank_core::rows::{row_add, row_contains, row_of};
 use sir_data::codes::is_alloc;
-use sir_data::view::BlockView;
+use sir_data::image_block::ImageBlock;
 use sir_data::well_formed::Image;
 
 // The allocations of a block after the first `at` of `sites`, each as one number: 1024 times the block, plus the operation. How many
 // sites there are then, or none where there is no room for all.
-fn block_allocations(b: BlockView, sites: &mut [u32], at: usize) -> Option<usize>
+fn block_allocations(b: ImageBlock, sites: &mut [u32], at: usize) -> Option<usize>
     requires at_bound { at ≤ length sites.old }
     ensures { Capped (block_sites b.entry.image.words.now b.entry.id.0) at sites.old sites.new result }
 {
@@ -49,7 +49,7 @@ pub fn find_allocations(visited: Visited, sites: &mut [u32]) -> Option<usize>
     let order = visited.rpo();
     let mut m: usize = 0;
     for &b in order {
-        let block = BlockView {
+        let block = ImageBlock {
             image: visited.image,
             id: BlockId(b),
         };

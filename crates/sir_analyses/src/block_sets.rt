@@ -13,7 +13,7 @@ use crate::stages::{DEFS, ENDS, LIVE, READS, USES, WRITES, reads, writes};
 use plank_core::index::{BlockId, OpIdx};
 use plank_core::rows::{row_add, row_difference_with, row_of, row_union_with};
 use plank_core::span::Span;
-use sir_data::view::BlockView;
+use sir_data::image_block::ImageBlock;
 use sir_data::well_formed::Image;
 
 // Adds the locals of a run to a row.
@@ -49,7 +49,7 @@ pub fn operand_sets(image: Image, live: &mut [u64; LIVE])
 }
 
 // Adds the local that block b tests, if it tests one, to row b.
-fn add_condition(b: BlockView, uses: &mut [u64])
+fn add_condition(b: ImageBlock, uses: &mut [u64])
     requires uses_len { length uses.old ≡ 2048 }
     ensures { Adds uses.old (λ r v. eqb r b.entry.id.0 && mem v (condition b.entry.image.words.now b.entry.id.0)) uses.new }
 {
@@ -59,7 +59,7 @@ fn add_condition(b: BlockView, uses: &mut [u64])
 }
 
 // Adds what is read after the operations of block b, its condition and what it returns, to row b.
-fn add_end(b: BlockView, table: &mut [u64])
+fn add_end(b: ImageBlock, table: &mut [u64])
     requires table_len { length table.old ≡ 2048 }
     ensures { Adds table.old (λ r v. eqb r b.entry.id.0 && mem v (end_reads b.entry.image.words.now b.entry.id.0)) table.new }
 {
@@ -74,7 +74,7 @@ pub fn end_sets(image: Image, ends: &mut [u64])
 {
     let count = image.block_count();
     for b in 0..count {
-        let block = BlockView {
+        let block = ImageBlock {
             image,
             id: BlockId(b),
         };
@@ -83,7 +83,7 @@ pub fn end_sets(image: Image, ends: &mut [u64])
 }
 
 // Two sets: what the operations of block b read before one of them defines it, and what they define. Taken backwards.
-fn range_sets(b: BlockView, live: &[u64; LIVE], sets: &mut [u64])
+fn range_sets(b: ImageBlock, live: &[u64; LIVE], sets: &mut [u64])
     requires operand_rows { OperandRows b.image.words.now (reads_in live.now) (writes_in live.now) }
     requires sets_len { length sets.old ≡ 16 }
     ensures { RangeSets b.entry.image.words.now (ops b.entry.image.words.now b.entry.id.0) sets.new }
@@ -99,7 +99,7 @@ fn range_sets(b: BlockView, live: &[u64; LIVE], sets: &mut [u64])
 
 // Updates the sets of the range `kept` to those of block b, and answers its range. They are made anew only where that is another
 // one: blocks that follow each other may share a long range.
-fn update_range_sets(b: BlockView, live: &[u64; LIVE], kept: Span, sets: &mut [u64]) -> Span
+fn update_range_sets(b: ImageBlock, live: &[u64; LIVE], kept: Span, sets: &mut [u64]) -> Span
     requires operand_rows { OperandRows b.image.words.now (reads_in live.now) (writes_in live.now) }
     requires range_sets { RangeSets b.image.words.now (range kept.start kept.end) sets.old }
     ensures end_value { range result.start result.end ≡ ops b.entry.image.words.now b.entry.id.0 }
@@ -115,7 +115,7 @@ fn update_range_sets(b: BlockView, live: &[u64; LIVE], kept: Span, sets: &mut [u
 
 // The use set of one block, to a row that is empty, from the sets of its operations: what is read after them is used where none of
 // them defines it.
-fn use_row(b: BlockView, sets: &[u64], uses: &mut [u64])
+fn use_row(b: ImageBlock, sets: &[u64], uses: &mut [u64])
     requires uses_len { length uses.old ≡ 2048 }
     requires range_sets { RangeSets b.image.words.now (ops b.image.words.now b.id.0) sets.now }
     requires by_index { (v : ℕ) → v < 512 → contains uses.old (512 * b.id.0 + v) ≡ false }
@@ -128,7 +128,7 @@ fn use_row(b: BlockView, sets: &[u64], uses: &mut [u64])
 }
 
 // The use and def sets of one block, to rows that are empty, from the sets of its operations.
-fn block_rows(b: BlockView, sets: &[u64], live: &mut [u64; LIVE])
+fn block_rows(b: ImageBlock, sets: &[u64], live: &mut [u64; LIVE])
     requires range_sets { RangeSets b.image.words.now (ops b.image.words.now b.id.0) sets.now }
     requires by_index { (v : ℕ) → v < 512 → contains (uses_in live.old) (512 * b.id.0 + v) ≡ false }
     ensures { BlockAdded b.entry.image.words.now b.entry.id.0 live.old live.new }
@@ -146,7 +146,7 @@ pub fn block_sets(image: Image, live: &mut [u64; LIVE])
     let mut kept = Span { start: 0, end: 0 };
     let count = image.block_count();
     for b in 0..count {
-        let block = BlockView {
+        let block = ImageBlock {
             image,
             id: BlockId(b),
         };
@@ -156,7 +156,7 @@ pub fn block_sets(image: Image, live: &mut [u64; LIVE])
 }
 
 // Adds block p to the row of each of its successors.
-fn add_to_successors(p: BlockView, preds: &mut [u64])
+fn add_to_successors(p: ImageBlock, preds: &mut [u64])
     requires preds_len { length preds.old ≡ 2048 }
     ensures { Adds preds.old (λ b i. eqb i p.entry.id.0 && mem b (successors p.entry.image.words.now p.entry.id.0)) preds.new }
 {
@@ -175,7 +175,7 @@ pub fn predecessor_sets(visited: Visited, preds: &mut [u64])
     let count = visited.image.block_count();
     for p in 0..count {
         if visited.is_visited(BlockId(p)) {
-            let block = BlockView {
+            let block = ImageBlock {
                 image: visited.image,
                 id: BlockId(p),
             };

@@ -10,7 +10,7 @@ ghost use Rattle.sir_analyses.specs.inner.Writing.{Puts};
 use crate::answers::put_triple;
 use crate::staged::Visited;
 use plank_core::index::{BlockId, LocalId, OpIdx};
-use sir_data::view::BlockView;
+use sir_data::image_block::ImageBlock;
 use sir_data::well_formed::Image;
 
 // How a block uses a local, as the numbers of the answer say it.
@@ -56,7 +56,7 @@ fn put_repeated(out: &mut [u8], n: usize, b: BlockId, o: OpIdx, times: u32) -> u
 }
 
 // The uses by a block's operations.
-fn put_operation_uses(b: BlockView, counts: &[u32], n: usize, out: &mut [u8]) -> usize
+fn put_operation_uses(b: ImageBlock, counts: &[u32], n: usize, out: &mut [u8]) -> usize
     requires counts_len { length counts.now ≡ 1024 }
     requires b_bound_2 { n + length (operation_uses b.image.words.now counts.now b.id.0) < 2 ^ 59 }
     ensures { Puts n (operation_uses b.entry.image.words.now counts.now b.entry.id.0) out.old out.new result }
@@ -70,14 +70,14 @@ fn put_operation_uses(b: BlockView, counts: &[u32], n: usize, out: &mut [u8]) ->
 }
 
 // Whether a local is the condition of a block's branch or switch.
-fn is_condition(b: BlockView, local: LocalId) -> bool
+fn is_condition(b: ImageBlock, local: LocalId) -> bool
     ensures { result ≡ mem local.0 (condition b.entry.image.words.now b.entry.id.0) }
 {
     b.condition() == Some(local)
 }
 
 // The use as a block's condition.
-fn put_condition_use(b: BlockView, local: LocalId, n: usize, out: &mut [u8]) -> usize
+fn put_condition_use(b: ImageBlock, local: LocalId, n: usize, out: &mut [u8]) -> usize
     requires n_bound { n + 3 < 2 ^ 59 }
     ensures { Puts n (condition_uses b.entry.image.words.now local.0 b.entry.id.0) out.old out.new result }
 {
@@ -88,7 +88,7 @@ fn put_condition_use(b: BlockView, local: LocalId, n: usize, out: &mut [u8]) -> 
 }
 
 // The uses among a block's outputs.
-fn put_output_uses(b: BlockView, local: LocalId, n: usize, out: &mut [u8]) -> usize
+fn put_output_uses(b: ImageBlock, local: LocalId, n: usize, out: &mut [u8]) -> usize
     requires b_bound_2 { n + length (output_uses b.image.words.now local.0 b.id.0) < 2 ^ 59 }
     ensures { Puts n (output_uses b.entry.image.words.now local.0 b.entry.id.0) out.old out.new result }
 {
@@ -103,7 +103,7 @@ fn put_output_uses(b: BlockView, local: LocalId, n: usize, out: &mut [u8]) -> us
 }
 
 // All uses in a block.
-fn put_block_uses(b: BlockView, counts: &[u32], local: LocalId, n: usize, out: &mut [u8]) -> usize
+fn put_block_uses(b: ImageBlock, counts: &[u32], local: LocalId, n: usize, out: &mut [u8]) -> usize
     requires counts_len { length counts.now ≡ 1024 }
     requires b_bound_2 { n + 3 + length (block_uses b.image.words.now counts.now local.0 b.id.0) < 2 ^ 59 }
     ensures { Puts n (block_uses b.entry.image.words.now counts.now local.0 b.entry.id.0) out.old out.new result }
@@ -120,7 +120,7 @@ pub fn put_uses(visited: Visited, counts: &[u32], local: LocalId, out: &mut [u8]
 {
     let mut m: usize = 0;
     for b in visited.rpo() {
-        let block = BlockView {
+        let block = ImageBlock {
             image: visited.image,
             id: BlockId(*b),
         };

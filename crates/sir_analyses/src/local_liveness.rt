@@ -12,7 +12,7 @@ use crate::stages::{ENDS, EXITS, LIVE, defs, exits, uses};
 use plank_core::dense_index_set::{DenseIndexSet, is_empty, list};
 use plank_core::index::BlockId;
 use plank_core::rows::{row_add, row_difference_with, row_of, row_remove, row_union_with};
-use sir_data::view::BlockView;
+use sir_data::image_block::ImageBlock;
 use sir_data::well_formed::Image;
 
 // A block's entry set from its exit set: use ∪ (exit − def).
@@ -30,7 +30,7 @@ pub fn compute_liveness_at_block_entry(live: &[u64; LIVE], b: BlockId) -> DenseI
 
 // Takes the inputs of b out of a set: the positions of those that it had stand at the front of `moved`.
 // How many they are is returned, since the array is fixed and lent, as there is no heap.
-fn take_block_inputs(b: BlockView, set: &mut [u64], moved: &mut [u32]) -> usize
+fn take_block_inputs(b: ImageBlock, set: &mut [u64], moved: &mut [u32]) -> usize
     requires set_len { (length set.old ≡ 8) × (length moved.old ≡ 512) }
     ensures { (result ≤ 512) × TakenInputs b.entry.image.words.now b.entry.id.0 set.old set.new (take result moved.new) }
 {
@@ -46,7 +46,7 @@ fn take_block_inputs(b: BlockView, set: &mut [u64], moved: &mut [u32]) -> usize
 }
 
 // Adds the outputs of block p at the positions to its exit. Whether the exit grew.
-fn send_moved(p: BlockView, moved: &[u32], exits: &mut [u64]) -> bool
+fn send_moved(p: ImageBlock, moved: &[u32], exits: &mut [u64]) -> bool
     requires exits_len { length exits.old ≡ 2048 }
     requires by_index { (k : ℕ) → k ∈ moved.now → k < length (outputs p.image.words.now p.id.0) }
     ensures { Sends (blocks p.entry.image.words.now) exits.old (λ q i. eqb q p.entry.id.0 && mem i (outputs_at p.entry.image.words.now p.entry.id.0 moved.now)) exits.new result }
@@ -61,7 +61,7 @@ fn send_moved(p: BlockView, moved: &[u32], exits: &mut [u64]) -> bool
 }
 
 // Sends to block p: the set itself, and the outputs of p at the positions. Whether its exit grew.
-fn send_to(p: BlockView, set: &[u64], moved: &[u32], exits: &mut [u64]) -> bool
+fn send_to(p: ImageBlock, set: &[u64], moved: &[u32], exits: &mut [u64]) -> bool
     requires set_len { (length set.now ≡ 8) × (length exits.old ≡ 2048) }
     requires by_index { (k : ℕ) → k ∈ moved.now → k < length (outputs p.image.words.now p.id.0) }
     ensures { Sends (blocks p.entry.image.words.now) exits.old (λ q i. eqb q p.entry.id.0 && arrives p.entry.image.words.now set.now moved.now p.entry.id.0 i) exits.new result }
@@ -79,7 +79,7 @@ fn send_all(image: Image, ids: &[u32], set: &[u64], moved: &[u32], exits: &mut [
 {
     let mut grew = false;
     for p in ids {
-        let block = BlockView {
+        let block = ImageBlock {
             image,
             id: BlockId(*p),
         };
@@ -89,7 +89,7 @@ fn send_all(image: Image, ids: &[u32], set: &[u64], moved: &[u32], exits: &mut [
 }
 
 // Sends what is new at the entry of block b to its predecessors, its inputs by their positions. Whether an exit grew.
-fn send_to_predecessors(b: BlockView, preds: &[u64], new: DenseIndexSet, exits: &mut [u64]) -> bool
+fn send_to_predecessors(b: ImageBlock, preds: &[u64], new: DenseIndexSet, exits: &mut [u64]) -> bool
     requires predecessor_rows { PredecessorRows b.image.words.now preds.now }
     requires new_len { (length new.words ≡ 8) × (length exits.old ≡ 2048) }
     ensures { SentToPredecessors b.entry.image.words.now b.entry.id.0 new.words exits.old exits.new result }
@@ -115,7 +115,7 @@ fn unsent(live: &[u64; LIVE], b: BlockId, sent: &[u64]) -> DenseIndexSet
 
 // One block of a pass: what its entry set has and was not sent before goes to its predecessors' exits. Whether one grew.
 fn propagate_liveness_to_predecessors(
-    b: BlockView,
+    b: ImageBlock,
     preds: &[u64],
     live: &mut [u64; LIVE],
     sent: &mut [u64],
@@ -139,7 +139,7 @@ fn pass_back(visited: Visited, preds: &[u64], live: &mut [u64; LIVE], sent: &mut
     let order = visited.rpo();
     let mut grew = false;
     for k in (0..order.len()).rev() {
-        let block = BlockView {
+        let block = ImageBlock {
             image: visited.image,
             id: BlockId(order[k]),
         };

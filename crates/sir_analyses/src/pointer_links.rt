@@ -15,11 +15,11 @@ use crate::stages::{ESCAPING, RETURNED};
 use plank_core::index::{BlockId, OpIdx};
 use plank_core::rows::{row_add, row_contains};
 use sir_data::codes::{can_derive_pointer, operation_causes_ptr_escape};
-use sir_data::view::BlockView;
+use sir_data::image_block::ImageBlock;
 use sir_data::well_formed::Image;
 
 // Adds the operations of block b to the visited ones: operation o is number o of a table of two rows.
-fn add_operations(b: BlockView, seen: &mut [u64])
+fn add_operations(b: ImageBlock, seen: &mut [u64])
     requires seen_len { length seen.old ≡ 16 }
     ensures { Adds seen.old (λ r i. mem (512 * r + i) (ops b.entry.image.words.now b.entry.id.0)) seen.new }
 {
@@ -35,7 +35,7 @@ fn visited_ops(visited: Visited, seen: &mut [u64])
     ensures { (length seen.new ≡ 16) × ((o : ℕ) → o < 1024 → contains seen.new o ≡ is_visited_op visited.entry.image.words.now o) }
 {
     for b in visited.rpo() {
-        let block = BlockView {
+        let block = ImageBlock {
             image: visited.image,
             id: BlockId(*b),
         };
@@ -89,7 +89,7 @@ fn link_operations(image: Image, seen: &[u64], links: &mut [u64], causes: &mut [
 }
 
 // Links each output of block b to the input of its successor s at the same position.
-fn link_edge(b: BlockView, s: BlockId, links: &mut [u64])
+fn link_edge(b: ImageBlock, s: BlockId, links: &mut [u64])
     requires s_in { (s.0 ∈ successors b.image.words.now b.id.0) × (length links.old ≡ 4096) }
     ensures { Adds links.old (passes_by b.entry.image.words.now b.entry.id.0 s.0) links.new }
 {
@@ -101,7 +101,7 @@ fn link_edge(b: BlockView, s: BlockId, links: &mut [u64])
 }
 
 // What all edges out of block b link.
-fn link_edges(b: BlockView, links: &mut [u64])
+fn link_edges(b: ImageBlock, links: &mut [u64])
     requires links_len { length links.old ≡ 4096 }
     ensures { Adds links.old (λ v u. any (λ s. passes_by b.entry.image.words.now b.entry.id.0 s v u) (successors b.entry.image.words.now b.entry.id.0)) links.new }
 {
@@ -120,7 +120,7 @@ fn link_blocks(visited: Visited, links: &mut [u64], causes: &mut [u64])
 {
     for id in visited.rpo() {
         let b = BlockId(*id);
-        let block = BlockView {
+        let block = ImageBlock {
             image: visited.image,
             id: b,
         };

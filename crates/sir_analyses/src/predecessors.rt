@@ -6,10 +6,10 @@ ghost use Rattle.sir_analyses.specs.inner.Writing.{Puts};
 use crate::answers::put_word;
 use crate::staged::Visited;
 use plank_core::index::BlockId;
-use sir_data::view::BlockView;
+use sir_data::image_block::ImageBlock;
 
 // Block p, once for each of its edges to b.
-fn put_edges(p: BlockView, b: BlockId, n: usize, out: &mut [u8]) -> usize
+fn put_edges(p: ImageBlock, b: BlockId, n: usize, out: &mut [u8]) -> usize
     requires b_bound { n + length (edges_from p.image.words.now p.id.0 b.0) < 2 ^ 60 }
     ensures { Puts n (edges_from p.entry.image.words.now p.entry.id.0 b.0) out.old out.new result }
 {
@@ -31,7 +31,7 @@ pub fn put_predecessors(visited: Visited, b: BlockId, out: &mut [u8]) -> usize
     let mut m: usize = 0;
     for p in 0..count {
         if visited.is_visited(BlockId(p)) {
-            let block = BlockView {
+            let block = ImageBlock {
                 image: visited.image,
                 id: BlockId(p),
             };

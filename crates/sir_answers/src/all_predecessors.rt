@@ -15,10 +15,10 @@ use crate::segments::segments_answer;
 use plank_core::index::BlockId;
 use sir_analyses::staged::Visited;
 use sir_data::refusals::Refusal;
-use sir_data::view::BlockView;
+use sir_data::image_block::ImageBlock;
 
 // Block p, for each of its successors.
-fn scan_edges(p: BlockView, cursors: &mut [usize], out: &mut [u8])
+fn scan_edges(p: ImageBlock, cursors: &mut [usize], out: &mut [u8])
     requires cursors_len { length cursors.old ≡ blocks p.image.words.now }
     requires fits { Fits forward (edge_pieces p.image.words.now p.id.0) cursors.old }
     ensures { Scatters forward (edge_pieces p.entry.image.words.now p.entry.id.0) cursors.old out.old cursors.new out.new }
@@ -39,7 +39,7 @@ fn scan_predecessors(visited: Visited, cursors: &mut [usize], out: &mut [u8])
     let count = visited.image.block_count();
     for p in 0..count {
         if visited.is_visited(BlockId(p)) {
-            let block = BlockView {
+            let block = ImageBlock {
                 image: visited.image,
                 id: BlockId(p),
             };

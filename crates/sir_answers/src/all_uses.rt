@@ -18,11 +18,11 @@ use crate::segments::segments_answer;
 use plank_core::index::{BlockId, OpIdx};
 use sir_analyses::staged::Visited;
 use sir_data::refusals::Refusal;
-use sir_data::view::BlockView;
+use sir_data::image_block::ImageBlock;
 use sir_data::well_formed::Image;
 
 // A block's operations in turn, for each input.
-fn scan_operations(b: BlockView, cursors: &mut [usize], out: &mut [u8])
+fn scan_operations(b: ImageBlock, cursors: &mut [usize], out: &mut [u8])
     requires cursors_len { length cursors.old ≡ locals b.image.words.now }
     requires fits { Fits forward (input_use_pieces b.image.words.now b.id.0) cursors.old }
     ensures { Scatters forward (input_use_pieces b.entry.image.words.now b.entry.id.0) cursors.old out.old cursors.new out.new }
@@ -35,7 +35,7 @@ fn scan_operations(b: BlockView, cursors: &mut [usize], out: &mut [u8])
 }
 
 // A block's condition.
-fn scan_condition(b: BlockView, cursors: &mut [usize], out: &mut [u8])
+fn scan_condition(b: ImageBlock, cursors: &mut [usize], out: &mut [u8])
     requires cursors_len { length cursors.old ≡ locals b.image.words.now }
     requires fits { Fits forward (condition_pieces b.image.words.now b.id.0) cursors.old }
     ensures { Scatters forward (condition_pieces b.entry.image.words.now b.entry.id.0) cursors.old out.old cursors.new out.new }
@@ -48,7 +48,7 @@ fn scan_condition(b: BlockView, cursors: &mut [usize], out: &mut [u8])
 }
 
 // A block's outputs, each with its place.
-fn scan_outputs(b: BlockView, cursors: &mut [usize], out: &mut [u8])
+fn scan_outputs(b: ImageBlock, cursors: &mut [usize], out: &mut [u8])
     requires cursors_len { length cursors.old ≡ locals b.image.words.now }
     requires fits { Fits forward (output_pieces b.image.words.now b.id.0) cursors.old }
     ensures { Scatters forward (output_pieces b.entry.image.words.now b.entry.id.0) cursors.old out.old cursors.new out.new }
@@ -61,7 +61,7 @@ fn scan_outputs(b: BlockView, cursors: &mut [usize], out: &mut [u8])
 }
 
 // A block after its operations.
-fn scan_ends(b: BlockView, cursors: &mut [usize], out: &mut [u8])
+fn scan_ends(b: ImageBlock, cursors: &mut [usize], out: &mut [u8])
     requires cursors_len { length cursors.old ≡ locals b.image.words.now }
     requires fits { Fits forward (end_pieces b.image.words.now b.id.0) cursors.old }
     ensures { Scatters forward (end_pieces b.entry.image.words.now b.entry.id.0) cursors.old out.old cursors.new out.new }
@@ -71,7 +71,7 @@ fn scan_ends(b: BlockView, cursors: &mut [usize], out: &mut [u8])
 }
 
 // A block.
-fn scan_block(b: BlockView, cursors: &mut [usize], out: &mut [u8])
+fn scan_block(b: ImageBlock, cursors: &mut [usize], out: &mut [u8])
     requires cursors_len { length cursors.old ≡ locals b.image.words.now }
     requires fits { Fits forward (block_use_pieces b.image.words.now b.id.0) cursors.old }
     ensures { Scatters forward (block_use_pieces b.entry.image.words.now b.entry.id.0) cursors.old out.old cursors.new out.new }
@@ -88,7 +88,7 @@ fn scan_all_ends(visited: Visited, cursors: &mut [usize], out: &mut [u8])
 {
     let order = visited.rpo();
     for b in order {
-        let block = BlockView {
+        let block = ImageBlock {
             image: visited.image,
             id: BlockId(*b),
         };
@@ -104,7 +104,7 @@ fn scan_uses(visited: Visited, cursors: &mut [usize], out: &mut [u8])
 {
     let order = visited.rpo();
     for b in order {
-        let block = BlockView {
+        let block = ImageBlock {
             image: visited.image,
             id: BlockId(*b),
         };
@@ -113,7 +113,7 @@ fn scan_uses(visited: Visited, cursors: &mut [usize], out: &mut [u8])
 }
 
 // One more for each operation of a block.
-fn count_operations(b: BlockView, times: &mut [usize])
+fn count_operations(b: ImageBlock, times: &mut [usize])
     requires times_len { length times.old ≡ 1024 }
     requires fits { Fits forward (one_pieces b.image.words.now b.id.0) times.old }
     ensures { Scatters forward (one_pieces b.entry.image.words.now b.entry.id.0) times.old [] times.new [] }
@@ -131,7 +131,7 @@ fn operation_times(visited: Visited, times: &mut [usize])
 {
     let order = visited.rpo();
     for b in order {
-        let block = BlockView {
+        let block = ImageBlock {
             image: visited.image,
             id: BlockId(*b),
         };

@@ -21,10 +21,10 @@ use sir_analyses::merged_intervals::{live_after, live_before};
 use sir_analyses::staged::{Accepted, LiveSets, Tables, Visited};
 use sir_analyses::stages::{LIVE, POINTERS};
 use sir_data::refusals::Refusal;
-use sir_data::view::BlockView;
+use sir_data::image_block::ImageBlock;
 
 // The lines of block b: a heading, and one for each of its operations.
-pub fn block_lines(b: BlockView) -> usize
+pub fn block_lines(b: ImageBlock) -> usize
     ensures { (result ≡ 1 + length (ops b.entry.image.words.now b.entry.id.0)) × (result ≤ 1025) }
 {
     let span = b.operations();
@@ -38,7 +38,7 @@ pub fn series_lines(visited: Visited) -> usize
     let order = visited.rpo();
     let mut n: usize = 0;
     for b in order {
-        let block = BlockView {
+        let block = ImageBlock {
             image: visited.image,
             id: BlockId(*b),
         };
@@ -119,7 +119,7 @@ fn put_series(tables: Tables, series: usize, out: &mut [u8])
     // By offsets: blocks have different numbers of lines, so no chunks of one length.
     let mut at: usize = 0;
     for b in order {
-        let block = BlockView {
+        let block = ImageBlock {
             image: tables.image,
             id: BlockId(*b),
         };

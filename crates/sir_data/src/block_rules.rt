@@ -10,6 +10,7 @@ use crate::giver_rules::all_new;
 use crate::records::{
     Ranged, Records, block_count, local_count, operand_count, operation_count, target_count,
 };
+use crate::view::BlockView;
 use plank_core::index::BlockId;
 
 // Are the control fields of a block 0 from field k on?
@@ -127,8 +128,15 @@ fn edge_ok(ranged: Ranged, b: BlockId, i: usize) -> bool
     requires i_in_bounds { i < length (successors ranged.records.words.now b.0) }
     ensures { result ≡ (length (outputs ranged.entry.records.words.now b.0) == length (inputs ranged.entry.records.words.now (slice_index (successors ranged.entry.records.words.now b.0) i))) }
 {
-    let to = ranged.inputs(ranged.successor(b, i));
-    ranged.outputs(b).len() == to.len()
+    let from = BlockView {
+        records: ranged.records,
+        block: b,
+    };
+    let to = BlockView {
+        records: ranged.records,
+        block: from.successor(i),
+    };
+    from.outputs().len() == to.inputs().len()
 }
 
 // Does each successor of the block take as many inputs as the block has outputs?
@@ -136,7 +144,11 @@ fn edges_ok(ranged: Ranged, b: BlockId) -> bool
     requires b_bound { b.0 < blocks ranged.records.words.now }
     ensures { result ≡ all (λ s. nat_eq (length (outputs ranged.entry.records.words.now b.0)) (length (inputs ranged.entry.records.words.now s))) (successors ranged.entry.records.words.now b.0) }
 {
-    (0..ranged.records.successor_count(b)).all(|i| edge_ok(ranged, b, i))
+    let from = BlockView {
+        records: ranged.records,
+        block: b,
+    };
+    (0..from.successor_count()).all(|i| edge_ok(ranged, b, i))
 }
 
 // Rule 10: some block has another number of outputs than a successor of it has inputs.
@@ -155,9 +167,21 @@ fn all_distinct(run: &[u32]) -> bool
     all_new(&mut seen, run)
 }
 
+// Has the block no local twice among its inputs?
+fn inputs_once(ranged: Ranged, b: BlockId) -> bool
+    requires b_bound { b.0 < blocks ranged.records.words.now }
+    ensures { result ≡ distinct (inputs ranged.entry.records.words.now b.0) }
+{
+    let view = BlockView {
+        records: ranged.records,
+        block: b,
+    };
+    all_distinct(view.inputs())
+}
+
 // Rule 11: some block has one local twice among its inputs.
 pub fn rule_11(ranged: Ranged) -> bool
     ensures { result ≡ rule11 ranged.entry.records.words.now }
 {
-    !(0..block_count(ranged.records.words)).all(|b| all_distinct(ranged.inputs(BlockId(b))))
+    !(0..block_count(ranged.records.words)).all(|b| inputs_once(ranged, BlockId(b)))
 }

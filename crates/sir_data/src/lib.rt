@@ -7,6 +7,7 @@ pub mod codes;
 pub mod control;
 pub mod giver_rules;
 pub mod image;
+pub mod image_block;
 pub mod lent_records;
 mod operation_rules;
 pub mod pages;
