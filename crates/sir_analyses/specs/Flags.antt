@@ -9,7 +9,6 @@ use Rattle.sir_analyses.specs.Allocation.{allocs, alloc_at, base, carried, next,
 use Rattle.sir_analyses.specs.Propagation.{State, link_local, start}
 use Rattle.sir_analyses.specs.Source.{pop}
 use Rattle.sir_analyses.specs.Claims.{Reached}
-use Rattle.sir_analyses.specs.declared.allocation_liveness.Flag.{Flag}
 use Rattle.sir_analyses.specs.declared.allocation_liveness.Found.{Found}
 
 -- ---- what linking tells
@@ -55,12 +54,6 @@ return_flag w = first_used w (is_returned w)
 -- flag 4, a meeting: another allocation reaches some local that this one reaches
 abbrev pub meeting_flag : List ℕ → ℕ → Bool
 meeting_flag w a = any (reached_by_other w a) (members (reach w (alloc_at w a)))
-
--- the bit of each flag
-abbrev pub bit_of : Flag → ℕ
-bit_of Flag.Escape = 1
-bit_of Flag.Return = 2
-bit_of Flag.Meeting = 4
 
 -- three flags as one word, added up
 abbrev pub flag_bits : Bool → Bool → Bool → ℕ

@@ -6,9 +6,9 @@ ghost use Rattle.sir_data.specs.Codes.{is_alloc};
 ghost use Rattle.sir_data.specs.inner.WellFormed.{WellFormed};
 ghost use Rattle.sir_analyses.specs.Allocation.{rule12, allocs, alloc_at, base, bases};
 ghost use Rattle.sir_analyses.specs.inner.Pointers.{PointerRows};
-ghost use Rattle.sir_analyses.specs.Flags.{found, bit_of};
+ghost use Rattle.sir_analyses.specs.Flags.{found};
 ghost use Rattle.sir_analyses.specs.inner.Following.{link_all, follow_local};
-ghost use Rattle.sir_analyses.specs.inner.Discovery.{alloc_sites, block_sites, Capped, Site, links_in, used_in};
+ghost use Rattle.sir_analyses.specs.inner.Discovery.{alloc_sites, block_sites, Capped, Site, bit_of, links_in, used_in};
 ghost use Rattle.sir_analyses.specs.inner.Stages.{AcceptedStage, PointerStage, PointerRoom, PointerStep, PointersFollowed, SitesStored, owners_in, left_in};
 
 use crate::staged::Visited;

@@ -21,7 +21,7 @@ use Rattle.sir_analyses.specs.Calls as calls
 use Rattle.sir_analyses.specs.Calls.{Rules, made, answered, call, image_rules, refusal, asked, known}
 use Rattle.sir_analyses.specs.inner.Outcomes.{given, outcome, Finished}
 use Rattle.sir_analyses.specs.inner.Writing.{Puts}
-use Rattle.sir_analyses.proofs.answers.Writing.{length_bytes, puts_within}
+use Rattle.sir_analyses.proofs.answers.Writing.{length_bytes, puts_past, puts_within}
 
 -- ---- one call
 
@@ -112,9 +112,16 @@ module _ (xs out : List ℕ) where
       go true q = let z : r ≡ Err ShortResult = e ∙ rw q at f.is in rw (z, b, q)
       go false q = absurd (not_0 refusal (ap refused (rw q at f.is)))
 
+  -- up to its length an answer is written whole, and a refused one not at all
+  pub finished : {r : Result ℕ Refusal} {m : ℕ} {part out' : List ℕ} → Finished (length xs) (length out) r → Puts 0 xs (take (given r) out) part m → out' ≡ part ++ drop (given r) out → outcome r out' ≡ answered (bind xs bytes_of) out
+  finished {r = Ok e} f p o = answered_whole f p o
+  finished {r = Err refusal} f p o =
+      let z : _ ≡ out = o ∙ ap (λ (k : List ℕ). k ++ out) (p.left ∙ puts_past 0 0 xs [] (omega arith)) in
+      subst (λ (k : List ℕ). outcome (Err refusal) k ≡ answered (bind xs bytes_of) out) (sym z) (answered_short f refl refl)
+
   -- counted in an empty slice, then finished, then written
-  pub count_write : {e n r : ℕ} {part out' none : List ℕ} → Puts 0 xs [] none n → Finished n (length out) (Ok e) → Puts 0 xs (take e out) part r → out' ≡ part ++ drop e out → outcome (Ok e) out' ≡ answered (bind xs bytes_of) out
-  count_write {e} {n} k f p o = let m : n ≡ length xs = omega (arith, k.next) in answered_whole (subst (λ (i : ℕ). Finished i (length out) (Ok e)) m f) p o
+  pub count_write : {r : Result ℕ Refusal} {n m : ℕ} {part out' none : List ℕ} → Puts 0 xs [] none n → Finished n (length out) r → Puts 0 xs (take (given r) out) part m → out' ≡ part ++ drop (given r) out → outcome r out' ≡ answered (bind xs bytes_of) out
+  count_write {r} {n} k f p o = let q : n ≡ length xs = omega (arith, k.next) in finished (subst (λ (i : ℕ). Finished i (length out) r) q f) p o
 
   pub count_short : {n : ℕ} {none : List ℕ} {refusal : Refusal} {r : Result ℕ Refusal} → Puts 0 xs [] none n → Finished n (length out) (Err refusal) → r ≡ Err refusal → outcome r out ≡ answered (bind xs bytes_of) out
   count_short k f e = answered_short f (omega (arith, k.next)) e

@@ -12,6 +12,7 @@ use Rattle.sir_analyses.specs.Propagation.{State}
 use Rattle.sir_analyses.specs.Flags.{flag_bits, flags_word}
 use Rattle.sir_analyses.specs.inner.Following.{Machine, Propagates}
 use Rattle.sir_analyses.specs.Kinds.{kind_of, kind_words}
+use Rattle.sir_analyses.specs.declared.allocation_liveness.Flag.{Flag}
 
 -- an allocation as one number
 abbrev pub alloc_site : Alloc → ℕ
@@ -86,6 +87,12 @@ pub record Propagated (links causes : List ℕ) (a v : ℕ) (owner flags work ow
   pub room : Room owner' flags' work' 0
   pub same : (m : Machine) → ((u x : ℕ) → u < 512 → x ∈ links_in links u → x < length m.state.owner) → a < length m.state.marks → ShowsState owner flags work 0 m
       → Reaches links causes a v m owner' flags' work'
+
+-- the bit of each flag
+abbrev pub bit_of : Flag → ℕ
+bit_of Flag.Escape = 1
+bit_of Flag.Return = 2
+bit_of Flag.Meeting = 4
 
 -- these are the flags of allocation a, and it is marked where some flag is set
 pub record FlagsOf (w : List ℕ) (a flags : ℕ) : Type 0 where
