@@ -1,8 +1,8 @@
 -- The text by the bytes of an answer is the text by its intervals.
-use mathlib.Core.Path.{◌≡◌, refl, sym, ap, ◌∙◌}
+use mathlib.Core.Path.{◌≡◌, refl, sym, ap, ◌∙◌, subst}
 use mathlib.Core.Bool.{Bool, true, false, cond}
 use mathlib.Core.List.{List, [], ◌∷◌, ◌++◌, append_assoc}
-use Prim.Native.Nat.{ℕ, suc, ◌+◌, ◌-◌, ◌*◌, ◌/◌, ◌<◌}
+use Prim.Native.Nat.{ℕ, zero, suc, ◌+◌, ◌-◌, ◌*◌, ◌/◌, ◌<◌}
 use native.Mathlib.Omega.{arith}
 use lib.ListN.{length, get_or, length-append}
 use lib.Seq.{get_or-append-add}
@@ -20,7 +20,7 @@ use Rattle.sir_analyses.specs.declared.allocation_words.AllocKind.{AllocKind}
 use Rattle.sir_analyses.specs.laws.Writing.{length_bytes, interval_count}
 use Rattle.plank_core.specs.Text.{ascii}
 use Rattle.report_lines.specs.Lines.{named, interval_text, interval, local_text, allocation_text}
-use Rattle.report_lines.specs.inner.AnswerLines.{interval_at, intervals_at, local_line, mark, allocation_head, allocation_line}
+use Rattle.report_lines.specs.inner.AnswerLines.{interval_at, intervals_at, EndsSome, local_line, mark, allocation_head, allocation_line}
 use Rattle.report_lines.proofs.Fields.{Good, Goods, intervals_good, merged_good, alloc_within, base_small}
 
 -- word j after some front
@@ -59,6 +59,15 @@ texts_from first {xs} (i ∷ is) s front e l g =
     let r = texts_from first is (suc s) (front ++ three i) (next_is front i is e g.0) (omega (arith, length-append front (three i))) g.1 in
     ap (λ (t : List ℕ). t ++ bind (count (suc s) (length is)) (λ k. interval_at (bind xs bytes_of) (first + 3 * k))) a ∙ ap (λ (t : List ℕ). interval_text i ++ t) r
 
+ends_from : {xs : List ℕ} (is : List Interval) (k : ℕ) (front : List ℕ) → xs ≡ front ++ interval_words is → Goods is → k < length is → 0 < word_at (bind xs bytes_of) (length front + 3 * k + 2)
+ends_from [] k front e g l = absurd (omega arith)
+ends_from {xs} (i ∷ is) zero front e g l =
+    let z : length front + 3 * 0 + 2 ≡ length front + 2 = omega arith in
+    rw z (omega (arith, end_at front i is e g.0, g.0.end_some))
+ends_from {xs} (i ∷ is) (suc k) front e g l =
+    let z : length (front ++ three i) + 3 * k + 2 ≡ length front + 3 * suc k + 2 = omega (arith, length-append front (three i)) in
+    rw (sym z) (ends_from is k (front ++ three i) (next_is front i is e g.0) g.1 (omega arith))
+
 -- a kind is three words
 three_words : (k : AllocKind) → kind_words k ≡ get_or (kind_words k) 0 0 ∷ get_or (kind_words k) 1 0 ∷ get_or (kind_words k) 2 0 ∷ []
 three_words (AllocKind.Static size id) = refl
@@ -69,6 +78,9 @@ module _ (w : List ℕ) (good : WellFormed w) where
 
   local_count : (v : ℕ) → length (bind (intervals_answer w v) bytes_of) / 12 ≡ length (intervals w v)
   local_count v = omega (arith, length_bytes (intervals_answer w v), interval_count (intervals w v))
+
+  pub local_ends : (v : ℕ) → EndsSome (bind (intervals_answer w v) bytes_of) 0 (length (bind (intervals_answer w v) bytes_of) / 12)
+  local_ends v k l = ends_from (intervals w v) k [] refl (intervals_good w good v) (omega (arith, local_count v))
 
   pub local_as : (v : ℕ) → ¬ (length (intervals_answer w v) ≡ 0) → local_line v (bind (intervals_answer w v) bytes_of) ≡ local_text w v
   unfolding local_text
@@ -101,6 +113,9 @@ module _ (w : List ℕ) (good : WellFormed w) where
     allocation_count : (length (bind answer bytes_of) - 36) / 12 ≡ length (merged w a)
     allocation_count = omega (arith, length_bytes answer, interval_count (merged w a))
 
+    answer_ends : EndsSome (bind answer bytes_of) 9 ((length (bind answer bytes_of) - 36) / 12)
+    answer_ends k h = ends_from (merged w a) k front refl (merged_good w good a) (omega (arith, allocation_count))
+
     mark_as : (t : Bool) → mark (one_if t) ≡ cond t (ascii " escaped") (ascii " kept")
     mark_as true = refl
     mark_as false = refl
@@ -124,5 +139,15 @@ module _ (w : List ℕ) (good : WellFormed w) where
         ∙ ap (λ (t : List ℕ). allocation_head a (bind answer bytes_of) ++ t ++ ascii "\n") (texts_from 9 (merged w a) 0 front refl (omega arith) (merged_good w good a))
         ∙ ap (λ (t : List ℕ). t ++ bind (merged w a) interval_text ++ ascii "\n") h
 
+    pub allocation_ends : EndsSome (bind (allocation_answer w a) bytes_of) 9 ((length (bind (allocation_answer w a) bytes_of) - 36) / 12)
+    allocation_ends = subst (λ (xs : List ℕ). EndsSome (bind xs bytes_of) 9 ((length (bind xs bytes_of) - 36) / 12)) spelled answer_ends
+
     pub allocation_as : allocation_line a (bind (allocation_answer w a) bytes_of) ≡ allocation_text w a
     allocation_as = ap (λ (xs : List ℕ). allocation_line a (bind xs bytes_of)) (sym spelled) ∙ answer_as
+
+-- what is lent is the answer
+pub local_ends_as : {xs ys : List ℕ} → xs ≡ ys → EndsSome ys 0 (length ys / 12) → EndsSome xs 0 (length xs / 12)
+local_ends_as e k = rw (sym e) at k
+
+pub allocation_ends_as : {xs ys : List ℕ} → xs ≡ ys → EndsSome ys 9 ((length ys - 36) / 12) → EndsSome xs 9 ((length xs - 36) / 12)
+allocation_ends_as e k = rw (sym e) at k

@@ -1,5 +1,5 @@
 -- The fields of intervals and allocations fit a word, and an interval's end is not 0.
-use mathlib.Core.Path.{refl}
+use mathlib.Core.Path.{◌≡◌, refl}
 use mathlib.Core.Bool.{Bool, true, false, ◌&&◌, ◌||◌, cond}
 use mathlib.Core.List.Memᴰ
 use mathlib.Core.List.{List, [], ◌∷◌, ◌++◌, map, foldr}
@@ -7,6 +7,7 @@ use Prim.Native.Nat.{ℕ, suc, ◌<◌}
 use native.Mathlib.Omega.{arith}
 use lib.ListN.{length, get_or}
 use lib.Dec.{eqb, leb}
+use borrow.Author.Tests.{eqb-false}
 use Rattle.plank_core.specs.Lists.{bind, keep, mem, ◌∈◌}
 use Rattle.plank_core.specs.laws.Lists.{keep_out, map_each, bind_out, get_or_mem}
 use Rattle.sir_data.specs.Records.{blocks, operations, locals, ops, ins, outs, code}
@@ -20,6 +21,7 @@ use Rattle.sir_analyses.proofs.claims.order.OrderProof.{blocks_below}
 pub record Good (i : Interval) : Type 0 where
   pub block_small : i.block < 4294967296
   pub start_small : i.from < 4294967296
+  pub end_some : 0 < i.to
   pub end_small : i.to < 4294967296
 
 abbrev pub Goods : List Interval → Type 0
@@ -41,11 +43,13 @@ record ScanOk (c : Scan) : Type 0 where
   closed_good : Goods c.closed
 
 close_ok : (b from : ℕ) (c : Scan) → b < 4294967296 → from < 4294967296 → ScanOk c → ScanOk (close b from c)
-close_ok b from c p q k = record { open_small = omega arith; closed_good = goods_append c.closed (closing b from c.open') k.closed_good (go (eqb c.open' 0)) }
+close_ok b from c p q k = record { open_small = omega arith; closed_good = goods_append c.closed (closing b from c.open') k.closed_good (go (eqb c.open' 0) refl) }
   where
-    go : (t : Bool) → Goods (cond t [] (record { block = b; from = from; to = c.open' } ∷ []))
-    go true = tt
-    go false = (record { block_small = p; start_small = q; end_small = k.open_small }, tt)
+    go : (t : Bool) → eqb c.open' 0 ≡ t → Goods (cond t [] (record { block = b; from = from; to = c.open' } ∷ []))
+    go true e = tt
+    go false e =
+        let n : ¬ (c.open' ≡ 0) = eqb-false c.open' 0 e in
+        (record { block_small = p; start_small = q; end_some = omega arith; end_small = k.open_small }, tt)
 
 scan_ok : (w : List ℕ) (b v o : ℕ) (c : Scan) → b < 4294967296 → suc o < 4294967296 → ScanOk c → ScanOk (scan_op w b v o c)
 scan_ok w b v o c p q k = second _ (first (mem v (outs w o))) (mem v (ins w o) && eqb (cond (mem v (outs w o)) (close b (suc o) c) c).open' 0)
@@ -78,8 +82,12 @@ sort_good [] h = tt
 sort_good (i ∷ is) h = insert_good i (sort is) h.0 (sort_good is h.1)
 
 grown_good : (i j : Interval) → Good i → Good j → Good (record { block = i.block; from = i.from; to = furthest i.to j.to })
-grown_good i j g h = record { block_small = g.block_small; start_small = g.start_small; end_small = less (leb i.to j.to) }
+grown_good i j g h = record { block_small = g.block_small; start_small = g.start_small; end_some = some (leb i.to j.to); end_small = less (leb i.to j.to) }
   where
+    some : (t : Bool) → 0 < cond t j.to i.to
+    some true = h.end_some
+    some false = g.end_some
+
     less : (t : Bool) → cond t j.to i.to < 4294967296
     less true = h.end_small
     less false = g.end_small

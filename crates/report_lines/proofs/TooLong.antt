@@ -29,7 +29,7 @@ use Rattle.sir_data.specs.Refusals.{number, refused as code}
 use Rattle.sir_data.specs.laws.Refusals.{not_0}
 use Rattle.sir_analyses.specs.inner.Discovery.{alloc_site, alloc_sites}
 use Rattle.sir_analyses.specs.Order.{is_visited}
-use Rattle.sir_analyses.specs.inner.Stages.{part, sites_in, PointerStage}
+use Rattle.sir_analyses.specs.inner.Stages.{part, rpo_in, sites_in, VisitStage, PointerStage}
 use Rattle.sir_analyses.specs.inner.Tables.{LiveRows}
 use Rattle.sir_analyses.specs.inner.Writing.{Puts}
 use Rattle.sir_analyses.proofs.claims.order.OrderLength.{order_most}
@@ -121,6 +121,10 @@ module _ (w : List ℕ) where
   unfolding allocation_too_long
   allocation_short {a} e l = any_not (long_allocation w) 0 (length (allocs w)) a e (omega arith) (omega arith)
 
+-- the first n of an array
+pub front : {n : ℕ} (xs out : List ℕ) {out' : List ℕ} → n ≡ length xs → out' ≡ xs ++ drop n out → take n out' ≡ xs
+front {n} xs out l e = ap (take n) e ∙ take_at xs (drop n out) n (sym l)
+
 -- ---- order, rounds and sets are never too long, so that intervals and allocations decide
 
 module _ {A : Type 0} where
@@ -175,3 +179,7 @@ sites_count {w} S e = ap length e ∙ ap length S.sites_are ∙ sites_long w
 pub sites_most : {w p sites : List ℕ} → PointerStage w p → sites ≡ sites_in p → length sites ≤ 512
 unfolding part
 sites_most {w} {p} S e = omega (arith, ap length e, length-take (get_or p 0 0) (drop 2 p), S.few)
+
+pub rpo_most : {w visit : List ℕ} → VisitStage w visit → length (rpo_in visit) ≤ 256
+unfolding part
+rpo_most {w} {visit} v = omega (arith, length-take (get_or visit 0 0) (drop 1 visit), v.few)

@@ -13,6 +13,10 @@ Words xs = (k : ℕ) → get_or xs k 0 < 4294967296
 unfoldable pub interval_at : List ℕ → ℕ → List ℕ
 interval_at answer i = interval (word_at answer i) (word_at answer (i + 1)) (word_at answer (i + 2))
 
+-- the ends of n intervals, from word `first` on, are not 0
+abbrev pub EndsSome : List ℕ → ℕ → ℕ → Type 0
+EndsSome answer first n = (k : ℕ) → k < n → 0 < word_at answer (first + 3 * k + 2)
+
 -- n intervals of an answer, from word `first` on
 abbrev pub intervals_at : List ℕ → ℕ → ℕ → List ℕ
 intervals_at answer first n = bind (upto n) (λ k. interval_at answer (first + 3 * k))
