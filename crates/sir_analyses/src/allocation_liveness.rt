@@ -268,7 +268,10 @@ fn store_sites(sites: &[u32], pointers: &mut [u32; POINTERS])
     ensures { SitesStored sites.now pointers.new }
 {
     pointers[ALLOCATIONS] = sites.len() as u32;
-    pointers[SITES..SITES + sites.len()].copy_from_slice(sites);
+    // One by one: copied as a slice, they would ask C for `memmove`.
+    for a in 0..sites.len() {
+        pointers[SITES + a] = sites[a];
+    }
 }
 
 // Owners and flags: at first each base is owned by its own allocation, then allocations are followed in turn.

@@ -4,12 +4,10 @@ use mathlib.Core.Bool.{Bool, true, false, cond}
 use mathlib.Core.List.{List, [], ◌∷◌, ◌++◌}
 use Prim.Native.Nat.{ℕ, suc, ◌+◌, ◌-◌, ◌≤◌, ◌<◌}
 use native.Mathlib.Omega.{arith}
-use lib.ListN.{length, get_or, set, take, drop, replicate, length-set, length-append, length-drop, length-replicate}
-use borrow.Rule.Slice.PartMut.{put_mid}
-use Rattle.std.proofs.lemmas.List.{get_or_append_left}
-use Rattle.std.proofs.lemmas.Slice.{drop-put_mid}
+use native.Mathlib.Numerals.{add-one}
+use lib.ListN.{length, get_or, set, take, drop, replicate, length-set, length-replicate}
 use lib.Bits.{bit_or}
-use lib.Seq.{get_or-take, get_or-set_same, get_or-set_other, take_at, drop_at, length-take-le, drop-set-lt}
+use lib.Seq.{get_or-take, get_or-set_same, get_or-set_other, take-suc, take_all, drop-set-lt}
 use Rattle.sir_data.specs.Records.{locals}
 use Rattle.sir_analyses.specs.Allocation.{allocs, alloc_at, base, bases}
 use Rattle.sir_analyses.specs.inner.Pointers.{PointerRows}
@@ -18,7 +16,7 @@ use Rattle.sir_analyses.specs.declared.allocation_liveness.Found.{Found}
 use Rattle.sir_analyses.specs.inner.Following.{Machine, link_all, follow_local}
 use Rattle.sir_analyses.specs.inner.Discovery.{zeros, Room, StepTaken, links_in, used_in}
 use Rattle.sir_analyses.specs.inner.Stages.{part, sites_in, owners_in, flags_in, work_in, left_in, SitesStored, PointerRoom, PointerStep, PointersFollowed, AcceptedStage, PointerStage}
-use Rattle.sir_analyses.proofs.stages.Parts.{part_most, part_get, part_shorter, part_drop, part_set, part_set_low, part_set_high, put_back, put_part, put_before, put_long, put_low, put_high}
+use Rattle.sir_analyses.proofs.stages.Parts.{part_none, part_most, part_get, part_next, part_shorter, part_drop, part_set, part_set_low, part_set_high, put_back, put_part, put_before, put_long, put_low, put_high}
 use Rattle.sir_analyses.proofs.local_liveness.LivenessTables.{cleared_part, cleared_drop}
 use Rattle.sir_analyses.proofs.claims.flags.Found.{told_is, meets_another}
 use Rattle.sir_analyses.proofs.allocation_liveness.Linking.{raised, push_room, link_new, link_same, link_other, linked_more, linked_all, then_flagged, raised_if, flags_raised}
@@ -286,24 +284,42 @@ module _ {links causes : List ℕ} {a : ℕ} {p₀ p : List ℕ} (W : OnTheWay l
 
 -- ---- the sites are stored
 
--- how many there are, and the sites in the part after the first two words
-pub sites_stored : (sites p : List ℕ) (k : ℕ) → p ≡ replicate 2051 0 → length sites ≤ 512 → k ≡ length sites → SitesStored sites (put_mid 2 k (set p 0 (length sites)) sites)
-unfolding part
-sites_stored sites p k e few f =
-    let n = length sites in
-    let q = set p 0 n in
-    let behind = drop k (drop 2 q) in
-    let wide : length p ≡ 2051 = ap length e ∙ length-replicate {A = ℕ} 2051 0 in
-    let long : length q ≡ 2051 = length-set p 0 n ∙ wide in
-    let two : length (take 2 q) ≡ 2 = length-take-le 2 q (omega (arith, long)) in
-    let count = get_or_append_left (take 2 q) (sites ++ behind) 0 0 (omega (arith, two)) ∙ get_or-take 2 q 0 0 (omega arith) ∙ get_or-set_same p 0 n 0 (omega (arith, wide)) in
-    record {
-      long = omega (arith, length-append (take 2 q) (sites ++ behind), length-append sites behind, two, length-drop k (drop 2 q), length-drop 2 q, long);
-      count = count;
-      none_left = get_or_append_left (take 2 q) (sites ++ behind) 0 1 (omega (arith, two)) ∙ get_or-take 2 q 1 0 (omega arith) ∙ get_or-set_other p 0 1 n 0 (λ z. omega arith) ∙ ap (λ (t : List ℕ). get_or t 1 0) e;
-      sites_are = ap (λ (c : ℕ). take c (drop 2 (put_mid 2 k q sites))) count ∙ ap (take n) (drop_at (take 2 q) (sites ++ behind) 2 two) ∙ take_at sites behind n refl;
-      empty = drop-put_mid 2 k q sites 514 (omega arith) (omega (arith, long)) (sym f) ∙ drop-set-lt 514 p 0 n (omega arith) ∙ cleared_drop 514 2051 p (omega arith) e;
-    }
+pub record SitesTo (sites pointers : List ℕ) (a : ℕ) : Type 0 where
+  pub long : length pointers ≡ 2051
+  pub count : get_or pointers 0 0 ≡ length sites
+  pub none_left : left_in pointers ≡ 0
+  pub front : part 2 a pointers ≡ take a sites
+  pub empty : drop 514 pointers ≡ replicate 1537 0
+
+pub sites_none : (sites p : List ℕ) → p ≡ replicate 2051 0 → SitesTo sites (set p 0 (length sites)) 0
+sites_none sites p e = record {
+  long = length-set p 0 (length sites) ∙ ap length e ∙ length-replicate {A = ℕ} 2051 0;
+  count = get_or-set_same p 0 (length sites) 0 (omega (arith, ap length e ∙ length-replicate {A = ℕ} 2051 0));
+  none_left = get_or-set_other p 0 1 (length sites) 0 (λ q. omega arith) ∙ ap (λ (t : List ℕ). get_or t 1 0) e;
+  front = part_none 2 (set p 0 (length sites));
+  empty = drop-set-lt 514 p 0 (length sites) (omega arith) ∙ cleared_drop 514 2051 p (omega arith) e;
+}
+
+module _ {sites p : List ℕ} {a : ℕ} (F : SitesTo sites p a) (few : length sites ≤ 512) where
+  pub sites_more : a < length sites → SitesTo sites (set p (2 + a) (get_or sites a 0)) (a + 1)
+  sites_more h = record {
+    long = length-set p (2 + a) (get_or sites a 0) ∙ F.long;
+    count = get_or-set_other p (2 + a) 0 (get_or sites a 0) 0 (λ q. omega arith) ∙ F.count;
+    none_left = get_or-set_other p (2 + a) 1 (get_or sites a 0) 0 (λ q. omega arith) ∙ F.none_left;
+    front = part_next 2 a (get_or sites a 0) p (omega (arith, F.long)) ∙ ap (λ (t : List ℕ). t ++ (get_or sites a 0 ∷ [])) F.front ∙ sym (take-suc sites a 0 h) ∙ ap (λ (k : ℕ). take k sites) (sym (add-one a));
+    empty = drop-set-lt 514 p (2 + a) (get_or sites a 0) (omega arith) ∙ F.empty;
+  }
+
+  pub sites_all : length sites ≤ a → a ≤ length sites → SitesStored sites p
+  sites_all h g =
+      let e : a ≡ length sites = omega arith in
+      record {
+        long = F.long;
+        count = F.count;
+        none_left = F.none_left;
+        sites_are = ap (λ (n : ℕ). part 2 n p) (F.count ∙ sym e) ∙ F.front ∙ ap (λ (n : ℕ). take n sites) e ∙ take_all (length sites) sites (omega arith);
+        empty = F.empty;
+      }
 
 -- ---- allocations in turn
 

@@ -1,10 +1,11 @@
 -- Parts of a flat array: what is read of them, and what becomes of them where another part, or one place, is written.
-use mathlib.Core.Path.{◌≡◌, sym, ap, ap₂, ◌∙◌}
-use mathlib.Core.List.{List, ◌++◌}
+use mathlib.Core.Path.{◌≡◌, refl, sym, ap, ap₂, ◌∙◌}
+use mathlib.Core.List.{List, [], ◌∷◌, ◌++◌}
 use Prim.Native.Nat.{ℕ, ◌+◌, ◌-◌, ◌*◌, ◌/◌, ◌%◌, ◌≤◌, ◌<◌}
 use native.Mathlib.Omega.{arith}
+use native.Mathlib.Numerals.{add-one}
 use lib.ListN.{length, get_or, take, drop, set, length-append, length-take, length-drop, take-append-drop}
-use lib.Seq.{length-take-le, take-append-le, drop-append-le, take_at, drop_at, drop-drop, drop-set-add, drop-set-lt, take-set-lt, take-set-le, take-take, get_or-take, get_or-drop}
+use lib.Seq.{length-take-le, take-append-le, drop-append-le, take_at, drop_at, drop-drop, drop-set-add, drop-set-lt, take-set-lt, take-set-le, take-suc-set, take-take, get_or-take, get_or-drop}
 use Rattle.plank_core.specs.inner.DenseIndexSet.{bit, contains}
 use Rattle.sir_analyses.specs.inner.Stages.{part}
 
@@ -90,6 +91,12 @@ part_set_high from n i x t h =
     let e : i ≡ from + (i - from) = omega arith in
     ap (λ (k : ℕ). part from n (set t k x)) e ∙ part_set_past from n (i - from) x t (omega arith)
 
+-- ---- a part that grows, and a shorter one
+
+pub part_none : (from : ℕ) (t : List ℕ) → part from 0 t ≡ []
+unfolding part
+part_none from t = refl
+
 pub part_most : (from n : ℕ) (t : List ℕ) → length (part from n t) ≤ n
 unfolding part
 part_most from n t = omega (arith, length-take n (drop from t))
@@ -97,6 +104,14 @@ part_most from n t = omega (arith, length-take n (drop from t))
 pub part_get : (from n j : ℕ) (t : List ℕ) → j < n → get_or (part from n t) j 0 ≡ get_or t (from + j) 0
 unfolding part
 part_get from n j t h = get_or-take n (drop from t) j 0 h ∙ get_or-drop from t j 0
+
+-- one element more
+pub part_next : (from n x : ℕ) (t : List ℕ) → from + n < length t → part from (n + 1) (set t (from + n) x) ≡ part from n t ++ (x ∷ [])
+unfolding part
+part_next from n x t h =
+    ap (take (n + 1)) (drop-set-add from t n x)
+    ∙ ap (λ (k : ℕ). take k (set (drop from t) n x)) (add-one n)
+    ∙ take-suc-set (drop from t) n x (omega (arith, length-drop from t))
 
 pub part_shorter : (from m n : ℕ) (t : List ℕ) → m ≤ n → part from m t ≡ take m (part from n t)
 unfolding part
