@@ -14,8 +14,8 @@ use crate::scatter::{append, put_lengths};
 use crate::segments::segments_answer;
 use plank_core::index::BlockId;
 use sir_analyses::staged::Visited;
-use sir_data::refusals::Refusal;
 use sir_data::image_block::ImageBlock;
+use sir_data::refusals::Refusal;
 
 // Block p, for each of its successors.
 fn scan_edges(p: ImageBlock, cursors: &mut [usize], out: &mut [u8])

@@ -17,8 +17,8 @@ use crate::scatter::{advance, advance_each, append, append_each, put_lengths};
 use crate::segments::segments_answer;
 use plank_core::index::{BlockId, OpIdx};
 use sir_analyses::staged::Visited;
-use sir_data::refusals::Refusal;
 use sir_data::image_block::ImageBlock;
+use sir_data::refusals::Refusal;
 use sir_data::well_formed::Image;
 
 // A block's operations in turn, for each input.

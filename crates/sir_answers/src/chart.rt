@@ -20,8 +20,8 @@ use sir_analyses::local_liveness::compute_liveness;
 use sir_analyses::merged_intervals::{live_after, live_before};
 use sir_analyses::staged::{Accepted, LiveSets, Tables, Visited};
 use sir_analyses::stages::{LIVE, POINTERS};
-use sir_data::refusals::Refusal;
 use sir_data::image_block::ImageBlock;
+use sir_data::refusals::Refusal;
 
 // The lines of block b: a heading, and one for each of its operations.
 pub fn block_lines(b: ImageBlock) -> usize

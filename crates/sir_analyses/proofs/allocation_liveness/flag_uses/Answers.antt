@@ -3,11 +3,10 @@ use mathlib.Core.Path.{◌≡◌, refl, sym, ap, ap₂, ◌∙◌, subst}
 use mathlib.Core.Bool.{Bool, true, false}
 use mathlib.Core.List.{List, []}
 use Prim.Native.Nat.{ℕ, ◌<◌}
-use lib.ListN.{length}
 use Rattle.sir_analyses.specs.inner.Following.{follow_local}
 use Rattle.sir_analyses.specs.inner.Discovery.{used_in}
 use Rattle.sir_analyses.specs.inner.Stages.{PointerStep, PointerRoom}
-use Rattle.sir_analyses.proofs.allocation_liveness.PointerTables.{flag_if, flag_if_long, uses_flagged}
+use Rattle.sir_analyses.proofs.allocation_liveness.PointerTables.{flag_if, uses_flagged}
 use Rattle.sir_analyses.proofs.allocation_liveness.flag_uses.Goals as goal
 use Rattle.sir_analyses.proofs.allocation_liveness.flag_uses.Goals.{else-row_contains, then-row_contains}
 
