@@ -3,3 +3,4 @@ pub mod Intervals
 pub mod TooLong
 pub mod Fields
 pub mod AnswerText
+pub mod Decimals
